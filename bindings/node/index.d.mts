@@ -1,11 +1,11 @@
-// The types of the package for Node, for whoever calls it from TypeScript; package.json names this file. The calls are
-// in ../javascript, with types in their comments; tests/same.mts compares both.
+// The types of the Node package, for callers in TypeScript; package.json names this file. The calls are in
+// ../javascript, with types in their comments; tests/same.mts compares the two.
 
-/** A path or a URL of a file (in Node), a text or its bytes, its bytes with what they are called, a problem. */
+/** A path or a URL of a file (in Node), a text or its bytes, bytes with a name for messages, or a problem. */
 export type Source = string | URL | Uint8Array | { readonly text: string } | { readonly bytes: Uint8Array; readonly path?: string };
 /** Also the nodes of one tour, or of several routes. */
 export type Solution = Source | readonly number[] | readonly (readonly number[])[] | Uint32Array;
-/** A layout of a matrix of weights. */
+/** A layout of a matrix. */
 export type Layout =
     | "FULL_MATRIX"
     | "UPPER_ROW"
@@ -16,12 +16,11 @@ export type Layout =
     | "LOWER_COL"
     | "UPPER_DIAG_COL"
     | "LOWER_DIAG_COL";
-/** How distances of points are made. */
+/** How distances between points are computed. */
 export type EdgeWeightType = "EUC_2D" | "CEIL_2D" | "MAN_2D" | "MAX_2D" | "ATT" | "EUC_3D" | "MAN_3D" | "MAX_3D";
 
 /**
- * A certificate, of which there is at most one, whether the report is explained, and whether an unknown keyword of the
- * instance is a reason.
+ * At most one certificate, whether to explain the report, and whether to reject an instance with an unknown keyword.
  */
 export interface CertificateOptions {
     potentials?: Source;
@@ -30,12 +29,12 @@ export interface CertificateOptions {
     strict?: boolean;
 }
 
-/** Also the length that the solution is said to have. */
+/** Also the length that is claimed for the solution. */
 export interface CheckOptions extends CertificateOptions {
     length?: bigint | number;
 }
 
-/** Also whether solutions may have the form of another program. */
+/** Also whether solutions may be in the form of another program. */
 export interface CompareOptions extends CertificateOptions {
     foreign?: boolean;
 }
@@ -57,7 +56,7 @@ export interface MatrixOptions {
     type?: "TSP" | "ATSP";
 }
 
-/** What a check or a bound says. What it doesn't have is null. */
+/** What a check or a bound found. A property that doesn't apply is null. */
 export class Report {
     private constructor();
     /** Whether the last line is `yes`. */
@@ -66,50 +65,50 @@ export class Report {
     readonly nodes: number;
     /** The length of the tour, or of all routes. */
     readonly length: bigint | null;
-    /** A number that no tour of the instance is below. */
+    /** A lower bound on the length of every tour of the instance. */
     readonly bound: bigint | null;
-    /** The length less the bound. */
+    /** The length minus the bound. */
     readonly gap: bigint | null;
-    /** Whether the length is the bound. */
+    /** Whether the length equals the bound. */
     readonly optimal: boolean;
     /** Whether the certificate shows that the instance has no tour. */
     readonly noTour: boolean;
     readonly routes: number | null;
-    /** How many routes there have to be, by their capacity. */
+    /** The least number of routes that the capacity allows. */
     readonly least: number | null;
-    /** Why the verdict is a no, as `RepeatedNode`. */
+    /** The reason for `no`, such as `RepeatedNode`. */
     readonly reason: string | null;
     /** The numbers of the reason: a length is a bigint, all others are numbers. */
     readonly numbers: readonly (number | bigint)[];
-    /** The unknown keywords of the instance, which the verdict doesn't speak of. */
+    /** The unknown keywords of the instance, which the verdict ignores. */
     readonly notJudged: readonly string[];
     /** The whole report, as the program prints it. */
     readonly text: string;
-    /** What `tsp --explain` tells of it, if that was asked for. */
+    /** The explanation that `tsp --explain` prints, if you asked for it. */
     readonly explanation: string;
-    /** The gap in percent of the bound; null where there is no bound above 0. */
+    /** The gap as a percentage of the bound; null if there is no bound above 0. */
     get gapPercent(): number | null;
-    /** By how many percent the length is above another one. */
+    /** By how many percent the length exceeds another one. */
     percentOver(length: bigint | number): number | null;
     /** What JSON.stringify writes: whole numbers from 2^53 on, and below -2^53, are texts. */
     toJSON(): Record<string, unknown>;
 }
 
 /**
- * Judges a tour, or routes, of an instance.
+ * Judges a tour or routes for an instance.
  *
- * @throws {Fault} a text is no file, or the first has another TYPE than an instance
+ * @throws {Fault} a text isn't a valid file, or the first file isn't an instance
  */
 export function check(instance: Source, solution: Solution, options?: CheckOptions): Report;
 
 /**
- * Bounds the tours of an instance by a certificate. In a fault the certificate is file 2.
+ * Computes a bound for an instance from a certificate. In a fault the certificate is file 2.
  *
- * @throws {Fault} a text is no file, or the first has another TYPE than an instance
+ * @throws {Fault} a text isn't a valid file, or the first file isn't an instance
  */
 export function bound(instance: Source, options: CertificateOptions): Report;
 
-/** What holds for all solutions of an instance, before any is read. */
+/** What all solutions of an instance have in common, known before any is read. */
 export interface Basis {
     readonly type: string;
     readonly nodes: number;
@@ -117,7 +116,7 @@ export interface Basis {
     readonly least: number | null;
     readonly bound: bigint | null;
     readonly noTour: boolean;
-    /** Why no solution is accepted: against the instance or the certificate. */
+    /** A reason against the instance or the certificate, so that no solution is accepted. */
     readonly reason: string | null;
     readonly numbers: readonly (number | bigint)[];
 }
@@ -128,18 +127,18 @@ export class Comparison {
     readonly basis: Basis;
     /** The path of each solution, or its number. */
     readonly names: readonly string[];
-    /** A report for each solution, or the error of one that has none; empty where `basis.reason` isn't null. */
+    /** A report or an error for each solution; empty if `basis.reason` isn't null. */
     readonly outcomes: readonly (Report | Error)[];
     /** What `tsp compare` prints. */
     toString(): string;
-    /** A table, with a tab between the cells. */
+    /** A table, with tabs between the cells. */
     toTSV(): string;
 }
 
 /**
- * Judges many solutions of an instance, which is read once, as its certificate.
+ * Judges many solutions of an instance. The instance and its certificate are read once.
  *
- * @throws {Fault} the instance or the certificate is no file
+ * @throws {Fault} the instance or the certificate isn't a valid file
  */
 export function compare(instance: Source, solutions: readonly Solution[], options?: CompareOptions): Comparison;
 
@@ -149,63 +148,63 @@ export interface Job extends CheckOptions {
     solution: Solution;
 }
 
-/** How many workers check, and what is called after each check, in the order in which they end. */
+/** The number of workers, and a function that is called after each check, in the order in which they end. */
 export interface ManyOptions {
     workers?: number;
     progress?: (done: number, all: number, outcome: Report | Error) => void;
 }
 
-/** Checks many solutions at once: a report for each job, or the error of one that has none. */
+/** Checks many solutions at once: a report or an error for each job. */
 export function checkMany(jobs: Iterable<Job>, options?: ManyOptions): Promise<(Report | Error)[]>;
 
 /**
- * The solution of another program as a text of TYPE TOUR, and a text of TYPE TOUR as it is, but for LKH-3's copies of
- * the depot. `nodes` is the number of nodes of the instance, where it is known.
+ * Another program's solution as a text of TYPE TOUR. A text of TYPE TOUR is returned as it is, except for LKH-3's copies
+ * of the depot. `nodes` is the instance's number of nodes, if you know it.
  *
- * @throws {SolutionError} it has no known form
+ * @throws {SolutionError} the solution has no known form
  */
 export function readSolution(source: Source, options?: { nodes?: number }): Uint8Array;
 
 /**
- * What `tsp show` prints of a file.
+ * What `tsp show` prints for a file.
  *
- * @throws {Fault} the text is no file
+ * @throws {Fault} the text isn't a valid file
  */
 export function show(file: Source): string;
 
 /**
  * The canonical text of a file, on request in another layout.
  *
- * @throws {Fault} the text is no file, or its weights can't go into the layout
+ * @throws {Fault} the text isn't a valid file, or its weights can't be written in the layout
  */
 export function convert(file: Source, layout?: Layout): Uint8Array;
 
 /** The version of the library. */
 export function version(): string;
 
-/** An instance that is read once. The library's part is freed by `close`, or some time after nobody has it any more. */
+/** An instance that is read once. `close` frees it; otherwise it is freed some time after you drop it. */
 export class Problem {
-    /** @throws {Fault} the text is no instance */
+    /** @throws {Fault} the text isn't an instance */
     constructor(source: Source);
     static load(path: string | URL): Problem;
     static parse(text: string): Problem;
-    /** An instance with these points of two or three coordinates, as they are written in the fewest digits. */
+    /** An instance with these points of two or three coordinates. A number is read as its shortest decimal. */
     static fromPoints(points: readonly (readonly (number | bigint | string)[])[], options?: PointsOptions): Problem;
-    /** An instance with these whole weights: of TYPE TSP where they are symmetric, else ATSP. The diagonal is 0. */
+    /** An instance with these whole weights, of TYPE TSP if they are symmetric, otherwise ATSP. The diagonal is 0. */
     static fromMatrix(matrix: readonly (readonly (number | bigint | string)[])[], options?: MatrixOptions): Problem;
     readonly bytes: Uint8Array;
     get nodes(): number;
     /** The cost from a node to another. Nodes count from 1. */
     weight(from: number, to: number): bigint;
     weights(pairs: readonly (readonly [number, number])[]): BigInt64Array;
-    /** The costs from node 1 to each node, then those from node 2, and so on. */
+    /** The costs from node 1 to each node, then the costs from node 2, and so on. */
     matrix(): BigInt64Array;
-    /** So many rows of the matrix, from that of a node on. */
+    /** `count` rows of the matrix, beginning with the row of node `first`. */
     rows(first: number, count: number): BigInt64Array;
     /** The length of a list of nodes, from each to the next and back to the first. */
     length(tour: readonly number[]): bigint;
     traceTours(tours: readonly (readonly number[])[]): BigInt64Array;
-    /** The coordinates x, y and z of each node; null where the file has no such section. */
+    /** The coordinates x, y and z of each node; null if the file has no such section. */
     points(section?: "NODE_COORD_SECTION" | "DISPLAY_DATA_SECTION"): [number, number, number][] | null;
     check(solution: Solution, options?: CheckOptions): Report;
     /** The canonical text, on request in another layout. */
@@ -213,28 +212,28 @@ export class Problem {
     close(): void;
 }
 
-/** All that the calls throw, but a TypeError or RangeError of an argument and what the reading of a file throws. */
+/** Everything that the calls throw, except a TypeError or RangeError for an argument, and errors from reading a file. */
 export class YokecairnError extends Error {}
 export class OutOfMemory extends YokecairnError {}
-/** A node that the instance doesn't have, or a problem that is closed. */
+/** The instance lacks the node, or the problem is closed. */
 export class NodeError extends YokecairnError {}
-/** A solution of another program that has no known form. */
+/** Another program's solution has no known form. */
 export class SolutionError extends YokecairnError {}
-/** A text is no file, or none that the call can use. */
+/** A text isn't a valid file, or not a file that the call can use. */
 export class Fault extends YokecairnError {
     constructor(told: string, explanation: string, path: string);
-    /** The line that the program prints of it, as `file 1: line 6 word 1: RepeatedNode`. */
+    /** The line that the program prints, such as `file 1: line 6 word 1: RepeatedNode`. */
     readonly told: string;
-    /** 1 the instance, 2 the solution, 3 the certificate; of a bound the certificate is 2. */
+    /** 1 is the instance, 2 the solution, 3 the certificate; for a bound the certificate is 2. */
     readonly file: number | null;
     readonly line: number | null;
-    /** The word in its line, from 1; 0 for the line as a whole. */
+    /** The word in its line, counted from 1; 0 for the line as a whole. */
     readonly word: number | null;
-    /** Its name, as `RepeatedNode`. */
+    /** Its name, such as `RepeatedNode`. */
     readonly fault: string;
     readonly details: readonly (string | number)[];
-    /** What `tsp --explain` tells of it. */
+    /** The explanation that `tsp --explain` prints. */
     readonly explanation: string;
-    /** The path of the text, empty where it has none. */
+    /** The path of the text; empty if there is none. */
     readonly path: string;
 }
