@@ -8,7 +8,7 @@ ghost use Rattle.std.specs.Prelude.{◌≡◌, ◌+◌, ◌++◌, [], ◌∷◌,
 use std::alloc::{AllocError, Global};
 use std::collections::BTreeSet;
 
-/// Memory was refused. Only the calls of this crate make one, each where std refused to grow.
+/// Memory was refused. Only the calls of this crate make one, each when std refused to grow.
 #[derive(Clone, Copy, Debug, Drop)]
 pub struct Refused {
     error: AllocError,

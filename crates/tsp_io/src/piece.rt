@@ -66,7 +66,7 @@ pub fn put_next_number<W: Write, N: Integer>(piece: &mut Piece, out: &mut Watche
     put_number(piece, out, number);
 }
 
-// ---- writes a text to a writer that may take any part of it at once, and stops where it fails
+// ---- writes a text to a writer that may take any part of it at once, and stops if it fails
 
 /// Why a text could not be written.
 #[derive(Clone, Copy, Debug, PartialEq, Eq, Error)]
@@ -91,7 +91,7 @@ impl fmt::Display for WriteFault {
     }
 }
 
-/// Sends a text to a writer that may take any part of it at once, and stops where the writer fails.
+/// Sends a text to a writer that may take any part of it at once, and stops if the writer fails.
 ///
 /// A writer that had failed before gets nothing.
 pub fn send<W: Write>(out: &mut Watched<W>, text: &[u8])
@@ -114,8 +114,8 @@ pub fn send<W: Write>(out: &mut Watched<W>, text: &[u8])
     }
 }
 
-/// Sends what the writer takes at once of a text, and says how many bytes that is: none where it
-/// fails, which the writer then remembers, with what the system says of it.
+/// Makes one write, and returns how many bytes the writer took. That is 0 if it fails; then `out`
+/// remembers the failure, and what the system said.
 fn send_part<W: Takes>(out: &mut Watched<W>, text: &[u8]) -> usize
     ensures part { result ≤ length text.now }
     ensures bytes { Appends (W.contents (watched out.old))
@@ -140,8 +140,10 @@ fn send_part<W: Takes>(out: &mut Watched<W>, text: &[u8]) -> usize
 
 /// Writes a text to a writer that may take any part of it at once.
 ///
-/// At `Device` a prefix of the text was written, and nothing else. A writer that had failed before
-/// gets nothing. `OutOfMemory` is never returned.
+/// # Errors
+///
+/// `Device` if the writer fails, or had failed before: then a prefix of the text was written, and
+/// nothing else. `OutOfMemory` is never returned.
 pub fn write_text<W: Write>(out: &mut Watched<W>, text: &[u8]) -> Result<(), WriteFault>
     ensures { Writes (sink_of W.contents out.old out.new) text.now result }
 {

@@ -26,9 +26,9 @@ impl Script {
     }
 }
 
-/// What a watched script answers is its next answer, and the script has lost that one alone. So the
-/// answers that come out of it, call by call, are those that went in, one for one. It is asked by
-/// `ask`, as each reader and writer is.
+/// A watched script returns its next answer, and only that answer is used up. So the answers that
+/// come out, call by call, are those that went in, one for one. The script is asked through `ask`,
+/// like every reader and writer.
 pub fn answers_go_through(script: &mut Watched<Script>) -> io::Result<usize>
     ensures next { AnswersNext (answers_of (watched script.old)) result
         (answers_of (watched script.new)) }

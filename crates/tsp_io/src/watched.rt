@@ -73,14 +73,14 @@ impl<W: Write> Takes for W {
 
 /// A reader or a writer that remembers whether one of its reads or writes has failed.
 ///
-/// It is a `Read` where `T` is one and a `Write` where `T` is one, with `T`'s bytes. It has failed
+/// It is a `Read` if `T` is one and a `Write` if `T` is one, with `T`'s bytes. It has failed
 /// from the first read or write on that returns an error, an interruption among them, or that
 /// takes no byte of a text that isn't empty. An error of `flush` counts as one of a write.
 #[derive(Debug, Drop)]
 pub struct Watched<T> {
     inner: T,
     failed: bool,
-    /// What the system said of the failure, where a caller has kept it.
+    /// What the system said of the failure, if a caller has kept it.
     error: Option<io::Error>,
 }
 
@@ -118,7 +118,7 @@ impl<T> Watched<T> {
         inner
     }
 
-    /// What the system said of the failure that ended a text; nothing where none was kept.
+    /// What the system said of the failure that ended a text; nothing if none was kept.
     pub fn error(&self) -> Option<&io::Error>
         ensures { option_map (λ error. error.now) result ≡ error_of self.now }
     {

@@ -42,7 +42,7 @@ impl Decimal {
         i128::from(self.nanos)
     }
 
-    /// The decimal with this count of 10^-9, or `None` where the count is larger than 10^18 in
+    /// The decimal with this count of 10^-9, or `None` if the count is larger than 10^18 in
     /// size.
     pub fn of_count(count: i128) -> Option<Decimal>
         ensures { SomeIff result (unsigned_abs count ≤ most_count) count }
@@ -74,7 +74,7 @@ impl Decimal {
     }
 }
 
-/// A point in space, by its coordinates. Of a point in the plane the third is 0.
+/// A point in space, by its coordinates. A point in the plane has 0 as its third.
 #[derive(Clone, Copy, Debug, PartialEq, Eq)]
 pub struct Point {
     /// The first coordinate.

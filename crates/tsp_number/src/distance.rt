@@ -78,7 +78,7 @@ pub fn ceil_2d(a: Point, b: Point) -> i64
 /// The distance ATT: the root of a tenth of the straight distance's square, rounded up.
 ///
 /// Reinelt's TSPLIB 95 rounds `sqrt((dx^2 + dy^2) / 10)` to the nearest whole number and adds 1
-/// where that is less, which rounds it up. It is from 0 to 894,427,191.
+/// if that is less, which rounds it up. It is from 0 to 894,427,191.
 pub fn att(a: Point, b: Point) -> i64
     ensures value { IsAtt a b (unsigned_abs result) }
     ensures distance { result ≡ pos (att_of a b) }

@@ -64,7 +64,7 @@ pub fn examples_of_distances_in_space()
     ensures max_at_most { FromLeastToLargest IsMax3d 2000000000 }
 {}
 
-/// What some words are read as where a decimal is wanted, in counts of 10^-9.
+/// What some words are read as if a decimal is wanted, in counts of 10^-9.
 #[tactic(auto, unfolding(crate::specs::NumberWord::decimal_of))]
 pub fn examples_of_decimals()
     ensures one { IsDecimalCount (codes "1") (pos 1000000000) }
@@ -95,7 +95,7 @@ pub fn examples_of_decimals()
     ensures too_long { IsNoDecimal (replicate 63 48 ++ codes "12") LongWord }
 {}
 
-/// What some words are read as where a whole number from -2 to 12 is wanted.
+/// What some words are read as if a whole number from -2 to 12 is wanted.
 #[tactic(auto, unfolding(crate::specs::NumberWord::whole_of))]
 pub fn examples_of_whole_numbers()
     ensures plus { WholeIs (codes "+7") (pos 7) }

@@ -21,7 +21,7 @@ pub fn distance_laws()
 {}
 
 /// A word means at most one number, and it is read in exactly one way: where a decimal is wanted,
-/// and where a whole number is.
+/// and if a whole number is.
 pub fn number_word_laws()
     ensures one_number { (word : List ℕ) (j k : ℤ) → StandsFor word j → StandsFor word k → j ≡ k }
     ensures one_decimal { (word : List ℕ) (r s : Result ℤ NumberFault)

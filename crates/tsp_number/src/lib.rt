@@ -12,7 +12,7 @@
 //! ```
 #![tactic(auto)]
 
-mod compared;
+mod at_least;
 mod decimal;
 mod distance;
 mod examples;
@@ -23,7 +23,7 @@ mod shift;
 mod spelling;
 mod word;
 
-pub use compared::{is_att_at_least, is_ceil_2d_at_least, is_euc_2d_at_least, is_euc_3d_at_least};
+pub use at_least::{is_att_at_least, is_ceil_2d_at_least, is_euc_2d_at_least, is_euc_3d_at_least};
 pub use decimal::{Decimal, InSpace, PlanePoint, Point, UNIT};
 pub use distance::{att, ceil_2d, euc_2d, euc_3d, man_2d, man_3d, max_2d, max_3d};
 pub use examples::{

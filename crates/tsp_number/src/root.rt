@@ -31,7 +31,7 @@ pub(crate) enum Rounding {
     TenthUp,
 }
 
-/// Whether `whole` is at least the rounded root of `square`, where both count 10^-9.
+/// Whether `whole` is at least the rounded root of `square`, if both count 10^-9.
 #[inline(always)]
 fn covers(rounding: Rounding, square: u128, whole: u32) -> bool
     requires { square ≤ 12 * 10 ^ 36 }
@@ -53,7 +53,7 @@ fn covers(rounding: Rounding, square: u128, whole: u32) -> bool
     }
 }
 
-/// Whether the rounded root of a square is at least `least`, without the root: where the number
+/// Whether the rounded root of a square is at least `least`, without the root: if the number
 /// before `least` doesn't cover the square.
 #[inline(always)]
 pub(crate) fn is_root_at_least(rounding: Rounding, square: u128, least: i64) -> bool
@@ -130,7 +130,7 @@ fn estimate(rounding: Rounding, square: f64) -> u32
 
 /// Whether `whole` is certainly the least number that covers the square.
 ///
-/// The next smaller number doesn't cover it where the square lies less far below that of `whole`
+/// The next smaller number doesn't cover it if the square lies less far below that of `whole`
 /// than the square of the smaller one.
 #[inline(always)]
 fn is_least_cover(rounding: Rounding, square: u128, whole: u32) -> bool
@@ -182,7 +182,7 @@ fn corrected_root(rounding: Rounding, square: u128, near: u32, most: u32) -> u32
 
 /// The least number that covers the square, by an estimate and a number that covers it.
 ///
-/// The estimate is taken only where whole numbers show that it is right.
+/// The estimate is taken only if whole numbers show that it is right.
 #[inline(always)]
 fn settled_root(rounding: Rounding, square: u128, near: u32, most: u32) -> u32
     requires size { square ≤ 12 * 10 ^ 36 }

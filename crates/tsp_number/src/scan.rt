@@ -18,7 +18,7 @@ pub(crate) struct Written<'a> {
     /// The digits before and after the point.
     pub(crate) whole: &'a [u8],
     pub(crate) fraction: &'a [u8],
-    /// All these digits as one number, or `u64::MAX` where that is less.
+    /// All these digits as one number, or `u64::MAX` if that is less.
     pub(crate) size: u64,
     /// The exponent, at most 10,000 in size.
     pub(crate) exponent: i64,
@@ -30,7 +30,7 @@ pub(crate) struct Digits<'a> {
     pub(crate) digits: &'a [u8],
     /// What follows the digits.
     pub(crate) rest: &'a [u8],
-    /// The digits as a number, or `u64::MAX` where that is less.
+    /// The digits as a number, or `u64::MAX` if that is less.
     pub(crate) value: u64,
 }
 
@@ -85,7 +85,7 @@ pub(crate) fn split_digits(bytes: &[u8], before: u64) -> Digits<'_>
     }
 }
 
-/// The exponent that the bytes after a mantissa write, or `None` where they write none.
+/// The exponent that the bytes after a mantissa write, or `None` if they write none.
 #[inline(always)]
 fn exponent_of(bytes: &[u8]) -> Option<i64>
     ensures { result ≡ option_map clamped (exponent_in bytes.now) }
@@ -105,7 +105,7 @@ fn exponent_of(bytes: &[u8]) -> Option<i64>
     Some(if negative { -most } else { most })
 }
 
-/// The parts of a number word, or `None` where the word isn't one.
+/// The parts of a number word, or `None` if the word isn't one.
 #[inline(always)]
 pub(crate) fn split_word(word: &[u8]) -> Option<Written<'_>>
     requires { length word.now ≤ 64 }

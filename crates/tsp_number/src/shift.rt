@@ -38,7 +38,7 @@ pub(crate) fn power_of_ten(exponent: u64) -> u64
     }
 }
 
-/// The number with this many zeros more, or `u64::MAX` where that is less.
+/// The number with this many zeros more, or `u64::MAX` if that is less.
 #[inline(always)]
 fn add_zeros(size: u64, count: u64) -> u64
     ensures { result ≡ saturated (size * 10 ^ count) }
@@ -52,7 +52,7 @@ fn add_zeros(size: u64, count: u64) -> u64
     size.saturating_mul(power_of_ten(count))
 }
 
-/// The number without this many zeros at its end, or `None` where it has fewer.
+/// The number without this many zeros at its end, or `None` if it has fewer.
 #[inline(always)]
 fn drop_zeros(size: u64, count: u64) -> Option<u64>
     ensures { DropsZeros size count result }
@@ -118,8 +118,8 @@ fn places(written: &Written<'_>, scale: u32) -> i64
     i64::from(scale) + written.exponent - written.fraction.len() as i64
 }
 
-/// The size of a number word's number, in the unit 10^-scale, or `u64::MAX` where that is less.
-/// `None` where it isn't a whole number in that unit.
+/// The size of a number word's number, in the unit 10^-scale, or `u64::MAX` if that is less.
+/// `None` if it isn't a whole number in that unit.
 #[inline(always)]
 pub(crate) fn shifted(written: &Written<'_>, scale: u32) -> Option<u64>
     requires scale { scale ≤ 9 }

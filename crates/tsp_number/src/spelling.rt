@@ -114,7 +114,7 @@ pub fn write_spelling(d: Decimal, block: &mut [u8], end: usize) -> usize
 /// Writes a decimal as text.
 ///
 /// The text is `-` for a negative number, the whole part without leading zeros, at least `0`, and,
-/// where the number isn't whole, a point and its decimals without zeros at their end. It has at
+/// if the number isn't whole, a point and its decimals without zeros at their end. It has at
 /// most 21 bytes.
 pub fn write_decimal(d: Decimal) -> ArrayVec<u8, 64>
     ensures items { result.items ≡ spelling d }

@@ -33,7 +33,7 @@ fn signed(negative: bool, size: u64) -> i128
     }
 }
 
-/// The number, where it is from `low` to `high`.
+/// The number, if it is from `low` to `high`.
 #[inline(always)]
 fn within(value: i128, low: i64, high: i64) -> Option<i64>
     ensures { SomeIff result ((low ≤ℤ value) × (value ≤ℤ high)) value }
@@ -177,7 +177,7 @@ impl fmt::Display for NumberFault {
     }
 }
 
-// ---- the number at the beginning of some bytes, where it is a plain sign, digits and a point
+// ---- the number at the beginning of some bytes, if it is a plain sign, digits and a point
 
 /// The most digits that are read before or after the point of a decimal: nine places are all.
 const MOST_PLACES: usize = 9;
@@ -264,7 +264,7 @@ fn signed_front(negative: bool, size: u64) -> i64
 }
 
 /// The whole number that the bytes begin with, and how many bytes write it: an optional sign and
-/// up to 18 digits. `None` where they begin otherwise.
+/// up to 18 digits. `None` if they begin otherwise.
 ///
 /// What follows is not looked at. A number word that ends where the answer says is thus read in
 /// full; one that goes on is for [`parse_whole`](crate::parse_whole).
@@ -283,7 +283,7 @@ pub fn front_whole(bytes: &[u8]) -> Option<(i64, usize)>
 }
 
 /// The whole number of one to seven digits that the bytes begin with, without a sign, and how many
-/// digits write it. `None` where they begin otherwise, or are fewer than eight.
+/// digits write it. `None` if they begin otherwise, or are fewer than eight.
 ///
 /// It is the quick way to most words of a matrix: all digits and the byte after them are among the
 /// first eight, so these alone are looked at. What follows the digits is not judged, as of
@@ -306,7 +306,7 @@ pub fn front_few(bytes: &[u8]) -> Option<(i64, usize)>
 }
 
 /// The decimal that the bytes begin with, and how many bytes write it: an optional sign, up to
-/// nine digits and, where a point follows, up to nine more. `None` where they begin otherwise.
+/// nine digits and, if a point follows, up to nine more. `None` if they begin otherwise.
 ///
 /// What follows is not looked at. A number word that ends where the answer says is thus read in
 /// full; one that goes on is for [`parse_decimal`](crate::parse_decimal).

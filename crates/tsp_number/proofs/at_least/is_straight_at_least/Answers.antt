@@ -1,9 +1,9 @@
--- The goals of `is_straight_at_least` in src/compared.rt: what it ensures.
+-- The goals of `is_straight_at_least` in src/at_least.rt: what it ensures.
 use Rattle.tsp_number.proofs.Prelude.{◌≡◌, ◌+◌, ◌≤ℤ◌, ℕ, ℤ, pos, subst, sym, w64, ◌↔◌, IsTrue, to_z-of_z}
 use Rattle.tsp_number.specs.Distances.{square_apart}
 use Rattle.tsp_number.specs.states.Rounding.{IsLeastCover}
 use Rattle.tsp_number.proofs.Distances.{apart_is, way_is}
-use Rattle.tsp_number.proofs.compared.is_straight_at_least.Goals as goal
+use Rattle.tsp_number.proofs.at_least.is_straight_at_least.Goals as goal
 
 -- plan: both squares sum to that of the straight distance (`apart_is`), of which the given root is the least cover
 pub returns : goal.returns

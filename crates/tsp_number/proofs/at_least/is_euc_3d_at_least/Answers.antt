@@ -1,11 +1,11 @@
--- The goals of `is_euc_3d_at_least` in src/compared.rt: what it ensures.
+-- The goals of `is_euc_3d_at_least` in src/at_least.rt: what it ensures.
 use Rattle.tsp_number.proofs.Prelude.{◌≡◌, ◌+◌, ◌≤ℤ◌, ℕ, ℤ, pos, subst, sym, w64, ◌↔◌, IsTrue, to_z-of_z}
 use Rattle.tsp_number.specs.Distances.{square_apart_in_space, euc_3d_of}
 use Rattle.tsp_number.specs.states.Rounding.{IsLeastCover}
 use Rattle.tsp_number.specs.declared.root.Rounding.TheVariants.{Nearest}
 use Rattle.tsp_number.proofs.Distances.{way_is}
 use Rattle.tsp_number.proofs.Comparisons.{euc_3d_cover, space_is}
-use Rattle.tsp_number.proofs.compared.is_euc_3d_at_least.Goals as goal
+use Rattle.tsp_number.proofs.at_least.is_euc_3d_at_least.Goals as goal
 
 -- plan: the three squares sum to that of the straight distance (`space_is`), and `euc_3d_cover` names its root
 pub returns : goal.returns

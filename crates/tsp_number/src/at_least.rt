@@ -1,4 +1,5 @@
-//! Whether a distance is at least a number, decided by squares, without a root.
+//! Whether a distance is at least a number, decided by squares, without a root. (Not `tsp
+//! compare`.)
 
 ghost use Rattle.std.specs.Prelude.{◌≤ℤ◌, ◌↔◌, ℕ, IsTrue, pos};
 ghost use Rattle.tsp_number.specs.Distances.{square_apart, euc_2d_of, ceil_2d_of, att_of, euc_3d_of};

@@ -1,7 +1,7 @@
--- The goals of `is_euc_2d_at_least` in src/compared.rt: what it ensures.
+-- The goals of `is_euc_2d_at_least` in src/at_least.rt: what it ensures.
 use Rattle.tsp_number.proofs.Prelude.{w64, to_z-of_z}
 use Rattle.tsp_number.proofs.Comparisons.{euc_2d_cover}
-use Rattle.tsp_number.proofs.compared.is_euc_2d_at_least.Goals as goal
+use Rattle.tsp_number.proofs.at_least.is_euc_2d_at_least.Goals as goal
 
 -- plan: the distance is the least number whose next half covers the square of the straight distance (`euc_2d_cover`),
 -- so squares are compared

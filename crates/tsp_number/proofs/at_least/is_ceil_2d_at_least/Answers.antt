@@ -1,7 +1,7 @@
--- The goals of `is_ceil_2d_at_least` in src/compared.rt: what it ensures.
+-- The goals of `is_ceil_2d_at_least` in src/at_least.rt: what it ensures.
 use Rattle.tsp_number.proofs.Prelude.{w64, to_z-of_z}
 use Rattle.tsp_number.proofs.Comparisons.{ceil_2d_cover}
-use Rattle.tsp_number.proofs.compared.is_ceil_2d_at_least.Goals as goal
+use Rattle.tsp_number.proofs.at_least.is_ceil_2d_at_least.Goals as goal
 
 -- plan: the distance is the least number that covers the square of the straight distance (`ceil_2d_cover`), so squares
 -- are compared
