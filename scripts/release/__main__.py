@@ -1,7 +1,7 @@
 """Makes dist/yokecairn-VERSION-linux-x86_64.tar.gz: the program, linked statically, the libraries for C and
-Python, the page for a browser, and what belongs to them.
+Python, the page for a browser, the producer's programs, and what belongs to them.
 
-usage: ./release [--public] [--sign KEY] [--without page] [--systems]
+usage: ./release [--public] [--sign KEY] [--without page] [--without producer] [--systems]
        ./release --library FOLDER | --page FOLDER | --modules | --kept | --compare
 
 --public makes a release that is published: CONTACT, CITATION.cff and the pages have the authors, the contact, the home and
@@ -9,8 +9,9 @@ the DOI of publisher.toml. Without it the release says that it is a private copy
 --sign KEY signs the tarball: by ssh-keygen where KEY is the file of a key, and else by gpg with the key of this name.
 Where the key doesn't sign, nothing is made.
 A release carries the record of its commit's check, docs/check.json. A public one is refused without it.
---without page leaves out the page for a browser, and the pages of such a release don't promise it. Where a tool of a
-part is missing, and the part isn't left out, nothing is made.
+--without page leaves out the page for a browser, and --without producer tsp-certify and tsp-potentials, which take minutes to
+build. The pages of such a release don't promise them. Where a tool of a part is missing, and the part isn't left out, nothing
+is made.
 --systems also makes the tarball for Linux on aarch64, the zip for Windows on x86-64, the package for npm, and beside them
 the three wheels. What needs a package of Debian that isn't there is left out, and one line says so. docs/trust.md has
 the claim about them ("Other systems").
@@ -40,7 +41,7 @@ sys.dont_write_bytecode = True
 sys.path[0] = str(Path(__file__).resolve().parents[1])
 
 from build.sources import LIBRARY, ROOT  # noqa: E402
-from release import checked, kept, making, packing, publisher  # noqa: E402
+from release import checked, kept, making, packing, producer, publisher  # noqa: E402
 from release.origin import say  # noqa: E402
 from release.pages import PARTS  # noqa: E402
 
@@ -48,6 +49,7 @@ from release.pages import PARTS  # noqa: E402
 TOOLS = {
     "": (("gcc", "ar", "ld", "nm", "objcopy"), "gcc binutils"),
     "page": (("wasm-ld", "wasm-opt"), "lld binaryen"),
+    "producer": (("cmake", "c++"), producer.PACKAGES),
     "wheel": (("/usr/bin/python3",), "python3-setuptools python3-wheel"),
 }
 
@@ -60,6 +62,8 @@ def need(parts: Iterable[str]) -> None:
         if part == "wheel" and not lacking:
             tried = subprocess.run([*tools, "-c", "import setuptools, wheel"], capture_output=True, check=False)
             lacking = ["setuptools and wheel for /usr/bin/python3"] if tried.returncode else []
+        if part == "producer" and not lacking and producer.is_lacking():
+            lacking = ["the headers of Clp, CLI11, TBB and zlib"]
         if lacking:
             way = f", or leave it out by --without {part}" if part in PARTS else ""
             what = f"the part {part} needs" if part else "a release needs"
@@ -71,7 +75,7 @@ def words() -> argparse.ArgumentParser:
     parser = argparse.ArgumentParser(prog="release", description=__doc__, formatter_class=argparse.RawDescriptionHelpFormatter)
     parser.add_argument("--public", action="store_true", help=f"make a release that is published, by whom {publisher.FILE} names")
     parser.add_argument("--sign", metavar="KEY", help="sign the tarball: the file of a key for ssh, or the name of one for gpg")
-    parser.add_argument("--without", metavar="page", choices=PARTS, action="append", default=[], help="leave out the page for a browser")
+    parser.add_argument("--without", metavar="PART", choices=PARTS, action="append", default=[], help="leave out the page for a browser, or the producer")
     parser.add_argument("--systems", action="store_true", help="make the releases for other systems too")
     parser.add_argument("--library", metavar="FOLDER", type=Path, help="make the libraries for C alone")
     parser.add_argument("--page", metavar="FOLDER", type=Path, help="make the page for a browser alone")
