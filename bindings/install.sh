@@ -80,6 +80,15 @@ list() {
 
 mkdir -p "$prefix/bin"
 cp "$here/bin/tsp" "$prefix/bin/$name"
+# The producer's programs, where the release has them, with their pages.
+producer=
+for program in tsp-certify tsp-potentials; do
+    [ -f "$here/bin/$program" ] || continue
+    mkdir -p "$prefix/share/man/man1"
+    cp "$here/bin/$program" "$prefix/bin/$program"
+    cp "$here/share/man/man1/$program.1" "$prefix/share/man/man1/$program.1"
+    producer="$producer bin/$program share/man/man1/$program.1"
+done
 for part in lib include share/doc share/yokecairn; do
     mkdir -p "$prefix/$part"
     cp -R "$here/$part/." "$prefix/$part"
@@ -121,10 +130,11 @@ installed=share/yokecairn/INSTALLED
     for part in lib include share/doc share/yokecairn; do
         list "$part"
     done
-    for file in bin/$name share/man/man1/$name.1 $completions lib/pkgconfig/tsp.pc share/doc/yokecairn/BUILT-FROM share/doc/yokecairn/CONTACT share/yokecairn/PROGRAM $installed; do
+    for file in bin/$name share/man/man1/$name.1 $producer $completions lib/pkgconfig/tsp.pc share/doc/yokecairn/BUILT-FROM share/doc/yokecairn/CONTACT share/yokecairn/PROGRAM $installed; do
         echo "$file"
     done
 } | LC_ALL=C sort -u >"$prefix/$installed.new"
 mv "$prefix/$installed.new" "$prefix/$installed"
 echo "installed in $prefix: bin/$name, lib/libtsp.so, lib/libtsp.a, include/tsp.h, share/man/man1/$name.1"
+[ -z "$producer" ] || echo "programs that make certificates:$producer"
 echo "completions: $completions"

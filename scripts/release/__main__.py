@@ -1,7 +1,7 @@
 """Makes dist/yokecairn-VERSION-linux-x86_64.tar.gz: the statically linked program, the C library, the Python wheel, the
-browser page, and what belongs to them.
+browser page, the producer's programs, and what belongs to them.
 
-usage: ./release [--public] [--sign KEY] [--without page] [--systems]
+usage: ./release [--public] [--sign KEY] [--without page] [--without producer] [--systems]
        ./release --library FOLDER | --page FOLDER | --modules | --kept | --compare
 
 --public makes a release for publication: CONTACT, CITATION.cff and the pages contain the authors, the contact, the home and
@@ -9,8 +9,9 @@ the DOI from publisher.toml. Without this option, the release says that it is a 
 --sign KEY signs the tarball: with ssh-keygen if KEY is a key file, and otherwise with gpg and the key of this name. If
 signing fails, nothing is made.
 A release contains the record of its commit's check, docs/check.json. A public release is refused without this record.
---without page leaves out the browser page, and removes it from the other pages. If a tool for a part is missing, and the
-part isn't left out, nothing is made.
+--without page leaves out the browser page, and --without producer leaves out tsp-certify and tsp-potentials, which take
+minutes to build; the other pages then don't mention them. If a tool for a part is missing, and the part isn't left out,
+nothing is made.
 --systems also makes the tarball for Linux on aarch64, the zip for Windows on x86-64, the npm package, and the three
 wheels. If a Debian package is missing, what needs it is left out, and a line says so. docs/trust.md, "Other systems",
 says what is claimed for these files.
@@ -40,7 +41,7 @@ sys.dont_write_bytecode = True
 sys.path[0] = str(Path(__file__).resolve().parents[1])
 
 from build.sources import LIBRARY, ROOT  # noqa: E402
-from release import checked, kept, making, packing, publisher  # noqa: E402
+from release import checked, kept, making, packing, producer, publisher  # noqa: E402
 from release.origin import say  # noqa: E402
 from release.pages import PARTS  # noqa: E402
 
@@ -48,6 +49,7 @@ from release.pages import PARTS  # noqa: E402
 TOOLS = {
     "": (("gcc", "ar", "ld", "nm", "objcopy"), "gcc binutils"),
     "page": (("wasm-ld", "wasm-opt"), "lld binaryen"),
+    "producer": (("cmake", "c++"), producer.PACKAGES),
     "wheel": (("/usr/bin/python3",), "python3-setuptools python3-wheel"),
 }
 
@@ -60,6 +62,8 @@ def need(parts: Iterable[str]) -> None:
         if part == "wheel" and not lacking:
             tried = subprocess.run([*tools, "-c", "import setuptools, wheel"], capture_output=True, check=False)
             lacking = ["setuptools and wheel for /usr/bin/python3"] if tried.returncode else []
+        if part == "producer" and not lacking and producer.is_lacking():
+            lacking = ["the headers of Clp, CLI11, TBB and zlib"]
         if lacking:
             way = f", or leave it out by --without {part}" if part in PARTS else ""
             what = f"the part {part} needs" if part else "a release needs"
@@ -71,7 +75,7 @@ def words() -> argparse.ArgumentParser:
     parser = argparse.ArgumentParser(prog="release", description=__doc__, formatter_class=argparse.RawDescriptionHelpFormatter)
     parser.add_argument("--public", action="store_true", help=f"make a release that is published, by whom {publisher.FILE} names")
     parser.add_argument("--sign", metavar="KEY", help="sign the tarball: the file of a key for ssh, or the name of one for gpg")
-    parser.add_argument("--without", metavar="page", choices=PARTS, action="append", default=[], help="leave out the browser page")
+    parser.add_argument("--without", metavar="PART", choices=PARTS, action="append", default=[], help="leave out the browser page, or the producer")
     parser.add_argument("--systems", action="store_true", help="make the releases for other systems too")
     parser.add_argument("--library", metavar="FOLDER", type=Path, help="make the libraries for C alone")
     parser.add_argument("--page", metavar="FOLDER", type=Path, help="make only the browser page")

@@ -13,7 +13,7 @@ from pathlib import Path
 from build.sources import LIBRARY, NATIVE, PROGRAM, ROOT
 from build.statements import MADE
 from build.toolchain import kit
-from release import systems
+from release import producer, systems
 from release.contents import put_files, put_licences, put_words
 from release.kept import make_files, module_of, place_of
 from release.origin import commit, moment, say, version
@@ -87,6 +87,9 @@ def make(dist: Path, anew: Path | None = None, by: Publisher | None = None, with
             make_page(top / "share/yokecairn", anew)
         put_files(top, without, by)
         put_licences(top / "share/doc/yokecairn/licences")
+        if "producer" not in without:
+            producer.put(top, anew)
+            producer.put_licences(top / "share/doc/yokecairn/licences/producer")
         put_words(top, by, NATIVE)
         write_sums(top)
         pack(top, dist / f"{name}.tar.gz", moment())
@@ -108,7 +111,7 @@ def make_other(system: str, dist: Path, by: Publisher | None) -> list[Path]:
         shutil.copy(wheel, dist)
         if not systems.SYSTEMS["node"].lacking():
             make_page(top / "share/yokecairn")
-        put_files(top, () if (top / "share/yokecairn/tsp.html").exists() else ("page",), by)
+        put_files(top, ["producer", *([] if (top / "share/yokecairn/tsp.html").exists() else ["page"])], by)
         put_licences(top / "share/doc/yokecairn/licences", system)
         put_words(top, by, system)
         systems.name_system(top, system)

@@ -1,12 +1,9 @@
 #include "memory/run_search.h"
 
 #include <algorithm>
-#include <sstream>
 #include <utility>
 
 #include "memory/memory_parameters.h"
-#include "routes/route_parameters.h"
-#include "routes/string_removals.h"
 #include "running/refusal.h"
 
 namespace certify::routes {
@@ -16,53 +13,15 @@ constexpr Weight kMostCost = 10000000;  // so that the tolerance of Clp is fine 
 
 RunSearch::RunSearch(const CvrpInstance& instance, const Loads& loads, const RouteBegin& begin,
                      const Clock& clock, Progress& progress, const Plan& plan)
-    : instance_(instance),
-      problem_{instance, loads, kRunLeaves.scale},
-      begin_(begin),
-      clock_(clock),
-      progress_(progress),
-      plan_(plan),
-      goal_{begin.routes, length_of(instance, begin.routes), 0},
-      bound_(instance, loads, problem_.scale),
-      window_(plan.window),
-      memory_{std::vector<Bits>(instance.nodes())},
-      made_(instance, problem_.scale, loads.unit) {
+    : SetSearch(instance, loads, begin, clock, progress, plan, kRunLeaves.scale),
+      memory_{std::vector<Bits>(instance.nodes())} {
   if (instance.nodes() > Bits::kMost) throw Refusal("--memory: there are more than 255 customers");
   if (largest_cost(instance) > kMostCost) throw Refusal("--memory: a cost is above 10,000,000");
-  goal_.target = begin.upper ? std::min(*begin.upper, goal_.length) : goal_.length;
 }
 
-std::vector<Limit> RunSearch::limits_of(int place) const {
-  std::vector<Limit> limits;
-  tree_.list_above(place, [&](const SetBranch& branch, bool first) {
-    limits.push_back({branch.set, first, branch.t});
-  });
-  return limits;
-}
-
-RunCase RunSearch::case_of(int place) {
-  return {.limits = limits_of(place),
-          .start = std::exchange(tree_[place].start, nullptr),
-          .goal = goal_,
-          .seed = begin_.seed + 0x9E3779B97F4A7C15ull * ++begun_cases_};
-}
-
-RunCaseSolver& RunSearch::own_solver() {
-  std::unique_ptr<RunCaseSolver>& solver = solvers_.local();
-  if (!solver) solver = std::make_unique<RunCaseSolver>(problem_, clock_);
-  return *solver;
-}
-
-Weight RunSearch::least_bound() const {
-  const Value least = tree_.least(window_);
-  return least == -kNoValue ? goal_.target : std::min(bound_.bound_of(least), goal_.target);
-}
-
-void RunSearch::log(std::string_view event, Weight bound) {
-  std::ostringstream more;
-  more << R"("leaves": )" << leaves_ << R"(, "open": )" << tree_.unfinished(window_)
-       << R"(, "cuts": {"sets": )" << sets_ << R"(, "rows": )" << rows_ << R"(}, "walks": )" << runs_;
-  progress_.log(event, goal_.length, bound, more.str());
+std::string RunSearch::counts() const {
+  return R"({"sets": )" + std::to_string(sets_) + R"(, "rows": )" + std::to_string(rows_) +
+         R"(}, "walks": )" + std::to_string(runs_);
 }
 
 void RunSearch::solve_first() {
@@ -75,38 +34,11 @@ void RunSearch::solve_first() {
     sets_ = static_cast<int>(program.sets().size());
     rows_ = static_cast<int>(program.memory().rows.size());
     runs_ = static_cast<int>(program.runs().size());
-    progress_.show(Standing{length, std::min(bound, length), 0, 1});
-    std::ostringstream more;
-    more << R"("leaves": 0, "open": 1, "cuts": {"sets": )" << sets_ << R"(, "rows": )" << rows_
-         << R"(}, "walks": )" << runs_;
-    progress_.log("round", length, std::min(bound, length), more.str());
+    log_round(length, bound);
   };
   RunOutcome outcome = own_solver().solve(first, note);
   take(root, outcome);
-  look_again();
-}
-
-// Looks for a plan once more where the whole problem has a large gap, unless a plan was named.
-void RunSearch::look_again() {
-  const Weight gap = goal_.length - least_bound();
-  const double large = kRunLeaves.large_gap * static_cast<double>(std::abs(goal_.length));
-  if (begin_.named || static_cast<double>(gap) <= large) return;
-  const double begun = clock_.used();
-  const FoundRoutes found = find_routes(instance_, std::nullopt, begin_.seed + 1, [&] {
-    const bool late = clock_.over(kRouteTree.part_of_time);
-    return late ? 1.0 : (clock_.used() - begun) / kRouteTree.part_of_second_search;
-  });
-  const Weight length = length_of(instance_, found.best);
-  if (length >= goal_.length) return;
-  goal_ = {found.best, length, std::min(goal_.target, length)};
-  log("tour", least_bound());
-}
-
-void RunSearch::finish(int place) {
-  tree_[place].done = true;
-  tree_[place].start = nullptr;
-  leaves_++;
-  log("leaf", least_bound());
+  look_again(kRunLeaves.large_gap);
 }
 
 void RunSearch::go_on(int place, const RunOutcome& outcome) {
@@ -123,9 +55,7 @@ void RunSearch::take(int place, RunOutcome& outcome) {
   sets_ = outcome.sets;
   rows_ = outcome.rows;
   runs_ = outcome.runs;
-  const Weight length = outcome.routes ? length_of(instance_, *outcome.routes) : goal_.length;
-  const bool shorter = length < goal_.length;
-  if (shorter) goal_ = {*outcome.routes, length, std::min(goal_.target, length)};
+  const bool shorter = take_plan(outcome.routes);
   Tree::Place& here = tree_[place];
   if (outcome.done || outcome.value > here.value) {
     here.numbers = std::move(outcome.leaf);
@@ -160,26 +90,6 @@ void RunSearch::finish_reached() {
       tree_.reopen(*place);
     }
   }
-}
-
-// Begins the next case, or none until another one has ended. False where all are done or the time is over.
-bool RunSearch::begin(Job& job) {
-  finish_reached();
-  if (tree_.ends(window_, 0) || clock_.over(kRouteTree.part_of_time)) return false;
-  if (!tree_.open().empty()) {
-    job.place = tree_.take_least();
-    job.here = case_of(job.place);
-  }
-  const auto open = static_cast<int>(tree_.unfinished(window_));
-  progress_.show(Standing{goal_.length, least_bound(), leaves_, open});
-  return true;
-}
-
-void RunSearch::solve(Window::Slot& slot) {
-  const std::lock_guard own(slot.access);
-  if (slot.job.place < 0) return;
-  slot.job.outcome = own_solver().solve(slot.job.here);
-  slot.job.here = {};
 }
 
 // A row joins the file's memory. Where a customer would keep too much, the leaf loses the row.
@@ -292,26 +202,14 @@ void RunSearch::list_memory() {
   }
 }
 
-void RunSearch::list_steps() {
-  leaves_ = 0;
-  const auto add = [&](int place) {
-    leaves_++;
-    add_leaf(place);
-  };
-  tree_.list([&](const SetBranch& branch) { made_.add_branch(branch.set, branch.t); }, add);
-  list_memory();
-}
-
 void RunSearch::run() {
   solve_first();
-  window_.run([this](Job& job) { return begin(job); }, [this](Window::Slot& slot) { solve(slot); },
-              [this](Job& job) {
-                if (job.place >= 0) take(job.place, job.outcome);
-              });
+  solve_cases();
   for (const int place : tree_.leaves()) settle(tree_[place], limits_of(place));
   join_memory();
   coarsen();
-  list_steps();
+  list_tree([this](int place) { add_leaf(place); });
+  list_memory();
   log("end", std::min(bound(), goal_.length));
   progress_.clear();
 }

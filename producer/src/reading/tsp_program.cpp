@@ -44,6 +44,16 @@ std::optional<std::string> on_path(const std::string& name) {
   return std::nullopt;
 }
 
+// The program tsp in the folder of this one. Where a release is installed, its file PROGRAM has the name.
+std::optional<std::string> beside(const fs::path& folder) {
+  const fs::path installed = folder / "../share/yokecairn";
+  std::ifstream file(installed / "PROGRAM");
+  std::string name;
+  if (std::getline(file, name) && runnable(installed / name)) return (installed / name).lexically_normal();
+  if (runnable(folder / "tsp")) return folder / "tsp";
+  return std::nullopt;
+}
+
 std::string place_of_tsp(const std::optional<std::string>& named) {
   if (named && named->find('/') != std::string::npos) {
     if (runnable(*named)) return *named;
@@ -52,7 +62,7 @@ std::string place_of_tsp(const std::optional<std::string>& named) {
   std::error_code error;
   const fs::path own = fs::read_symlink("/proc/self/exe", error);
   const auto at = [&](const char* place) { return own.parent_path() / place; };
-  if (!named && !error && runnable(at("tsp"))) return at("tsp");
+  if (const auto found = beside(own.parent_path()); found && !named && !error) return *found;
   const std::optional<std::string> found = on_path(named.value_or("tsp"));
   if (found) return *found;
   if (named) throw Refusal(*named + ": there is no program of this name on PATH; a path to it has a slash");

@@ -2,12 +2,9 @@
 
 #include <algorithm>
 #include <numeric>
-#include <sstream>
 #include <utility>
 
 #include "routes/number_changes.h"
-#include "routes/route_parameters.h"
-#include "routes/string_removals.h"
 #include "tree/joining.h"
 
 namespace certify::routes {
@@ -23,27 +20,8 @@ Weight common_scale(const CvrpInstance& instance, const RouteBegin& begin) {
 
 RouteSearch::RouteSearch(const CvrpInstance& instance, const Loads& loads, const RouteBegin& begin,
                          const Clock& clock, Progress& progress, const Plan& plan)
-    : instance_(instance),
-      problem_{instance, loads, common_scale(instance, begin)},
-      begin_(begin),
-      clock_(clock),
-      progress_(progress),
-      plan_(plan),
-      certificates_(instance),
-      goal_{begin.routes, length_of(instance, begin.routes), 0},
-      bound_(instance, loads, problem_.scale),
-      window_(plan.window),
-      made_(instance, problem_.scale, loads.unit) {
-  goal_.target = begin.upper ? std::min(*begin.upper, goal_.length) : goal_.length;
-}
-
-std::vector<Limit> RouteSearch::limits_of(int place) const {
-  std::vector<Limit> limits = above_;
-  tree_.list_above(place, [&](const SetBranch& branch, bool first) {
-    limits.push_back({branch.set, first, branch.t});
-  });
-  return limits;
-}
+    : SetSearch(instance, loads, begin, clock, progress, plan, common_scale(instance, begin)),
+      certificates_(instance) {}
 
 // Takes the next step: a branch, or a leaf, which is open where its numbers don't reach the target.
 void RouteSearch::take_step(const Certificate& tree, const TreeStep& step) {
@@ -63,30 +41,8 @@ void RouteSearch::take_tree(const Certificate& tree) {
   finish_reached();
 }
 
-RouteCase RouteSearch::case_of(int place) {
-  return {.limits = limits_of(place),
-          .start = std::exchange(tree_[place].start, nullptr),
-          .numbers = tree_[place].numbers,
-          .goal = goal_,
-          .seed = begin_.seed + 0x9E3779B97F4A7C15ull * ++begun_cases_};
-}
-
-RouteCaseSolver& RouteSearch::own_solver() {
-  std::unique_ptr<RouteCaseSolver>& solver = solvers_.local();
-  if (!solver) solver = std::make_unique<RouteCaseSolver>(problem_, clock_);
-  return *solver;
-}
-
-Weight RouteSearch::least_bound() const {
-  const Value least = tree_.least(window_);
-  return least == -kNoValue ? goal_.target : std::min(bound_.bound_of(least), goal_.target);
-}
-
-void RouteSearch::log(std::string_view event, Weight bound) {
-  std::ostringstream more;
-  more << R"("leaves": )" << leaves_ << R"(, "open": )" << tree_.unfinished(window_)
-       << R"(, "cuts": {"sets": )" << sets_ << R"(}, "walks": )" << walks_;
-  progress_.log(event, goal_.length, bound, more.str());
+std::string RouteSearch::counts() const {
+  return R"({"sets": )" + std::to_string(sets_) + R"(}, "walks": )" + std::to_string(walks_);
 }
 
 // The root: the whole problem, or one leaf of a certificate.
@@ -106,30 +62,11 @@ void RouteSearch::solve_first() {
   const auto note = [&](Weight length, Weight bound, int sets, int walks) {
     sets_ = sets;
     walks_ = walks;
-    progress_.show(Standing{length, std::min(bound, length), 0, 1});
-    std::ostringstream more;
-    more << R"("leaves": 0, "open": 1, "cuts": {"sets": )" << sets << R"(}, "walks": )" << walks;
-    progress_.log("round", length, std::min(bound, length), more.str());
+    log_round(length, bound);
   };
   RouteOutcome outcome = own_solver().solve(first, note);
   take(root, outcome);
-  look_again();
-}
-
-// Looks for a plan once more where the whole problem has a large gap, unless a plan was named.
-void RouteSearch::look_again() {
-  const Weight gap = goal_.length - least_bound();
-  const double large = kRouteTree.large_gap * static_cast<double>(std::abs(goal_.length));
-  if (begin_.named || begin_.tree || static_cast<double>(gap) <= large) return;
-  const double begun = clock_.used();
-  const FoundRoutes found = find_routes(instance_, std::nullopt, begin_.seed + 1, [&] {
-    const bool late = clock_.over(kRouteTree.part_of_time);
-    return late ? 1.0 : (clock_.used() - begun) / kRouteTree.part_of_second_search;
-  });
-  const Weight length = length_of(instance_, found.best);
-  if (length >= goal_.length) return;
-  goal_ = {found.best, length, std::min(goal_.target, length)};
-  log("tour", least_bound());
+  look_again(kRouteTree.large_gap);
 }
 
 // Sets that a file has to have are named. Where it can't have all, the numbers lose those that aren't named
@@ -151,13 +88,6 @@ void RouteSearch::name_sets(LeafNumbers& numbers) {
   named_nodes_ = nodes;
 }
 
-void RouteSearch::finish(int place) {
-  tree_[place].done = true;
-  tree_[place].start = nullptr;
-  leaves_++;
-  log("leaf", least_bound());
-}
-
 // Branches on a case, where a file can have the branch.
 void RouteSearch::go_on(int place, const RouteOutcome& outcome) {
   LeafNumbers named;
@@ -175,9 +105,7 @@ void RouteSearch::go_on(int place, const RouteOutcome& outcome) {
 void RouteSearch::take(int place, RouteOutcome& outcome) {
   sets_ = outcome.sets;
   walks_ = outcome.walks;
-  const Weight length = outcome.routes ? length_of(instance_, *outcome.routes) : goal_.length;
-  const bool shorter = length < goal_.length;
-  if (shorter) goal_ = {*outcome.routes, length, std::min(goal_.target, length)};
+  const bool shorter = take_plan(outcome.routes);
   Tree::Place& here = tree_[place];
   const std::size_t before = outcome.numbers.multipliers.size();
   name_sets(outcome.numbers);
@@ -192,37 +120,14 @@ void RouteSearch::take(int place, RouteOutcome& outcome) {
   if (shorter) log("tour", least_bound());
 }
 
-void RouteSearch::take(Job& job) {
-  if (job.place >= 0) take(job.place, job.outcome);
-}
-
 // Finishes the open cases that reach the target: where a shorter plan was found meanwhile.
 void RouteSearch::finish_reached() {
   while (const std::optional<int> place = tree_.take_reaching(aim())) finish(*place);
 }
 
-// Begins the next case, or none until another one has ended. False where all are done or the time is over.
-bool RouteSearch::begin(Job& job) {
-  finish_reached();
-  if (tree_.ends(window_, plan_.split) || clock_.over(kRouteTree.part_of_time)) return false;
-  if (tree_.branches() >= plan_.limits.branches) {
-    limited_ = true;
-    return false;
-  }
-  if (!tree_.open().empty()) {
-    job.place = tree_.take_least();
-    job.here = case_of(job.place);
-  }
-  const auto open = static_cast<int>(tree_.unfinished(window_));
-  progress_.show(Standing{goal_.length, least_bound(), leaves_, open});
-  return true;
-}
-
-void RouteSearch::solve(Window::Slot& slot) {
-  const std::lock_guard own(slot.access);
-  if (slot.job.place < 0) return;
-  slot.job.outcome = own_solver().solve(slot.job.here);
-  slot.job.here = {};
+bool RouteSearch::is_full() {
+  limited_ = limited_ || tree_.branches() >= plan_.limits.branches;
+  return tree_.branches() >= plan_.limits.branches;
 }
 
 void RouteSearch::coarsen() {
@@ -277,15 +182,6 @@ void RouteSearch::add_leaf(const Tree::Place& leaf, const std::vector<Limit>& li
   if (!leaf.done || value < aim()) open_leaves_.push_back(leaves_);
 }
 
-void RouteSearch::list_steps() {
-  leaves_ = 0;
-  const auto add = [&](int place) {
-    leaves_++;
-    add_leaf(tree_[place], limits_of(place));
-  };
-  tree_.list([&](const SetBranch& branch) { made_.add_branch(branch.set, branch.t); }, add);
-}
-
 Certificate RouteSearch::certificate() {
   if (!open_leaves_.empty()) made_.certificate().notes["open"] = std::to_string(open_leaves_.size());
   if (plan_.split > 0) {
@@ -303,10 +199,9 @@ void RouteSearch::run() {
   } else {
     solve_first();
   }
-  window_.run([this](Job& job) { return begin(job); }, [this](Window::Slot& slot) { solve(slot); },
-              [this](Job& job) { take(job); });
+  solve_cases();
   coarsen();
-  list_steps();
+  list_tree([this](int place) { add_leaf(tree_[place], limits_of(place)); });
   log("end", std::min(bound(), goal_.length));
   progress_.clear();
 }

@@ -4,14 +4,17 @@
 
 namespace certify {
 namespace {
-// The elements without a mark, from a place on.
-template <typename T>
-void drop_marked(std::vector<T>& list, const std::vector<char>& dropped, int first = 0) {
-  std::size_t kept = static_cast<std::size_t>(first);
-  for (std::size_t k = 0; k < dropped.size(); k++) {
-    if (dropped[k] == 0) list[kept++] = list[first + k];
-  }
-  list.resize(kept);
+// Drops the elements with a mark of each list, where the marks are those from a place on.
+template <typename... T>
+void drop_marked(const std::vector<char>& dropped, int first, std::vector<T>&... lists) {
+  const auto drop = [&](auto& list) {
+    std::size_t kept = static_cast<std::size_t>(first);
+    for (std::size_t k = 0; k < dropped.size(); k++) {
+      if (dropped[k] == 0) list[kept++] = list[first + k];
+    }
+    list.resize(kept);
+  };
+  (drop(lists), ...);
 }
 
 std::vector<int> marked(const std::vector<char>& dropped, int first) {
@@ -40,9 +43,13 @@ void CutProgram::clear() {
   edge_weights_.rows.assign(degrees_, 0);
 }
 
+void CutProgram::name_column(const Pair& edge, int column) {
+  adjacent_[edge.first].push_back({edge.second, column});
+  adjacent_[edge.second].push_back({edge.first, column});
+}
+
 void CutProgram::index_edge(const Pair& edge) {
-  adjacent_[edge.first].push_back({edge.second, columns()});
-  adjacent_[edge.second].push_back({edge.first, columns()});
+  name_column(edge, columns());
   edges_.push_back(edge);
   edge_weights_.columns.push_back(0);
 }
@@ -85,10 +92,8 @@ void CutProgram::drop_rows(const std::vector<char>& dropped) {
   const std::vector<int> places = marked(dropped, degrees_);
   if (places.empty()) return;
   program_.deleteRows(static_cast<int>(places.size()), places.data());
-  drop_marked(cuts_, dropped);
-  drop_marked(ages_, dropped);
-  drop_marked(cut_duals_, dropped);
-  drop_marked(edge_weights_.rows, dropped, degrees_);
+  drop_marked(dropped, 0, cuts_, ages_, cut_duals_);
+  drop_marked(dropped, degrees_, edge_weights_.rows);
   row_of_.clear();
   for (std::size_t row = 0; row < cuts_.size(); row++) row_of_[cuts_[row]] = static_cast<int>(row);
 }
@@ -97,15 +102,10 @@ void CutProgram::drop_columns(const std::vector<char>& dropped) {
   const std::vector<int> places = marked(dropped, elastic_);
   if (places.empty()) return;
   program_.deleteColumns(static_cast<int>(places.size()), places.data());
-  drop_marked(edges_, dropped);
-  drop_marked(solution_, dropped);
-  drop_marked(edge_weights_.columns, dropped, elastic_);
+  drop_marked(dropped, 0, edges_, solution_);
+  drop_marked(dropped, elastic_, edge_weights_.columns);
   for (std::vector<Place>& adjacent : adjacent_) adjacent.clear();
-  for (int column = 0; column < columns(); column++) {
-    const auto [i, j] = edges_[column];
-    adjacent_[i].push_back({j, column});
-    adjacent_[j].push_back({i, column});
-  }
+  for (int column = 0; column < columns(); column++) name_column(edges_[column], column);
 }
 
 bool CutProgram::optimize() {

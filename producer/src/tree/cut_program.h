@@ -46,6 +46,8 @@ class CutProgram {
   virtual double list_row(int cut, Entries& entries) = 0;
   // Makes the program empty. Clp chooses the rows that leave the basis by weights that outlive it.
   void clear();
+  // Lists an edge with its column at both nodes.
+  void name_column(const Pair& edge, int column);
   // A new column of an edge, which takes the next number.
   void index_edge(const Pair& edge);
   void add_columns(const Entries& entries, const std::vector<double>& objective);
