@@ -299,7 +299,9 @@ enum {
     TSP_FIELD_FIXED_EDGE_POTENTIAL_SECTION = 22,
     TSP_FIELD_COMB_SECTION = 23,
     TSP_FIELD_BRANCH_SECTION = 24,
-    TSP_FIELD_LOAD_UNIT = 25
+    TSP_FIELD_LOAD_UNIT = 25,
+    TSP_FIELD_MEMORY_SECTION = 26,
+    TSP_FIELD_SUBSET_ROW_SECTION = 27
 };
 
 /* Like tsp_check and tsp_bound, but with the result in numbers too: the verdict, if the status is TSP_YES or TSP_NO, and

@@ -69,6 +69,8 @@ BODIES = {
     "COLUMN_POTENTIAL_SECTION": "1 0 2 1 3 0 4 0",
     "FIXED_EDGE_POTENTIAL_SECTION": "1 2 3 4 3 0 -1",
     "COMB_SECTION": "1 2 3 -1 1 4 -1 2 -1 -1 1 -1 -1 -1",
+    "MEMORY_SECTION": "2 3 4 -1 3 -1 -1",
+    "SUBSET_ROW_SECTION": "2 3 -1 4 -1 3 4 -1 -1 -1",
     "BRANCH_SECTION": "1 2 0 4 1 3 -7 -1 7 1 0 -1 0 -1",
 }
 OF_TYPE = {

@@ -142,12 +142,12 @@ class Judge:
 # ---- what the program writes
 
 
-def files_of(texts: list[bytes], ahead: bool = False) -> list[File] | bytes:
+def files_of(texts: list[bytes]) -> list[File] | bytes:
     """The files of these texts, or the line of the first fault."""
     files = []
     for number, text in enumerate(texts, 1):
         try:
-            files.append(read(text, ahead))
+            files.append(read(text))
         except Fault as fault:
             return f"file {number}: {fault}\n".encode()
     return files
@@ -174,9 +174,9 @@ def convert(text: bytes, layout: str = "") -> Result:
         return 1, b"", f"relayout: {why}\n".encode()
 
 
-def judge_of(texts: list[bytes], kind: str, place: int, ahead: bool = False) -> tuple[Judge, list[File]] | Result:
+def judge_of(texts: list[bytes], kind: str, place: int) -> tuple[Judge, list[File]] | Result:
     """The judge of an instance and the files, whose certificate has this place; or what comes in place of a verdict."""
-    files = files_of(texts, ahead)
+    files = files_of(texts)
     if isinstance(files, bytes):
         return 2, b"", files
     accepted = ("TSP", "ATSP") if kind == "potentials" else INSTANCES
@@ -186,16 +186,14 @@ def judge_of(texts: list[bytes], kind: str, place: int, ahead: bool = False) -> 
 
 
 def check(
-    instance: bytes, solution: bytes, certificate: bytes = b"", kind: str = "", word: bytes = b"", strict: bool = False,
-    ahead: bool = False
+    instance: bytes, solution: bytes, certificate: bytes = b"", kind: str = "", word: bytes = b"", strict: bool = False
 ) -> Result:
-    """A check, with a word for the length that is claimed, or none, with unknown keywords as a reason or not, and with
-    sections that the program doesn't read yet or not."""
+    """A check, with a word for the length that is claimed, or none, and with unknown keywords as a reason or not."""
     try:
         claim = whole(word, -(2**63), 2**63 - 1) if word else None
     except Wrong:
         return 4, b"", b"not a length\n"
-    found = judge_of([instance, solution, *([certificate] if kind else [])], kind, 2, ahead)
+    found = judge_of([instance, solution, *([certificate] if kind else [])], kind, 2)
     if len(found) == 3:
         return found
     judge, files = found

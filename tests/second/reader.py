@@ -33,11 +33,8 @@ OUTSIDE = ["EDGE_DATA_FORMAT", "EDGE_DATA_SECTION"]
 # In the order of the table, which is that of incomplete sections.
 SECTIONS = ["NODE_COORD_SECTION", "DISPLAY_DATA_SECTION", "DEMAND_SECTION", "DEPOT_SECTION", "FIXED_EDGES_SECTION",
             "EDGE_WEIGHT_SECTION", "TOUR_SECTION", "NODE_POTENTIAL_SECTION", "ROW_POTENTIAL_SECTION",
-            "COLUMN_POTENTIAL_SECTION", "FIXED_EDGE_POTENTIAL_SECTION", "COMB_SECTION", "BRANCH_SECTION"]
-# Sections of a certificate for routes that the program doesn't read yet. `read` takes them, in their place of the
-# table, if its word `ahead` says so.
-AHEAD = ["MEMORY_SECTION", "SUBSET_ROW_SECTION"]
-ALL_SECTIONS = [*SECTIONS[:-1], *AHEAD, SECTIONS[-1]]
+            "COLUMN_POTENTIAL_SECTION", "FIXED_EDGE_POTENTIAL_SECTION", "COMB_SECTION", "MEMORY_SECTION", "SUBSET_ROW_SECTION",
+            "BRANCH_SECTION"]
 GROUPS = {"DEMAND_SECTION": (0, 10**9), **dict.fromkeys(SECTIONS[7:10], (-(10**15), 10**15))}
 SPATIAL = {"NODE_COORD_TYPE": ["THREED_COORDS"], "EDGE_WEIGHT_TYPE": ["EUC_3D", "MAN_3D", "MAX_3D"]}
 
@@ -58,7 +55,6 @@ class File:
     comments: list[bytes] = field(default_factory=list)
     others: list[tuple[bytes, bytes]] = field(default_factory=list)
     sections: dict[str, Any] = field(default_factory=dict)
-    ahead: bool = False
 
     @property
     def type(self) -> str:
@@ -272,7 +268,7 @@ class Memory(Section):
         if node == -1:
             self.ended, self.in_list = not self.in_list, False
             return
-        if self.count == 1_000_000 or not self.in_list and len(self.lists) == 10_000:
+        if self.count == 1_000_000:
             raise Wrong("Surplus")
         self.count += 1
         if not self.in_list:
@@ -319,9 +315,8 @@ class Tree(Section):
     """The steps of a tree of cases: a branch is a pair of nodes or a family and its limit, a leaf a list of pairs of index
     and difference."""
 
-    def __init__(self, nodes: int, indices: int) -> None:
+    def __init__(self, nodes: int) -> None:
         super().__init__(nodes)
-        self.last = nodes + indices
         self.steps: list[tuple[str, list]] = []
         self.open = 1
         self.inside = ""  # what the next word goes on: nothing, "branch", "leaf" or "index"
@@ -341,7 +336,7 @@ class Tree(Section):
             self.steps[-1][1][-1].append(whole(word, -2 * 10**15, 2 * 10**15))
             self.inside = "leaf"
         elif self.inside == "leaf":
-            index = whole(word, -1, self.last, but=0)
+            index = whole(word, -1, self.nodes + 20_000, but=0)
             if index == -1:
                 self.inside, self.open = "", self.open - 1
                 return
@@ -390,7 +385,7 @@ def opened(name: str, file: File) -> Section:
     if name == "FIXED_EDGE_POTENTIAL_SECTION":
         return Listed(nodes, [node, lambda word: whole(word, 0, 10**15)])
     if name == "BRANCH_SECTION":
-        return Tree(nodes, 20_000 if file.ahead else 10_000)
+        return Tree(nodes)
     kinds = {"EDGE_WEIGHT_SECTION": Weights, "TOUR_SECTION": Tours, "COMB_SECTION": Combs, "MEMORY_SECTION": Memory,
              "SUBSET_ROW_SECTION": SubsetRows}
     return kinds[name](nodes)
@@ -408,9 +403,8 @@ def parts_of(line: bytes) -> tuple[str, bool, bytes]:
 class Reader:
     """A text that is read line by line."""
 
-    def __init__(self, ahead: bool = False) -> None:
-        self.file = File(ahead=ahead)
-        self.known = ALL_SECTIONS if ahead else SECTIONS
+    def __init__(self) -> None:
+        self.file = File()
         self.section: Section | None = None
 
     def word_line(self, line: bytes) -> bool:
@@ -421,7 +415,7 @@ class Reader:
         if keyword == "EOF":
             return True
         name = "FIXED_EDGES_SECTION" if keyword == "FIXED_EDGES" else keyword
-        if name in self.known:
+        if name in SECTIONS:
             self.open_section(name, value)
         elif name in OUTSIDE:
             raise Wrong("Outside")
@@ -520,7 +514,7 @@ def end_fault(file: File) -> str:
     """The end fault of a file whose lines have none, or nothing."""
     if name := missing(file):
         return f"Missing {name}"
-    for name in ALL_SECTIONS:
+    for name in SECTIONS:
         if name in file.sections and not file.sections[name].is_whole():
             return f"Incomplete {name}"
     values, sections = file.values, file.sections
@@ -563,9 +557,9 @@ def cell_count(layout: str, nodes: int) -> int:
     return nodes * (nodes + 1) // 2 if "DIAG" in layout else nodes * (nodes - 1) // 2
 
 
-def read(text: bytes, ahead: bool = False) -> File:
-    """The file of a text; Fault where it has one. With `ahead`, sections may come that the program doesn't read yet."""
-    reader = Reader(ahead)
+def read(text: bytes) -> File:
+    """The file of a text; Fault where it has one."""
+    reader = Reader()
     for number, line in enumerate(text.split(b"\n"), 1):
         if reader.line(number, line):
             break

@@ -4,7 +4,7 @@ from __future__ import annotations
 
 from math import isqrt
 
-from reader import ALL_SECTIONS, FINE, INSTANCES, LAYOUTS, File, cells, lines_of
+from reader import FINE, INSTANCES, LAYOUTS, SECTIONS, File, cells, lines_of
 
 KEYWORDS = ["DIMENSION", "CAPACITY", "SCALE", "LOAD_UNIT", "EDGE_WEIGHT_TYPE", "EDGE_WEIGHT_FORMAT", "NODE_COORD_TYPE",
             "DISPLAY_DATA_TYPE"]
@@ -63,7 +63,7 @@ def canonical(file: File) -> bytes:
     text += b"".join(keyword_line(keyword.decode("latin-1"), value) if keyword.isascii() else
                      keyword + b" :" + (b" " + value if value else b"") + b"\n" for keyword, value in file.others)
     text += b"".join(keyword_line(key, file.values[key]) for key in KEYWORDS if key in file.values)
-    for name in ALL_SECTIONS:
+    for name in SECTIONS:
         if name in file.sections:
             text += "".join(f"{line}\n" for line in [name, *section_lines(name, file)]).encode()
     return text + b"EOF\n"

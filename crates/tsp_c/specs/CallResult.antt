@@ -169,7 +169,7 @@ abbrev pub number_of_fault : LineFault → ℕ
 number_of_fault (line_faults.Number found) = number_fault_number found
 number_of_fault found = 0
 
--- the number of a field: its place in canonical order; LOAD_UNIT, which came later, has the next number
+-- the number of a field: its place in canonical order; fields that came later have the next numbers
 abbrev pub field_number : Field → ℕ
 field_number fields.NameKey = 1
 field_number fields.TypeKey = 2
@@ -196,6 +196,8 @@ field_number fields.FixedEdgePotentialPart = 22
 field_number fields.FamilyPart = 23
 field_number fields.BranchPart = 24
 field_number fields.LoadUnitKey = 25
+field_number fields.MemoryPart = 26
+field_number fields.SubsetRowPart = 27
 
 -- the field that is missing or incomplete at the end of a text; else 0
 abbrev pub field_of_fault : ReadFault → ℕ

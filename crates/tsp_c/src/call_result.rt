@@ -391,5 +391,7 @@ fn field_number(field: Field) -> u32
         Field::FamilyPart => 23,
         Field::BranchPart => 24,
         Field::LoadUnitKey => 25,
+        Field::MemoryPart => 26,
+        Field::SubsetRowPart => 27,
     }
 }

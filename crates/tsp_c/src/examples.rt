@@ -230,7 +230,8 @@ pub fn examples_of_field_numbers()
         ∷ fields.FixedEdgesPart ∷ fields.EdgeWeightPart ∷ fields.TourPart ∷ fields.NodePotentialPart ∷ fields.RowPotentialPart
         ∷ fields.ColumnPotentialPart ∷ fields.FixedEdgePotentialPart ∷ fields.FamilyPart ∷ fields.BranchPart ∷ [])
         ≡ 12 ∷ 13 ∷ 14 ∷ 15 ∷ 16 ∷ 17 ∷ 18 ∷ 19 ∷ 20 ∷ 21 ∷ 22 ∷ 23 ∷ 24 ∷ [] }
-    ensures later { field_number fields.LoadUnitKey ≡ 25 }
+    ensures later { map field_number (fields.LoadUnitKey ∷ fields.MemoryPart ∷ fields.SubsetRowPart ∷ [])
+        ≡ 25 ∷ 26 ∷ 27 ∷ [] }
     ensures missing { field_of_fault (read_faults.End (end_faults.Missing fields.TypeKey)) ≡ 2 }
     ensures incomplete { let call_result : CallResult = result_of_fault (run_faults.File 2
         (read_faults.End (end_faults.Incomplete fields.NodeCoordPart))) in

@@ -279,6 +279,8 @@ of_field fields.RowPotentialPart = one _ refl
 of_field fields.ColumnPotentialPart = one _ refl
 of_field fields.FixedEdgePotentialPart = one _ refl
 of_field fields.FamilyPart = one _ refl
+of_field fields.MemoryPart = one _ refl
+of_field fields.SubsetRowPart = one _ refl
 of_field fields.BranchPart = one _ refl
 
 of_number : (fault : NumberFault) → is_one (number_fault_text fault)

@@ -29,6 +29,8 @@ pub(crate) fn wanted(field: Field) -> &'static str {
         Field::ColumnPotentialPart => COLUMN_POTENTIAL,
         Field::FixedEdgePotentialPart => FIXED_EDGE_POTENTIAL,
         Field::FamilyPart => COMB,
+        Field::MemoryPart => MEMORY,
+        Field::SubsetRowPart => SUBSET_ROW,
         Field::BranchPart => BRANCH,
     }
 }
@@ -111,11 +113,19 @@ const COMB: &str =
     "COMB_SECTION lists combs of nodes from 1 to DIMENSION: a handle and its teeth, -1 at the end of each of these,\n\
     one more -1 after each comb, and one after the last: at most 10,000 combs, with 1,000,000 nodes in all.";
 
+const MEMORY: &str =
+    "MEMORY_SECTION lists what customers remember: a node from 1 to DIMENSION, the nodes that it remembers, and -1;\n\
+    one more -1 after the last list: at most 1,000,000 nodes in all.";
+
+const SUBSET_ROW: &str =
+    "SUBSET_ROW_SECTION lists subset rows: the nodes of a set, from 1 to DIMENSION, -1, further nodes or none, and -1;\n\
+    one more -1 after the last row: at most 10,000 rows, with 1,000,000 nodes in all.";
+
 const BRANCH: &str =
     "BRANCH_SECTION has one tree. Two different nodes from 1 to DIMENSION are a branch, before the tree of the tours\n\
     that use the pair and that of the tours that don't. For routes it is DIMENSION + k, with k from 1 to 10,000, and t\n\
     from 1 to DIMENSION, before the tree of those that cross family k at most 2 * t times and that of the others.\n\
-    0 begins a leaf: pairs of an index from 1 to DIMENSION + 10,000 and a whole difference from -2,000,000,000,000,000\n\
+    0 begins a leaf: pairs of an index from 1 to DIMENSION + 20,000 and a whole difference from -2,000,000,000,000,000\n\
     to 2,000,000,000,000,000, and -1 at its end.\n\
     There are at most 1,000,000 branches, and 10,000,000 differences.";
 
@@ -157,7 +167,9 @@ pub(crate) fn asked(field: Field) -> &'static str {
         | Field::DisplayDataPart
         | Field::FixedEdgesPart
         | Field::FixedEdgePotentialPart
-        | Field::FamilyPart => "No file needs it.",
+        | Field::FamilyPart
+        | Field::MemoryPart
+        | Field::SubsetRowPart => "No file needs it.",
     }
 }
 

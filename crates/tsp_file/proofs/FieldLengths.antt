@@ -1,5 +1,5 @@
 -- How long the text of each field is at most.
-use Rattle.tsp_file.proofs.Prelude.{◌≡◌, Bool, true, false, cond, List, [], ◌∷◌, Option, None, Some, refl, sym, subst, ℕ, ◌+◌, ◌≤◌, ◌++◌, length, arith, length-append, ◌*◌, ◌<◌, ℤ, pos, and_parts, leb-true, eqb-true, false≢true, sum_by-le-sum_by, decimal, signed_decimal, find, list_all, flat_map, sum_by, option_map, option_or, option_map_or, ◌&&◌, not, slice_index, ◌-◌, ◌==◌, nat_le, codes, neg_ℤ, unsigned_abs, spelling, Point, most_kept_bytes, shape_of, most_nodes, most_matrix_nodes, most_coordinate, most_weight, most_demand, most_capacity, most_scale, most_load_unit, most_potential, most_comments, most_others, most_depots, most_fixed, most_triples, most_multiplier, most_tour_nodes, field_word, fields_in_order, field_found, is_blank, IsFirstWithWord, kind_word, weight_kind_word, weight_format_word, coord_kind_word, display_kind_word, kinds, weight_kinds, weight_formats, coord_kinds, display_kinds, kind_found, weight_kind_found, weight_format_found, coord_kind_found, display_kind_found, Field, NameKey, TypeKey, CommentKey, OtherKey, DimensionKey, CapacityKey, ScaleKey, LoadUnitKey, EdgeWeightTypeKey, EdgeWeightFormatKey, NodeCoordTypeKey, DisplayDataTypeKey, NodeCoordPart, DisplayDataPart, DemandPart, DepotPart, FixedEdgesPart, EdgeWeightPart, TourPart, NodePotentialPart, RowPotentialPart, ColumnPotentialPart, FixedEdgePotentialPart, FamilyPart, BranchPart, WeightFormat}
+use Rattle.tsp_file.proofs.Prelude.{◌≡◌, Bool, true, false, cond, List, [], ◌∷◌, Option, None, Some, refl, sym, subst, ℕ, ◌+◌, ◌≤◌, ◌++◌, length, arith, length-append, ◌*◌, ◌<◌, ℤ, pos, and_parts, leb-true, eqb-true, false≢true, sum_by-le-sum_by, decimal, signed_decimal, find, list_all, flat_map, sum_by, option_map, option_or, option_map_or, ◌&&◌, not, slice_index, ◌-◌, ◌==◌, nat_le, codes, neg_ℤ, unsigned_abs, spelling, Point, most_kept_bytes, shape_of, most_nodes, most_matrix_nodes, most_coordinate, most_weight, most_demand, most_capacity, most_scale, most_load_unit, most_potential, most_comments, most_others, most_depots, most_fixed, most_triples, most_multiplier, most_tour_nodes, field_word, fields_in_order, field_found, is_blank, IsFirstWithWord, kind_word, weight_kind_word, weight_format_word, coord_kind_word, display_kind_word, kinds, weight_kinds, weight_formats, coord_kinds, display_kinds, kind_found, weight_kind_found, weight_format_found, coord_kind_found, display_kind_found, Field, NameKey, TypeKey, CommentKey, OtherKey, DimensionKey, CapacityKey, ScaleKey, LoadUnitKey, EdgeWeightTypeKey, EdgeWeightFormatKey, NodeCoordTypeKey, DisplayDataTypeKey, NodeCoordPart, DisplayDataPart, DemandPart, DepotPart, FixedEdgesPart, EdgeWeightPart, TourPart, NodePotentialPart, RowPotentialPart, ColumnPotentialPart, FixedEdgePotentialPart, FamilyPart, MemoryPart, SubsetRowPart, BranchPart, WeightFormat}
 use Rattle.std.proofs.Math.Nat.{mul-le-mul}
 use Rattle.std.proofs.lemmas.List.Concat.{length-flat_map}
 use Rattle.std.proofs.lemmas.Option.{none-some, same_Some}
@@ -7,17 +7,17 @@ use Rattle.std.specs.Ordering.{int_eq}
 use Rattle.std.specs.Str.{bytes_eq}
 use Rattle.tsp_number.proofs.Spelled.{spelling_short}
 use Rattle.tsp_format.specs.declared.keyword.Shape.{Shape}
-use Rattle.tsp_format.specs.declared.keyword.Shape.TheVariants.{Numbers, Points, SpacePoints, Depots, Pairs, Weights, Tours, Triples, Families, Steps}
+use Rattle.tsp_format.specs.declared.keyword.Shape.TheVariants.{Numbers, Points, SpacePoints, Depots, Pairs, Weights, Tours, Triples, Families, Memories, SubsetRows, Steps}
 use Rattle.tsp_format.specs.declared.kinds.CoordKind.{CoordKind}
 use Rattle.tsp_format.specs.declared.kinds.DisplayKind.{DisplayKind}
 use Rattle.tsp_format.specs.declared.kinds.Kind.{Kind}
 use Rattle.tsp_format.specs.declared.kinds.WeightKind.{WeightKind}
 use Rattle.tsp_file.proofs.TextLengths.{within_abs, three_parts, positive_short, between_short, decimal_short, node_short, flat_short_of, by_node_short, pair_list_short, triple_list_short, node_list_short, tours_short, matrix_lines_short}
-use Rattle.tsp_file.proofs.WrittenLines.{families_short, steps_short}
-use Rattle.tsp_file.specs.CanonicalText.{line_end, blank_before, value_line, keyword_line, other_line, number_line, section_text, lines_by_node, node_list, pair_list, triple_list, family_list, case_tree_lines, coordinate_words, whole_number, line_lens, matrix_lines, optional, text_of_section, text_of_field, text_of}
+use Rattle.tsp_file.proofs.WrittenLines.{families_short, memories_short, rows_short, steps_short}
+use Rattle.tsp_file.specs.CanonicalText.{line_end, blank_before, value_line, keyword_line, other_line, number_line, section_text, lines_by_node, node_list, pair_list, triple_list, family_lines, family_list, row_list, case_tree_lines, coordinate_words, whole_number, line_lens, matrix_lines, optional, text_of_section, text_of_field, text_of}
 use Rattle.tsp_file.specs.Fields.{Fields, spatial, numbers_in, points_in}
 use Rattle.tsp_file.specs.Rules.{standing_of, end_fault, fault_of}
-use Rattle.tsp_file.specs.Validity.{fits, first_failing, bad_field, is_kept, is_unknown_keyword, is_other, if_there, with_dimension, is_node, is_pair_of, is_triple_of, is_from_to, is_within, is_point, is_by_node, are_comments, are_others, are_depots, are_fixed, are_triples, fit_matrix, is_node_list, are_tours, are_family_lists, are_tree_steps, section_fits}
+use Rattle.tsp_file.specs.Validity.{fits, first_failing, bad_field, is_kept, is_unknown_keyword, is_other, if_there, with_dimension, is_node, is_pair_of, is_triple_of, is_from_to, is_within, is_point, is_by_node, are_comments, are_others, are_depots, are_fixed, are_triples, fit_matrix, is_node_list, are_tours, are_family_lists, are_memory_lists, are_subset_rows, are_tree_steps, section_fits}
 use Rattle.tsp_file.specs.declared.rules.DraftFault.{DraftFault}
 use Rattle.tsp_file.specs.declared.rules.DraftFault.TheVariants.{BadField, Rule}
 
@@ -294,6 +294,8 @@ most_of Weights = 375000029
 most_of Tours = 10000029
 most_of Triples = 3300029
 most_of Families = 10030032
+most_of Memories = 10000032
+most_of SubsetRows = 10030032
 most_of Steps = 269000034
 
 abbrev most_bytes : Field → ℕ
@@ -329,6 +331,10 @@ shape_short f field Triples short one fit =
     section_of_short field are_triples triple_list 3300000 triples_short f.dimension f.fixed_potentials one fit
 shape_short f field Families short one fit =
     section_of_short field are_family_lists family_list 10030003 families_short f.dimension f.families one fit
+shape_short f field Memories short one fit =
+    section_of_short field are_memory_lists family_lines 10000003 memories_short f.dimension f.memories one fit
+shape_short f field SubsetRows short one fit =
+    section_of_short field are_subset_rows row_list 10030003 rows_short f.dimension f.subset_rows one fit
 shape_short f field Steps short one fit =
     section_of_short field are_tree_steps case_tree_lines 269000005 steps_short f.dimension f.branches one fit
 
@@ -404,13 +410,15 @@ field_short f fit ColumnPotentialPart =
 field_short f fit FixedEdgePotentialPart =
     shape_short f FixedEdgePotentialPart Triples refl (fit DimensionKey) (fit FixedEdgePotentialPart)
 field_short f fit FamilyPart = shape_short f FamilyPart Families refl (fit DimensionKey) (fit FamilyPart)
+field_short f fit MemoryPart = shape_short f MemoryPart Memories refl (fit DimensionKey) (fit MemoryPart)
+field_short f fit SubsetRowPart = shape_short f SubsetRowPart SubsetRows refl (fit DimensionKey) (fit SubsetRowPart)
 field_short f fit BranchPart = shape_short f BranchPart Steps refl (fit DimensionKey) (fit BranchPart)
 
 pub text_short : (f : Fields) → fault_of f ≡ None → length (text_of f) < 750000000
 text_short f none =
     let fields = sum_by-le-sum_by (λ field. length (text_of_field f field)) most_bytes fields_in_order
     (field_short f (all_fit f none)) in
-    let total : sum_by most_bytes fields_in_order ≤ 710000000 = omega arith in
+    let total : sum_by most_bytes fields_in_order ≤ 730000000 = omega arith in
     omega (
       arith,
       length-append (flat_map (text_of_field f) fields_in_order) (codes "EOF" ++ line_end),
@@ -461,6 +469,8 @@ field_short_without_trees f fit families branches TourPart = field_short f fit T
 field_short_without_trees f fit families branches NodePotentialPart = field_short f fit NodePotentialPart
 field_short_without_trees f fit families branches RowPotentialPart = field_short f fit RowPotentialPart
 field_short_without_trees f fit families branches ColumnPotentialPart = field_short f fit ColumnPotentialPart
+field_short_without_trees f fit families branches MemoryPart = field_short f fit MemoryPart
+field_short_without_trees f fit families branches SubsetRowPart = field_short f fit SubsetRowPart
 field_short_without_trees f fit families branches FixedEdgePotentialPart = field_short f fit FixedEdgePotentialPart
 
 pub text_short_without_trees : (f : Fields) → fault_of f ≡ None → f.families ≡ None → f.branches ≡ None
@@ -468,7 +478,7 @@ pub text_short_without_trees : (f : Fields) → fault_of f ≡ None → f.famili
 text_short_without_trees f none families branches =
     let fields = sum_by-le-sum_by (λ field. length (text_of_field f field)) most_without_trees fields_in_order
     (field_short_without_trees f (all_fit f none) families branches) in
-    let total : sum_by most_without_trees fields_in_order ≤ 440000000 = omega arith in
+    let total : sum_by most_without_trees fields_in_order ≤ 460000000 = omega arith in
     omega (
       arith,
       length-append (flat_map (text_of_field f) fields_in_order) (codes "EOF" ++ line_end),

@@ -1,14 +1,14 @@
 -- The fields of a file after a change of its weights.
-use Rattle.tsp_file.proofs.Prelude.{◌≡◌, ℕ, suc, zero, ◌+◌, ◌-◌, ◌*◌, ◌/◌, ◌≤◌, Bool, true, false, cond, List, [], ◌∷◌, length, Option, None, Some, refl, sym, ap, subst, ◌∙◌, arith, ◌≢◌, ◌<◌, ◌++◌, map, take, ⊎_elim, false≢true, le-leb, eq-eqb, cases_lt, and_from, ints, length-map, get_or-map, length-append, get_or_append_left, get_or-append_right, ext_get_or, length-take-le, get_or-take, list_all-from_AllPass, mul-le, All, list_all, flat_map, CopiedTo, SameBelow, SameFrom, option_map, option_or, IsSome, unwrap_or, not, ◌&&◌, nat_le, ℤ, pos, neg_ℤ, int_le, slice_index_or as get_or, IsTrue, cells_counted, line_counted, most_matrix_nodes, most_weight, cells, cell_count_of, IsNode, nodes_to, cells_of_line, line_len_of, fields_in_order, IsSymmetric, Field, NameKey, TypeKey, CommentKey, OtherKey, DimensionKey, CapacityKey, ScaleKey, LoadUnitKey, EdgeWeightTypeKey, EdgeWeightFormatKey, NodeCoordTypeKey, DisplayDataTypeKey, NodeCoordPart, DisplayDataPart, DemandPart, DepotPart, FixedEdgesPart, EdgeWeightPart, TourPart, NodePotentialPart, RowPotentialPart, ColumnPotentialPart, FixedEdgePotentialPart, FamilyPart, BranchPart, WeightFormat, Listed, Layout, FullMatrix, UpperRow, LowerRow, UpperDiagRow, LowerDiagRow, UpperCol, LowerCol, UpperDiagCol, LowerDiagCol}
+use Rattle.tsp_file.proofs.Prelude.{◌≡◌, ℕ, suc, zero, ◌+◌, ◌-◌, ◌*◌, ◌/◌, ◌≤◌, Bool, true, false, cond, List, [], ◌∷◌, length, Option, None, Some, refl, sym, ap, subst, ◌∙◌, arith, ◌≢◌, ◌<◌, ◌++◌, map, take, ⊎_elim, false≢true, le-leb, eq-eqb, cases_lt, and_from, ints, length-map, get_or-map, length-append, get_or_append_left, get_or-append_right, ext_get_or, length-take-le, get_or-take, list_all-from_AllPass, mul-le, All, list_all, flat_map, CopiedTo, SameBelow, SameFrom, option_map, option_or, IsSome, unwrap_or, not, ◌&&◌, nat_le, ℤ, pos, neg_ℤ, int_le, slice_index_or as get_or, IsTrue, cells_counted, line_counted, most_matrix_nodes, most_weight, cells, cell_count_of, IsNode, nodes_to, cells_of_line, line_len_of, fields_in_order, IsSymmetric, Field, NameKey, TypeKey, CommentKey, OtherKey, DimensionKey, CapacityKey, ScaleKey, LoadUnitKey, EdgeWeightTypeKey, EdgeWeightFormatKey, NodeCoordTypeKey, DisplayDataTypeKey, NodeCoordPart, DisplayDataPart, DemandPart, DepotPart, FixedEdgesPart, EdgeWeightPart, TourPart, NodePotentialPart, RowPotentialPart, ColumnPotentialPart, FixedEdgePotentialPart, FamilyPart, MemoryPart, SubsetRowPart, BranchPart, SubsetRow, WeightFormat, Listed, Layout, FullMatrix, UpperRow, LowerRow, UpperDiagRow, LowerDiagRow, UpperCol, LowerCol, UpperDiagCol, LowerDiagCol}
 use Rattle.tsp_format.proofs.Places.{placed, line_at}
 use Rattle.tsp_file.proofs.FieldLengths.{all_fit}
 use Rattle.tsp_file.proofs.Relaid.{cost_of_cell, turned, line_more, lines_all, cost_within, all_within, of_file}
 use Rattle.tsp_file.proofs.ValidFields.{in_range, nodes_fit, no_field_missing, format_and_count, has_kind, has_instance, has_routing, has_tours, has_potentials, has_branches}
-use Rattle.tsp_file.specs.Cost.{listed_cost, cost, ListsWeights, HoldsItsType, AreMultipliersIn, AreSomeSets}
+use Rattle.tsp_file.specs.Cost.{listed_cost, cost, ListsWeights, HoldsItsType, AreMultipliersIn, AreSomeSets, AreSomeLists, AreSomeRows}
 use Rattle.tsp_file.specs.Fields.{Fields, spatial, nodes_of}
 use Rattle.tsp_file.specs.Relayout.{with_weights, HoldsPairs, CanGo, costs_in}
 use Rattle.tsp_file.specs.Rules.{standing_of, is_there, asked_in_order, is_count, has_wrong_format, has_wrong_count, end_fault, format_or_count, fault_of, is_routing, is_tour_file, is_potentials_file, is_branches_file}
-use Rattle.tsp_file.specs.Valid.{IsWithin, AreWeights, IsTripleOf, AreTriples, AreSets, AreFamilyLists}
+use Rattle.tsp_file.specs.Valid.{IsWithin, AreWeights, IsTripleOf, AreTriples, IsSetOf, AreSets, AreFamilyLists, AreMemoryLists, IsRowOf, AreSubsetRows}
 use Rattle.tsp_file.specs.Validity.{is_within, with_dimension, fit_matrix, fits, first_failing, bad_field}
 use Rattle.tsp_file.specs.declared.rules.DraftFault.TheVariants.{BadField, Rule}
 use Rattle.tsp_file.specs.declared.rules.EndFault.{EndFault}
@@ -97,6 +97,8 @@ each_fits_with f to weights valid fit RowPotentialPart = all_fit f valid RowPote
 each_fits_with f to weights valid fit ColumnPotentialPart = all_fit f valid ColumnPotentialPart
 each_fits_with f to weights valid fit FixedEdgePotentialPart = all_fit f valid FixedEdgePotentialPart
 each_fits_with f to weights valid fit FamilyPart = all_fit f valid FamilyPart
+each_fits_with f to weights valid fit MemoryPart = all_fit f valid MemoryPart
+each_fits_with f to weights valid fit SubsetRowPart = all_fit f valid SubsetRowPart
 each_fits_with f to weights valid fit BranchPart = all_fit f valid BranchPart
 
 count_right : (dimension : Option ℕ) (n : ℕ) (layout : Layout) (count : ℕ) → dimension ≡ Some n → count ≡ length (cells layout n)
@@ -295,6 +297,16 @@ pub families_hold : (f : Fields) (families : List (List (List ℕ))) → AreFami
 families_hold f families held =
     let same : held.n ≡ nodes_of f = sym (ap (λ (d : Option ℕ). unwrap_or d 0) held.dimension) in
     record { few = held.few; sets = subst (λ (n : ℕ). All (AreSets n) families) same held.sets; few_nodes = held.few_nodes }
+
+pub memories_hold : (f : Fields) (lists : List (List ℕ)) → AreMemoryLists f lists → AreSomeLists (nodes_of f) lists
+memories_hold f lists held =
+    let same : held.n ≡ nodes_of f = sym (ap (λ (d : Option ℕ). unwrap_or d 0) held.dimension) in
+    record { each = subst (λ (n : ℕ). All (IsSetOf n) lists) same held.each; few_nodes = held.few_nodes }
+
+pub rows_hold : (f : Fields) (rows : List SubsetRow) → AreSubsetRows f rows → AreSomeRows (nodes_of f) rows
+rows_hold f rows held =
+    let same : held.n ≡ nodes_of f = sym (ap (λ (d : Option ℕ). unwrap_or d 0) held.dimension) in
+    record { few = held.few; each = subst (λ (n : ℕ). All (IsRowOf n) rows) same held.each; few_nodes = held.few_nodes }
 
 pub multipliers_hold : (f : Fields) (triples : List (ℕ × ℕ × ℤ)) → AreTriples f triples → AreMultipliersIn f triples
 multipliers_hold f triples held =

@@ -1,5 +1,5 @@
 -- Which fields are valid, and that the first bad field is found.
-use Rattle.tsp_file.proofs.Prelude.{◌≡◌, ℕ, zero, suc, ◌+◌, [], ◌∷◌, ◌≤◌, Bool, true, false, List, length, map, refl, sym, ap, ◌∙◌, arith, ◌<◌, drop, ◌^◌, pos, ◌≤ℤ◌, to_z, of_z, FitsSigned, rules, ◌*◌, cond, Option, None, Some, subst, inl, inr, le-leb, false≢true, leb-true, eqb-true, and_parts, and_from, or_right, or_parts, ints, to_z-of_z, length-map, at_drop_more, list_all-map, list_all-from_AllPass, AllPass-from_list_all, w64, fold, list_all, sum_by, All, AllByRecursion, Contains, find, option_map, ◌&&◌, nat_le, replicate, ℤ, slice_index_or as get_or, not, ◌||◌, ◌==◌, IsTrue, IsSome, is_some, ◌⊎◌, neg_ℤ, int_le, Point, Contains-tail, most_tour_nodes, most_families, most_family_nodes, most_branches, most_changes, most_nodes, most_matrix_nodes, most_coordinate, most_weight, most_demand, most_capacity, most_scale, most_load_unit, most_potential, most_depots, most_fixed, most_triples, most_multiplier, most_difference, IsNode, cells, are_whole, branch_count, change_count, Step, Branch, Leaf, IsFromTo, Field, WeightFormat, ByFunction, Listed, Layout, step_of, steps_of}
+use Rattle.tsp_file.proofs.Prelude.{◌≡◌, ℕ, zero, suc, ◌+◌, [], ◌∷◌, ◌≤◌, Bool, true, false, List, length, map, refl, sym, ap, ◌∙◌, arith, ◌<◌, drop, ◌^◌, pos, ◌≤ℤ◌, to_z, of_z, FitsSigned, rules, ◌*◌, cond, Option, None, Some, subst, inl, inr, le-leb, false≢true, leb-true, eqb-true, and_parts, and_from, or_right, or_parts, ints, to_z-of_z, length-map, at_drop_more, list_all-map, list_all-from_AllPass, AllPass-from_list_all, w64, fold, list_all, sum_by, All, AllByRecursion, Contains, find, option_map, ◌&&◌, nat_le, replicate, ℤ, slice_index_or as get_or, not, ◌||◌, ◌==◌, IsTrue, IsSome, is_some, ◌⊎◌, neg_ℤ, int_le, Point, Contains-tail, most_tour_nodes, most_families, most_family_nodes, most_rows, most_branches, most_changes, most_nodes, most_matrix_nodes, most_coordinate, most_weight, most_demand, most_capacity, most_scale, most_load_unit, most_potential, most_depots, most_fixed, most_triples, most_multiplier, most_difference, IsNode, cells, are_whole, branch_count, change_count, Step, SubsetRow, row_size, Branch, Leaf, IsFromTo, Field, WeightFormat, ByFunction, Listed, Layout, step_of, steps_of}
 use Rattle.std.proofs.lemmas.Bool.Decides.{Decides-int_eq, nat_tests}
 use Rattle.std.proofs.lemmas.List.Elements.{All-weaker}
 use Rattle.std.specs.Global.{Vec}
@@ -13,8 +13,8 @@ use Rattle.tsp_format.specs.declared.steps.TreeStep.TheVariants as listed
 use Rattle.tsp_file.proofs.FieldLengths.{all_fit}
 use Rattle.tsp_file.specs.Fields.{Fields, spatial}
 use Rattle.tsp_file.specs.Rules.{standing_of, count_of, is_instance, is_routing, is_tour_file, is_potentials_file, is_branches_file, is_explicit, is_function, has_explicit_weights, is_there, asked_in_order, has_wrong_format, is_count, has_wrong_count, has_row_or_column, has_node_or_multiplier, end_fault, format_or_count, fault_of}
-use Rattle.tsp_file.specs.Valid.{IsWithin, IsByNode, IsThird, IsPoint, IsDemand, IsPairOf, IsNodeList, AreDepots, AreFixed, IsTripleOf, AreTriples, AreWeights, AreTours, IsInRange, HasInstance, HasRouting, HasPotentials, IsSetOf, AreSets, AreFamilyLists, IsChange, IsBranchOf, IsStep, AreTreeSteps, HasBranches}
-use Rattle.tsp_file.specs.Validity.{is_node_list, are_tours, is_set_of, are_sets, are_family_lists, is_step, are_tree_steps, is_from_to, if_there, is_within, is_node, with_dimension, is_by_node, is_third, is_point, is_demand, section_fits, are_depots, is_pair_of, are_fixed, is_triple_of, are_triples, fit_matrix, is_change, is_branch_of, fits, first_failing, bad_field}
+use Rattle.tsp_file.specs.Valid.{IsWithin, IsByNode, IsThird, IsPoint, IsDemand, IsPairOf, IsNodeList, AreDepots, AreFixed, IsTripleOf, AreTriples, AreWeights, AreTours, IsInRange, HasInstance, HasRouting, HasPotentials, IsSetOf, AreSets, AreFamilyLists, AreMemoryLists, IsRowOf, AreSubsetRows, IsChange, IsBranchOf, IsStep, AreTreeSteps, HasBranches}
+use Rattle.tsp_file.specs.Validity.{is_node_list, are_tours, is_set_of, are_sets, are_family_lists, are_memory_lists, is_row_of, are_subset_rows, is_step, are_tree_steps, is_from_to, if_there, is_within, is_node, with_dimension, is_by_node, is_third, is_point, is_demand, section_fits, are_depots, is_pair_of, are_fixed, is_triple_of, are_triples, fit_matrix, is_change, is_branch_of, fits, first_failing, bad_field}
 use Rattle.tsp_file.specs.declared.rules.DraftFault.TheVariants.{BadField, Rule}
 use Rattle.tsp_file.specs.declared.rules.EndFault.TheVariants.{Missing, WrongFormat, WrongCount}
 use Rattle.tsp_file.specs.states.Drafts.{families_of}
@@ -31,7 +31,7 @@ fold_mapped : {X Y : Type 0} (f : X → ℕ) (h : Y → X) (total : ℕ) (ys : L
 fold_mapped f h total [] = refl
 fold_mapped f h total (y ∷ ys) = fold_mapped f h (total + f (h y)) ys
 
-sum_by_mapped : {X Y : Type 0} (f : X → ℕ) (h : Y → X) (ys : List Y) → sum_by f (map h ys) ≡ sum_by (λ y. f (h y)) ys
+pub sum_by_mapped : {X Y : Type 0} (f : X → ℕ) (h : Y → X) (ys : List Y) → sum_by f (map h ys) ≡ sum_by (λ y. f (h y)) ys
 sum_by_mapped f h ys = fold_mapped f h 0 ys
 
 pub mapped_tours : (tours : List (Vec ℕ)) (r : Bool)
@@ -326,10 +326,41 @@ families_in f families e stands =
       few_nodes = leb-true (sum_by (sum_by length) families) most_family_nodes two.1;
     }
 
+memories_in : (f : Fields) (lists : List (List ℕ)) → fits f fields.MemoryPart ≡ true → f.memories ≡ Some lists → AreMemoryLists f lists
+memories_in f lists e stands =
+    let held = dimensioned are_memory_lists f.dimension lists (given (with_dimension are_memory_lists f.dimension) f.memories lists e stands) in
+    let two = and_parts (list_all (is_set_of held.0) lists) (nat_le (sum_by length lists) most_family_nodes) held.2 in
+    record {
+      n = held.0;
+      dimension = held.1;
+      each = all_so (is_set_of held.0) (IsSetOf held.0) (set_of held.0) lists two.0;
+      few_nodes = leb-true (sum_by length lists) most_family_nodes two.1;
+    }
+
+row_in : (n : ℕ) (row : SubsetRow) → is_row_of n row ≡ true → IsRowOf n row
+row_in n row e =
+    let two = and_parts (is_set_of n row.set) (list_all (is_node n) row.further) e in
+    (set_of n row.set two.0, all_so (is_node n) (IsNode n) (node n) row.further two.1)
+
+rows_in : (f : Fields) (rows : List SubsetRow) → fits f fields.SubsetRowPart ≡ true → f.subset_rows ≡ Some rows → AreSubsetRows f rows
+rows_in f rows e stands =
+    let held = dimensioned are_subset_rows f.dimension rows (given (with_dimension are_subset_rows f.dimension) f.subset_rows rows e stands) in
+    let few = nat_le (length rows) most_rows in
+    let nodes = nat_le (sum_by row_size rows) most_family_nodes in
+    let two = and_parts (few && list_all (is_row_of held.0) rows) nodes held.2 in
+    let first = and_parts few (list_all (is_row_of held.0) rows) two.0 in
+    record {
+      n = held.0;
+      dimension = held.1;
+      few = leb-true (length rows) most_rows first.0;
+      each = all_so (is_row_of held.0) (IsRowOf held.0) (row_in held.0) rows first.1;
+      few_nodes = leb-true (sum_by row_size rows) most_family_nodes two.1;
+    }
+
 change : (n : ℕ) (entry : ℕ × ℤ) → is_change n entry ≡ true → IsChange n entry
 change n entry e =
-    let two = and_parts (is_node (n + most_families) entry.0) (is_within most_difference entry.1) e in
-    (node (n + most_families) entry.0 two.0, within most_difference entry.1 two.1)
+    let two = and_parts (is_node (n + most_families + most_rows) entry.0) (is_within most_difference entry.1) e in
+    (node (n + most_families + most_rows) entry.0 two.0, within most_difference entry.1 two.1)
 
 branch : (n : ℕ) (entry : ℕ × ℕ) → is_branch_of n entry ≡ true → IsBranchOf n entry
 branch n entry e =
@@ -419,6 +450,8 @@ in_range f valid = record {
       (all_fit f valid fields.ColumnPotentialPart);
   fixed_potentials = λ triples. triples_in f triples (all_fit f valid fields.FixedEdgePotentialPart);
   families = λ families. families_in f families (all_fit f valid fields.FamilyPart);
+  memories = λ lists. memories_in f lists (all_fit f valid fields.MemoryPart);
+  subset_rows = λ rows. rows_in f rows (all_fit f valid fields.SubsetRowPart);
   branches = λ steps. steps_in f steps (all_fit f valid fields.BranchPart);
 }
 

@@ -1,12 +1,12 @@
 -- Lines, digits, blocks and matrices as they are written, part by part.
-use Rattle.tsp_file.proofs.Prelude.{◌≡◌, ℕ, ◌==◌, true, false, List, [], ◌∷◌, ◌++◌, length, map, sym, subst, append_assoc, arith, zero, suc, ◌+◌, ◌-◌, ◌*◌, ◌/◌, ◌%◌, ◌^◌, ◌<◌, ◌≤◌, drop, max, refl, ap, ◌∙◌, inl, inr, length-append, take, min, cases_lt, and_parts, leb-true, false≢true, drop-drop, drop_at, drop-append-le, take_min, drop_min, take-append-drop, drop_all, flat_map-map, sum_by-cons, signed_decimal, decimal, flat_map, range_with_len, list_all, sum_by, ℤ, ◌&&◌, not, nat_le, codes, carried_none, carried_then, carried_failed, Way, Carried, most_nodes, most_families, most_family_nodes, most_branches, most_changes, most_difference, nodes_to, Step, Branch, Leaf, are_whole, branch_count, change_count, field_word, Field}
+use Rattle.tsp_file.proofs.Prelude.{◌≡◌, ℕ, ◌==◌, true, false, List, [], ◌∷◌, ◌++◌, length, map, sym, subst, append_assoc, arith, zero, suc, ◌+◌, ◌-◌, ◌*◌, ◌/◌, ◌%◌, ◌^◌, ◌<◌, ◌≤◌, drop, max, refl, ap, ◌∙◌, inl, inr, length-append, take, min, cases_lt, and_parts, leb-true, false≢true, drop-drop, drop_at, drop-append-le, take_min, drop_min, take-append-drop, drop_all, flat_map-map, sum_by-cons, signed_decimal, decimal, flat_map, range_with_len, list_all, sum_by, ℤ, ◌&&◌, not, nat_le, codes, carried_none, carried_then, carried_failed, Way, Carried, most_nodes, most_families, most_family_nodes, most_rows, most_branches, most_changes, most_difference, nodes_to, Step, SubsetRow, row_size, Branch, Leaf, are_whole, branch_count, change_count, field_word, Field}
 use Rattle.std.proofs.Math.Nat.{pow-suc}
 use Rattle.std.proofs.lemmas.Bool.Decides.{nat_tests}
 use Rattle.std.proofs.lemmas.Fmt.{decimal_digit, decimal_step, length-decimal-le}
 use Rattle.std.proofs.lemmas.Grind.{flat_map-append}
 use Rattle.tsp_file.proofs.TextLengths.{three_parts, within_short, node_short, flat_short, line_of_two_short}
-use Rattle.tsp_file.specs.CanonicalText.{blank_before, line_end, number_line, section_text, weight_line, matrix_lines, before_blank, set_line, family_lines, family_list, change_words, step_line, case_tree_lines}
-use Rattle.tsp_file.specs.Validity.{is_within, is_node, is_set_of, are_sets, are_family_lists, is_change, is_step, are_tree_steps}
+use Rattle.tsp_file.specs.CanonicalText.{blank_before, line_end, number_line, section_text, weight_line, matrix_lines, before_blank, set_line, family_lines, family_list, row_lines, row_list, change_words, step_line, case_tree_lines}
+use Rattle.tsp_file.specs.Validity.{is_within, is_node, is_set_of, are_sets, are_family_lists, are_memory_lists, is_row_of, are_subset_rows, is_change, is_step, are_tree_steps}
 
 -- no value, and no blank before it
 pub no_value : (a b : Way) (value : List ℕ) → (length value == 0) ≡ true → Carried a b [] → Carried a b (blank_before value)
@@ -371,6 +371,54 @@ families_short n families most fits =
     let few_nodes = leb-true (sum_by (sum_by length) families) most_family_nodes parts.2 in
     omega (arith, few, few_nodes, each_family_short n most families parts.1, end_after (flat_map family_lines families))
 
+-- the lists of a memory, none of them empty
+pub memories_short : (n : ℕ) (lists : List (List ℕ)) → n ≤ most_nodes → are_memory_lists n lists ≡ true
+    → length (family_lines lists) ≤ 10000003
+memories_short n lists most fits =
+    let parts = and_parts (list_all (is_set_of n) lists) (nat_le (sum_by length lists) most_family_nodes) fits in
+    let few = leb-true (sum_by length lists) most_family_nodes parts.1 in
+    omega (arith, few, sets_short n most lists parts.0, end_after (flat_map set_line lists))
+
+-- nodes that may be none
+further_short : (n : ℕ) → n ≤ most_nodes → (set : List ℕ) → list_all (is_node n) set ≡ true
+    → length (set_line set) ≤ 10 * length set + 3
+further_short n most set fits =
+    let nodes = flat_short (is_node n) (λ node. before_blank (decimal node)) 7
+    (λ node fit. blank_after (decimal node) 6 (node_short n node most fit)) set fits in
+    omega (
+      arith,
+      nodes,
+      ap length (flat_map-map before_blank decimal set),
+      end_after (flat_map before_blank (map decimal set)),
+    )
+
+each_row_short : (n : ℕ) → n ≤ most_nodes → (rows : List SubsetRow) → list_all (is_row_of n) rows ≡ true
+    → length (flat_map row_lines rows) ≤ 10 * sum_by row_size rows + 3 * length rows
+each_row_short n most [] all = omega arith
+each_row_short n most (row ∷ rows) all =
+    let parts = and_parts (is_row_of n row) (list_all (is_row_of n) rows) all in
+    let two = and_parts (is_set_of n row.set) (list_all (is_node n) row.further) parts.0 in
+    let sum : sum_by row_size (row ∷ rows) ≡ row_size row + sum_by row_size rows = sum_by-cons row_size row rows in
+    omega (
+      arith,
+      length-append (row_lines row) (flat_map row_lines rows),
+      length-append (set_line row.set) (set_line row.further),
+      set_short n most row.set two.0,
+      further_short n most row.further two.1,
+      each_row_short n most rows parts.1,
+      sum,
+    )
+
+-- each of 1,000,000 nodes in at most 10 bytes, and 3 bytes for each of 10,000 rows
+pub rows_short : (n : ℕ) (rows : List SubsetRow) → n ≤ most_nodes → are_subset_rows n rows ≡ true
+    → length (row_list rows) ≤ 10030003
+rows_short n rows most fits =
+    let parts = three_parts (nat_le (length rows) most_rows) (list_all (is_row_of n) rows)
+    (nat_le (sum_by row_size rows) most_family_nodes) fits in
+    let few = leb-true (length rows) most_rows parts.0 in
+    let few_nodes = leb-true (sum_by row_size rows) most_family_nodes parts.2 in
+    omega (arith, few, few_nodes, each_row_short n most rows parts.1, end_after (flat_map row_lines rows))
+
 -- ---- steps
 
 -- an index of at most 110,000
@@ -379,11 +427,19 @@ index_short n index most fits =
     let upper = leb-true index (n + most_families) (and_parts (nat_le 1 index) (nat_le index (n + most_families)) fits).1 in
     length-decimal-le 6 index (omega arith) (omega (arith, most, upper)) (omega (arith, most, upper))
 
+-- an index of at most 120,000
+leaf_index_short : (n index : ℕ) → n ≤ most_nodes → is_node (n + most_families + most_rows) index ≡ true
+    → length (decimal index) ≤ 6
+leaf_index_short n index most fits =
+    let last = n + most_families + most_rows in
+    let upper = leb-true index last (and_parts (nat_le 1 index) (nat_le index last) fits).1 in
+    length-decimal-le 6 index (omega arith) (omega (arith, most, upper)) (omega (arith, most, upper))
+
 change_short : (n : ℕ) → n ≤ most_nodes → (change : ℕ × ℤ) → is_change n change ≡ true
     → length (flat_map before_blank (change_words change)) ≤ 25
 change_short n most change fits =
-    let parts = and_parts (is_node (n + most_families) change.0) (is_within most_difference change.1) fits in
-    let index = blank_after (decimal change.0) 6 (index_short n change.0 most parts.0) in
+    let parts = and_parts (is_node (n + most_families + most_rows) change.0) (is_within most_difference change.1) fits in
+    let index = blank_after (decimal change.0) 6 (leaf_index_short n change.0 most parts.0) in
     let difference = blank_after (signed_decimal change.1) 17
     (within_short 16 most_difference change.1 (omega arith) (omega arith) parts.1) in
     omega (

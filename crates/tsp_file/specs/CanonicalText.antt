@@ -1,11 +1,11 @@
 -- The canonical text of a file: the texts of its fields in canonical order, then the line EOF. A field that is missing
 -- has no text.
-use Rattle.tsp_file.specs.Prelude.{ℕ, Bool, true, false, cond, List, [], take, drop, map, length, codes, Option, Some, None, ℤ, option_map_or, flat_map, enumerate_from, decimal, Point, WeightFormat, Listed, Field, NameKey, TypeKey, CommentKey, OtherKey, DimensionKey, EdgeWeightTypeKey, EdgeWeightFormatKey, NodeCoordTypeKey, DisplayDataTypeKey, shape_of, value_shape_of, field_word, kind_word, weight_kind_word, weight_format_word, coord_kind_word, display_kind_word, fields_in_order, nodes_to, cells_of_line, Step, Branch, Leaf}
+use Rattle.tsp_file.specs.Prelude.{ℕ, Bool, true, false, cond, List, [], take, drop, map, length, codes, Option, Some, None, ℤ, option_map_or, flat_map, enumerate_from, decimal, Point, WeightFormat, Listed, Field, NameKey, TypeKey, CommentKey, OtherKey, DimensionKey, EdgeWeightTypeKey, EdgeWeightFormatKey, NodeCoordTypeKey, DisplayDataTypeKey, shape_of, value_shape_of, field_word, kind_word, weight_kind_word, weight_format_word, coord_kind_word, display_kind_word, fields_in_order, nodes_to, cells_of_line, Step, SubsetRow, Branch, Leaf}
 use Rattle.std.specs.Prelude.{◌∷◌, ◌++◌}
 use Rattle.std.specs.Fmt.{signed_decimal}
 use Rattle.tsp_number.specs.NumberWord.{spelling}
 use Rattle.tsp_format.specs.declared.keyword.Shape.{Shape}
-use Rattle.tsp_format.specs.declared.keyword.Shape.TheVariants.{Numbers, Points, SpacePoints, Depots, Pairs, Weights, Tours, Triples, Families, Steps}
+use Rattle.tsp_format.specs.declared.keyword.Shape.TheVariants.{Numbers, Points, SpacePoints, Depots, Pairs, Weights, Tours, Triples, Families, Memories, SubsetRows, Steps}
 use Rattle.tsp_format.specs.declared.keyword.ValueShape.{ValueShape}
 use Rattle.tsp_format.specs.declared.keyword.ValueShape.TheVariants.{Kept, KeptEach, Number, Word}
 use Rattle.tsp_file.specs.Fields.{Fields, spatial, one_number_in, numbers_in, points_in}
@@ -76,13 +76,21 @@ triple_list triples =
 abbrev pub set_line : List ℕ → List ℕ
 set_line set = ended_line (map decimal set)
 
--- a line for each set of a family, then the line -1
+-- a line for each set of a family, or for each list of a memory, then the line -1
 abbrev pub family_lines : List (List ℕ) → List ℕ
 family_lines family = ended_by_mark (flat_map set_line family)
 
 -- all families, then one more line -1
 abbrev pub family_list : List (List (List ℕ)) → List ℕ
 family_list families = ended_by_mark (flat_map family_lines families)
+
+-- the two lines of a subset row: its set, and its further nodes
+abbrev pub row_lines : SubsetRow → List ℕ
+row_lines row = set_line row.set ++ set_line row.further
+
+-- all rows, then the line -1
+abbrev pub row_list : List SubsetRow → List ℕ
+row_list rows = ended_by_mark (flat_map row_lines rows)
 
 -- the index of a number, and its difference
 abbrev pub change_words : ℕ × ℤ → List (List ℕ)
@@ -144,6 +152,8 @@ text_of_section f field Weights =
 text_of_section f field Tours = optional (λ tours. section_text field (flat_map node_list tours)) f.tours
 text_of_section f field Triples = optional (λ triples. section_text field (triple_list triples)) f.fixed_potentials
 text_of_section f field Families = optional (λ families. section_text field (family_list families)) f.families
+text_of_section f field Memories = optional (λ lists. section_text field (family_lines lists)) f.memories
+text_of_section f field SubsetRows = optional (λ rows. section_text field (row_list rows)) f.subset_rows
 text_of_section f field Steps = optional (λ steps. section_text field (case_tree_lines steps)) f.branches
 
 -- the text of a keyword whose value is a number; the others have their text in `text_of_field`

@@ -1,12 +1,12 @@
 -- Circles 2 and 3 of docs/trust.md.
 -- The cost from one node of an instance to another, from the fields that a file of its TYPE has or lacks.
-use Rattle.tsp_file.specs.Prelude.{All, sum_by, option_map, option_or, pos, ℕ, false, List, length, Some, None, ℤ, [], Option, unwrap_or, IsSome, IsTrue, slice_index_or, on_plane, euc_2d_of, ceil_2d_of, man_2d_of, max_2d_of, att_of, euc_3d_of, man_3d_of, max_3d_of, Point, most_matrix_nodes, most_weight, most_capacity, most_scale, most_load_unit, most_potential, most_triples, most_families, most_family_nodes, is_listed, cells, Step, IsFromTo, WeightFormat, Listed, ByFunction, WeightKind, Explicit, Euc2d, Ceil2d, Man2d, Max2d, Att, Euc3d, Man3d, Max3d, Layout, FullMatrix}
+use Rattle.tsp_file.specs.Prelude.{All, sum_by, option_map, option_or, pos, ℕ, false, List, length, Some, None, ℤ, [], Option, unwrap_or, IsSome, IsTrue, slice_index_or, on_plane, euc_2d_of, ceil_2d_of, man_2d_of, max_2d_of, att_of, euc_3d_of, man_3d_of, max_3d_of, Point, most_matrix_nodes, most_weight, most_capacity, most_scale, most_load_unit, most_potential, most_triples, most_families, most_family_nodes, most_rows, is_listed, cells, Step, SubsetRow, row_size, IsFromTo, WeightFormat, Listed, ByFunction, WeightKind, Explicit, Euc2d, Ceil2d, Man2d, Max2d, Att, Euc3d, Man3d, Max3d, Layout, FullMatrix}
 use Rattle.std.specs.Prelude.{◌≡◌, ◌≤◌, ◌-◌}
 use Rattle.tsp_format.specs.Place.{place_of}
 use Rattle.tsp_format.specs.declared.kinds.Kind.TheVariants as kinds
 use Rattle.tsp_file.specs.Fields.{Fields, nodes_of}
 use Rattle.tsp_file.specs.Rules.{is_instance}
-use Rattle.tsp_file.specs.Valid.{IsWithin, IsInRange, HasInstance, HasRouting, HasPotentials, HasBranches, IsByNode, IsDemand, IsTripleOf, AreDepots, AreSets, AreTreeSteps}
+use Rattle.tsp_file.specs.Valid.{IsWithin, IsInRange, HasInstance, HasRouting, HasPotentials, HasBranches, IsByNode, IsDemand, IsTripleOf, AreDepots, IsSetOf, AreSets, IsRowOf, AreTreeSteps}
 
 -- the point whose coordinates are 0
 abbrev pub origin : Point
@@ -53,6 +53,14 @@ multipliers_in f = unwrap_or f.fixed_potentials []
 -- the families of a tree of cases, each as its sets, the handle first; none without their section
 abbrev pub families_listed : Fields → List (List (List ℕ))
 families_listed f = unwrap_or f.families []
+
+-- the lists of what customers remember, the customer first; none without their section
+abbrev pub memories_listed : Fields → List (List ℕ)
+memories_listed f = unwrap_or f.memories []
+
+-- the subset rows; none without their section
+abbrev pub rows_listed : Fields → List SubsetRow
+rows_listed f = unwrap_or f.subset_rows []
 
 -- ---- the fields that a file of each TYPE always has, with their ranges
 
@@ -106,6 +114,24 @@ pub record AreSomeSets (n : ℕ) (families : List (List (List ℕ))) : Type 0 wh
   pub few : length families ≤ most_families
   pub sets : All (AreSets n) families
   pub few_nodes : sum_by (sum_by length) families ≤ most_family_nodes
+
+-- lists as a file has them: with as many nodes as the limit allows, none of them empty
+pub record AreSomeLists (n : ℕ) (lists : List (List ℕ)) : Type 0 where
+  pub each : All (IsSetOf n) lists
+  pub few_nodes : sum_by length lists ≤ most_family_nodes
+
+-- subset rows as a file has them: as many as the limits allow, each of nodes, and its set isn't empty
+pub record AreSomeRows (n : ℕ) (rows : List SubsetRow) : Type 0 where
+  pub few : length rows ≤ most_rows
+  pub each : All (IsRowOf n) rows
+  pub few_nodes : sum_by row_size rows ≤ most_family_nodes
+
+-- the memories and the subset rows of a file, or none of them
+pub record HoldsMemory (f : Fields) (lists : List (List ℕ)) (rows : List SubsetRow) : Type 0 where
+  pub lists_kept : lists ≡ memories_listed f
+  pub rows_kept : rows ≡ rows_listed f
+  pub each_list : AreSomeLists (nodes_of f) lists
+  pub each_row : AreSomeRows (nodes_of f) rows
 
 -- the fields of a tree of cases, with the scale, the load unit and the families, or their defaults
 pub record HoldsCases (f : Fields) (scale load_unit : ℤ) (families : List (List (List ℕ))) (steps : List Step) : Type 0 where

@@ -1,6 +1,6 @@
 -- Small files on which the definitions are evaluated: files that lack fields or have wrong ones, matrices in several
 -- layouts, and a text with a field of each sort.
-use Rattle.tsp_file.specs.Prelude.{[], Some, pos, ℕ, List, ℤ, negsuc, codes, on_plane, Branch, Leaf, Field, ByFunction, Listed, Explicit, Euc2d, Layout, FullMatrix, LowerDiagRow}
+use Rattle.tsp_file.specs.Prelude.{[], Some, pos, ℕ, List, ℤ, negsuc, codes, on_plane, SubsetRow, Branch, Leaf, Field, ByFunction, Listed, Explicit, Euc2d, Layout, FullMatrix, LowerDiagRow}
 use Rattle.std.specs.Prelude.{◌∷◌, ◌≡◌, ◌++◌}
 use Rattle.tsp_format.specs.declared.kinds.CoordKind.TheVariants as coord_kinds
 use Rattle.tsp_format.specs.declared.kinds.DisplayKind.TheVariants as display_kinds
@@ -136,6 +136,10 @@ LaysOutAs from to weights =
 
 -- ---- a small file with a field of each sort, which no valid file has, and its canonical text
 
+-- a row of these lists
+abbrev pub row : List ℕ → List ℕ → SubsetRow
+row set further = record { set = set; further = further }
+
 -- a file with a field of each sort
 abbrev pub small : Fields
 small = record blank_fields {
@@ -163,6 +167,8 @@ small = record blank_fields {
   column_potentials = Some (pos 3 ∷ pos 4 ∷ []);
   fixed_potentials = Some ((1, 2, pos 7) ∷ []);
   families = Some (((1 ∷ 2 ∷ 3 ∷ []) ∷ (1 ∷ 4 ∷ []) ∷ []) ∷ ((2 ∷ []) ∷ []) ∷ []);
+  memories = Some ((3 ∷ 4 ∷ 5 ∷ []) ∷ (2 ∷ []) ∷ []);
+  subset_rows = Some (row (2 ∷ 3 ∷ []) [] ∷ row (4 ∷ []) (2 ∷ 5 ∷ []) ∷ []);
   branches = Some (Branch 1 2 ∷ Leaf ((2, pos 1) ∷ (7, negsuc 2) ∷ []) ∷ Leaf [] ∷ []);
 }
 
@@ -178,6 +184,7 @@ small_text = codes "NAME : x y\n" ++ codes "TYPE : TSP\n" ++ codes "COMMENT : a\
     ++ codes "TOUR_SECTION\n2\n1\n-1\n1\n-1\n" ++ codes "NODE_POTENTIAL_SECTION\n1 0\n2 -2\n"
     ++ codes "ROW_POTENTIAL_SECTION\n1 1\n2 2\n" ++ codes "COLUMN_POTENTIAL_SECTION\n1 3\n2 4\n"
     ++ codes "FIXED_EDGE_POTENTIAL_SECTION\n1 2 7\n-1\n" ++ codes "COMB_SECTION\n1 2 3 -1\n1 4 -1\n-1\n2 -1\n-1\n-1\n"
+    ++ codes "MEMORY_SECTION\n3 4 5 -1\n2 -1\n-1\n" ++ codes "SUBSET_ROW_SECTION\n2 3 -1\n-1\n4 -1\n2 5 -1\n-1\n"
     ++ codes "BRANCH_SECTION\n1 2\n0 2 1 7 -3 -1\n0 -1\n" ++ codes "EOF\n"
 
 -- a node in space, which is shown on a plane
@@ -196,6 +203,10 @@ two_tours = record blank_fields { kind = Some kinds.Tour; dimension = Some 2; to
 -- a file whose list of families is empty
 abbrev pub without_families : Fields
 without_families = record blank_fields { families = Some [] }
+
+-- a file whose memory and whose rows are empty
+abbrev pub without_memory : Fields
+without_memory = record blank_fields { memories = Some []; subset_rows = Some [] }
 
 -- the text of the field in the small file
 abbrev pub IsSmallText : Field → List ℕ → Type 0

@@ -1,6 +1,6 @@
 -- Circles 1 and 2 of docs/trust.md.
 -- The fields of a file, as lists and numbers.
-use Rattle.tsp_file.specs.Prelude.{ℕ, Bool, true, List, [], Option, None, Some, unwrap_or, ℤ, pos, nat_abs, is_some, option_map, Point, Field, NameKey, TypeKey, CommentKey, OtherKey, DimensionKey, CapacityKey, ScaleKey, LoadUnitKey, EdgeWeightTypeKey, EdgeWeightFormatKey, NodeCoordTypeKey, DisplayDataTypeKey, NodeCoordPart, DisplayDataPart, DemandPart, DepotPart, FixedEdgesPart, EdgeWeightPart, TourPart, NodePotentialPart, RowPotentialPart, ColumnPotentialPart, FixedEdgePotentialPart, FamilyPart, BranchPart, is_spatial, WeightKind, WeightFormat, Step}
+use Rattle.tsp_file.specs.Prelude.{ℕ, Bool, true, List, [], Option, None, Some, unwrap_or, ℤ, pos, nat_abs, is_some, option_map, Point, Field, NameKey, TypeKey, CommentKey, OtherKey, DimensionKey, CapacityKey, ScaleKey, LoadUnitKey, EdgeWeightTypeKey, EdgeWeightFormatKey, NodeCoordTypeKey, DisplayDataTypeKey, NodeCoordPart, DisplayDataPart, DemandPart, DepotPart, FixedEdgesPart, EdgeWeightPart, TourPart, NodePotentialPart, RowPotentialPart, ColumnPotentialPart, FixedEdgePotentialPart, FamilyPart, MemoryPart, SubsetRowPart, BranchPart, is_spatial, WeightKind, WeightFormat, Step, SubsetRow}
 use Rattle.tsp_format.specs.declared.kinds.Kind.{Kind}
 use Rattle.tsp_format.specs.declared.kinds.CoordKind.{CoordKind}
 use Rattle.tsp_format.specs.declared.kinds.DisplayKind.{DisplayKind}
@@ -31,6 +31,8 @@ pub record Fields : Type 0 where
   pub column_potentials : Option (List ℤ)
   pub fixed_potentials : Option (List (ℕ × ℕ × ℤ))
   pub families : Option (List (List (List ℕ)))
+  pub memories : Option (List (List ℕ))
+  pub subset_rows : Option (List SubsetRow)
   pub branches : Option (List Step)
 
 -- no field is set
@@ -60,6 +62,8 @@ blank_fields = record {
   column_potentials = None;
   fixed_potentials = None;
   families = None;
+  memories = None;
+  subset_rows = None;
   branches = None;
 }
 
@@ -97,6 +101,8 @@ stands_in f RowPotentialPart = is_some f.row_potentials
 stands_in f ColumnPotentialPart = is_some f.column_potentials
 stands_in f FixedEdgePotentialPart = is_some f.fixed_potentials
 stands_in f FamilyPart = is_some f.families
+stands_in f MemoryPart = is_some f.memories
+stands_in f SubsetRowPart = is_some f.subset_rows
 stands_in f BranchPart = is_some f.branches
 
 -- ---- keywords with a number, by their field

@@ -1,5 +1,5 @@
 -- What always holds of a valid file: its fields are in these ranges, and it has those that its TYPE asks for.
-use Rattle.tsp_file.specs.Prelude.{ℕ, Bool, true, false, List, length, None, Some, IsSome, ℤ, pos, neg_ℤ, All, sum_by, Point, Layout, Listed, IsFromTo, Step, Branch, Leaf, are_whole, branch_count, change_count, IsNode, cells, most_nodes, most_matrix_nodes, most_coordinate, most_weight, most_demand, most_capacity, most_scale, most_load_unit, most_potential, most_depots, most_fixed, most_triples, most_multiplier, most_tour_nodes, most_families, most_family_nodes, most_branches, most_changes, most_difference}
+use Rattle.tsp_file.specs.Prelude.{ℕ, Bool, true, false, List, length, None, Some, IsSome, ℤ, pos, neg_ℤ, All, sum_by, Point, Layout, Listed, IsFromTo, Step, SubsetRow, row_size, Branch, Leaf, are_whole, branch_count, change_count, IsNode, cells, most_nodes, most_matrix_nodes, most_coordinate, most_weight, most_demand, most_capacity, most_scale, most_load_unit, most_potential, most_depots, most_fixed, most_triples, most_multiplier, most_tour_nodes, most_families, most_family_nodes, most_rows, most_branches, most_changes, most_difference}
 use Rattle.std.specs.Prelude.{◌≡◌, ◌≢◌, ◌+◌, ◌≤◌, ◌⊎◌}
 use Rattle.tsp_file.specs.Fields.{Fields, spatial}
 use Rattle.tsp_file.specs.Rules.{is_explicit}
@@ -88,9 +88,28 @@ pub record AreFamilyLists (f : Fields) (families : List (List (List ℕ))) : Typ
   pub sets : All (AreSets n) families
   pub few_nodes : sum_by (sum_by length) families ≤ most_family_nodes
 
--- an index of a node or of some family, and a difference within its limit
+-- lists of nodes, none of them empty, with as many nodes as the limit allows
+pub record AreMemoryLists (f : Fields) (lists : List (List ℕ)) : Type 0 where
+  pub n : ℕ
+  pub dimension : f.dimension ≡ Some n
+  pub each : All (IsSetOf n) lists
+  pub few_nodes : sum_by length lists ≤ most_family_nodes
+
+-- a subset row: a set of nodes, not empty, and further nodes
+abbrev pub IsRowOf : ℕ → SubsetRow → Type 0
+IsRowOf n row = IsSetOf n row.set × All (IsNode n) row.further
+
+-- subset rows, as many as the limits allow
+pub record AreSubsetRows (f : Fields) (rows : List SubsetRow) : Type 0 where
+  pub n : ℕ
+  pub dimension : f.dimension ≡ Some n
+  pub few : length rows ≤ most_rows
+  pub each : All (IsRowOf n) rows
+  pub few_nodes : sum_by row_size rows ≤ most_family_nodes
+
+-- an index of a node, of some family or of some row, and a difference within its limit
 abbrev pub IsChange : ℕ → ℕ × ℤ → Type 0
-IsChange n change = IsNode (n + most_families) change.0 × IsWithin most_difference change.1
+IsChange n change = IsNode (n + most_families + most_rows) change.0 × IsWithin most_difference change.1
 
 -- a branch on two different nodes, or on some family and a number of 1..n
 abbrev pub IsBranchOf : ℕ → ℕ × ℕ → Type 0
@@ -131,6 +150,8 @@ pub record IsInRange (f : Fields) : Type 0 where
       → IsByNode (IsWithin most_potential) f potentials
   pub fixed_potentials : (triples : List (ℕ × ℕ × ℤ)) → f.fixed_potentials ≡ Some triples → AreTriples f triples
   pub families : (families : List (List (List ℕ))) → f.families ≡ Some families → AreFamilyLists f families
+  pub memories : (lists : List (List ℕ)) → f.memories ≡ Some lists → AreMemoryLists f lists
+  pub subset_rows : (rows : List SubsetRow) → f.subset_rows ≡ Some rows → AreSubsetRows f rows
   pub branches : (steps : List Step) → f.branches ≡ Some steps → AreTreeSteps f steps
 
 -- an instance has its nodes and its weight type, and weights or coordinates, as the weight type asks

@@ -1,11 +1,11 @@
 -- Circle 2 of docs/trust.md.
 -- When a field is valid on its own, as tests. The ranges are this project's profile of TSPLIB 95. Valid.antt has them
 -- as statements. Four crates above import it too.
-use Rattle.tsp_file.specs.Prelude.{ℕ, Bool, true, false, cond, not, nat_le, List, length, slice_index, Option, None, Some, ℤ, pos, neg_ℤ, int_le, option_map_or, list_all, find, sum_by, Point, Field, NameKey, CommentKey, OtherKey, DimensionKey, most_nodes, most_matrix_nodes, most_coordinate, most_weight, most_demand, most_kept_bytes, most_comments, most_others, most_depots, most_fixed, most_triples, most_multiplier, most_tour_nodes, most_families, most_family_nodes, most_branches, most_changes, most_difference, keyword_of, is_unknown, shape_of, value_shape_of, is_blank, is_letter, is_keyword_byte, field_word, fields_in_order, Step, Branch, Leaf, are_whole, branch_count, change_count}
+use Rattle.tsp_file.specs.Prelude.{ℕ, Bool, true, false, cond, not, nat_le, List, length, slice_index, Option, None, Some, ℤ, pos, neg_ℤ, int_le, option_map_or, list_all, find, sum_by, Point, Field, NameKey, CommentKey, OtherKey, DimensionKey, most_nodes, most_matrix_nodes, most_coordinate, most_weight, most_demand, most_kept_bytes, most_comments, most_others, most_depots, most_fixed, most_triples, most_multiplier, most_tour_nodes, most_families, most_family_nodes, most_rows, most_branches, most_changes, most_difference, keyword_of, is_unknown, shape_of, value_shape_of, is_blank, is_letter, is_keyword_byte, field_word, fields_in_order, Step, SubsetRow, row_size, Branch, Leaf, are_whole, branch_count, change_count}
 use Rattle.std.specs.Prelude.{◌+◌, ◌-◌, ◌*◌, ◌&&◌, ◌==◌}
 use Rattle.std.specs.Ordering.{int_eq}
 use Rattle.tsp_format.specs.declared.keyword.Shape.{Shape}
-use Rattle.tsp_format.specs.declared.keyword.Shape.TheVariants.{Numbers, Points, SpacePoints, Depots, Pairs, Weights, Tours, Triples, Families, Steps}
+use Rattle.tsp_format.specs.declared.keyword.Shape.TheVariants.{Numbers, Points, SpacePoints, Depots, Pairs, Weights, Tours, Triples, Families, Memories, SubsetRows, Steps}
 use Rattle.tsp_format.specs.declared.keyword.ValueShape.{ValueShape}
 use Rattle.tsp_format.specs.declared.keyword.ValueShape.TheVariants.{Kept, KeptEach, Number, Word}
 use Rattle.tsp_file.specs.Fields.{Fields, spatial, one_number_in, numbers_in, points_in}
@@ -120,9 +120,22 @@ abbrev pub are_family_lists : ℕ → List (List (List ℕ)) → Bool
 are_family_lists n families = nat_le (length families) most_families && list_all (are_sets n) families
     && nat_le (sum_by (sum_by length) families) most_family_nodes
 
--- an index of a node or of some family, and a difference within its limit
+-- lists of nodes, none of them empty, with as many nodes as the limit allows; whether they are a memory is judged later
+abbrev pub are_memory_lists : ℕ → List (List ℕ) → Bool
+are_memory_lists n lists = list_all (is_set_of n) lists && nat_le (sum_by length lists) most_family_nodes
+
+-- a subset row: a set of nodes, not empty, and further nodes; whether it is one of customers is judged later
+abbrev pub is_row_of : ℕ → SubsetRow → Bool
+is_row_of n row = is_set_of n row.set && list_all (is_node n) row.further
+
+-- subset rows, as many as the limits allow
+abbrev pub are_subset_rows : ℕ → List SubsetRow → Bool
+are_subset_rows n rows = nat_le (length rows) most_rows && list_all (is_row_of n) rows
+    && nat_le (sum_by row_size rows) most_family_nodes
+
+-- an index of a node, of some family or of some row, and a difference within its limit
 abbrev pub is_change : ℕ → ℕ × ℤ → Bool
-is_change n change = is_node (n + most_families) change.0 && is_within most_difference change.1
+is_change n change = is_node (n + most_families + most_rows) change.0 && is_within most_difference change.1
 
 -- a branch on two different nodes, or on some family and a number of 1..n
 abbrev pub is_branch_of : ℕ → ℕ × ℕ → Bool
@@ -160,6 +173,8 @@ section_fits f field Weights = if_there (with_dimension fit_matrix f.dimension) 
 section_fits f field Tours = if_there are_tours f.tours
 section_fits f field Triples = if_there (with_dimension are_triples f.dimension) f.fixed_potentials
 section_fits f field Families = if_there (with_dimension are_family_lists f.dimension) f.families
+section_fits f field Memories = if_there (with_dimension are_memory_lists f.dimension) f.memories
+section_fits f field SubsetRows = if_there (with_dimension are_subset_rows f.dimension) f.subset_rows
 section_fits f field Steps = if_there (with_dimension are_tree_steps f.dimension) f.branches
 
 -- the field is valid on its own

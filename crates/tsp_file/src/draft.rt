@@ -4,7 +4,7 @@
 use crate::coords::Coords;
 use std::alloc::Global;
 use tsp_format::{
-    CoordKind, DisplayKind, Field, Kind, TreeStep, WeightFormat, WeightKind, is_spatial,
+    CoordKind, DisplayKind, Field, Kind, RowSets, TreeStep, WeightFormat, WeightKind, is_spatial,
 };
 
 /// The fields of a file, in canonical order. A list by node has one entry for each node, in order.
@@ -58,6 +58,10 @@ pub struct Draft {
     pub fixed_potentials: Option<Vec<(u32, u32, i64)>>,
     /// COMB_SECTION: combs, each as its sets of nodes, the handle first.
     pub families: Option<Vec<Vec<Vec<u32>>>>,
+    /// MEMORY_SECTION: lists of nodes, none of them empty; the first of each list remembers the others.
+    pub memories: Option<Vec<Vec<u32>>>,
+    /// SUBSET_ROW_SECTION: rows, each with a set that isn't empty.
+    pub subset_rows: Option<Vec<RowSets>>,
     /// BRANCH_SECTION: the steps of one tree of cases.
     pub branches: Option<Vec<TreeStep>>,
 }
@@ -91,6 +95,8 @@ impl Drop for Draft {
             column_potentials: _,
             fixed_potentials: _,
             families: _,
+            memories: _,
+            subset_rows: _,
             branches: _,
         } = self;
     }
@@ -131,6 +137,8 @@ impl Draft {
             column_potentials: None,
             fixed_potentials: None,
             families: None,
+            memories: None,
+            subset_rows: None,
             branches: None,
         }
     }
@@ -172,6 +180,8 @@ impl Draft {
             Field::ColumnPotentialPart => self.column_potentials.is_some(),
             Field::FixedEdgePotentialPart => self.fixed_potentials.is_some(),
             Field::FamilyPart => self.families.is_some(),
+            Field::MemoryPart => self.memories.is_some(),
+            Field::SubsetRowPart => self.subset_rows.is_some(),
             Field::BranchPart => self.branches.is_some(),
         }
     }

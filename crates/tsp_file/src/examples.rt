@@ -8,11 +8,11 @@ ghost use Rattle.tsp_format.specs.declared.kinds.WeightKind.TheVariants as weigh
 ghost use Rattle.tsp_format.specs.declared.layout.Layout.TheVariants as layouts;
 ghost use Rattle.tsp_file.specs.CanonicalText.{text_of, text_of_field};
 ghost use Rattle.tsp_file.specs.Cost.{cost, distance};
-ghost use Rattle.tsp_file.specs.Examples.{directed_matrix, plane, no_nodes, one_weight, bare_routes, routing_nodes, routing_listed, routing_full, routing_capacity, routing_weights, routing_demands, routing_depots, routing_plane, bare_tours, touring_weights, touring_whole, touring_function, touring_surplus, bare_potentials, with_node_numbers, with_column_numbers, with_row_numbers, with_both_numbers, with_all_numbers, with_both_and_pairs, with_all_and_weights, bare_tree, CostIs, LaysOutAs, six, IsSmallText, small, small_text, spatial_node, two_tours, without_families};
+ghost use Rattle.tsp_file.specs.Examples.{directed_matrix, plane, no_nodes, one_weight, bare_routes, routing_nodes, routing_listed, routing_full, routing_capacity, routing_weights, routing_demands, routing_depots, routing_plane, bare_tours, touring_weights, touring_whole, touring_function, touring_surplus, bare_potentials, with_node_numbers, with_column_numbers, with_row_numbers, with_both_numbers, with_all_numbers, with_both_and_pairs, with_all_and_weights, bare_tree, CostIs, LaysOutAs, six, IsSmallText, small, small_text, spatial_node, row, two_tours, without_families, without_memory};
 ghost use Rattle.tsp_file.specs.Rules.{end_fault_text, draft_fault_text, fault_of, end_fault, standing_of};
 ghost use Rattle.tsp_file.specs.Fields.{blank_fields};
 ghost use Rattle.tsp_file.specs.Relayout.{lists_diagonal, IsFirstOnDiagonal, IsRefused, relayout_fault_text};
-ghost use Rattle.tsp_file.specs.Validity.{is_kept, are_comments, are_others, is_within, is_third, is_demand, is_node, is_pair_of, fit_matrix, are_depots, are_fixed, is_triple_of, are_triples, is_node_list, is_set_of, are_sets, is_change};
+ghost use Rattle.tsp_file.specs.Validity.{is_kept, are_comments, are_others, is_within, is_third, is_demand, is_node, is_pair_of, fit_matrix, are_depots, are_fixed, is_triple_of, are_triples, is_node_list, is_set_of, are_sets, are_memory_lists, is_row_of, are_subset_rows, is_branch_of, is_change};
 ghost use Rattle.tsp_file.specs.declared.relayout.RelayoutFault.TheVariants as faults;
 ghost use Rattle.tsp_file.specs.declared.rules.DraftFault.TheVariants as drafts;
 ghost use Rattle.tsp_file.specs.declared.rules.EndFault.TheVariants as ends;
@@ -54,9 +54,11 @@ pub fn examples_of_validity()
     ensures more_triples { are_triples 3 (replicate 100001 (1, 2, pos 5)) ≡ false }
     ensures largest_multiplier { is_triple_of 3 (1, 2, pos (10 ^ 15)) ≡ true }
     ensures larger_multiplier { is_triple_of 3 (1, 2, pos (10 ^ 15 + 1)) ≡ false }
-    ensures largest_difference { is_change 3 (10003, pos (2 * 10 ^ 15)) ≡ true }
-    ensures larger_difference { is_change 3 (10003, pos (2 * 10 ^ 15 + 1)) ≡ false }
-    ensures past_the_indices { is_change 3 (10004, pos 1) ≡ false }
+    ensures largest_difference { is_change 3 (20003, pos (2 * 10 ^ 15)) ≡ true }
+    ensures larger_difference { is_change 3 (20003, pos (2 * 10 ^ 15 + 1)) ≡ false }
+    ensures past_the_indices { is_change 3 (20004, pos 1) ≡ false }
+    ensures branch_on_the_last_family { is_branch_of 3 (10003, 1) ≡ true }
+    ensures branch_on_a_row { is_branch_of 3 (10004, 1) ≡ false }
     ensures last_node { is_node 3 3 ≡ true }
     ensures past_the_nodes { is_node 3 4 ≡ false }
     ensures node_zero { is_node 3 0 ≡ false }
@@ -67,6 +69,14 @@ pub fn examples_of_validity()
     ensures empty_set { is_set_of 3 [] ≡ false }
     ensures family_of_a_set { are_sets 3 ((3 ∷ []) ∷ []) ≡ true }
     ensures empty_family { are_sets 3 [] ≡ false }
+    ensures memory_of_one { are_memory_lists 3 ((3 ∷ []) ∷ []) ≡ true }
+    ensures empty_list { are_memory_lists 3 ([] ∷ []) ≡ false }
+    ensures list_past_the_nodes { are_memory_lists 3 ((3 ∷ 4 ∷ []) ∷ []) ≡ false }
+    ensures row_of_a_set { is_row_of 3 (row (3 ∷ []) []) ≡ true }
+    ensures row_without_a_set { is_row_of 3 (row [] (3 ∷ [])) ≡ false }
+    ensures further_past_the_nodes { is_row_of 3 (row (3 ∷ []) (4 ∷ [])) ≡ false }
+    ensures most_rows { are_subset_rows 3 (replicate 10000 (row (3 ∷ []) [])) ≡ true }
+    ensures more_rows { are_subset_rows 3 (replicate 10001 (row (3 ∷ []) [])) ≡ false }
 {}
 
 /// The first faults of small files.
@@ -236,9 +246,16 @@ pub fn examples_of_sections()
         (codes "FIXED_EDGE_POTENTIAL_SECTION\n1 2 7\n-1\n") }
     ensures families { IsSmallText fields.FamilyPart
         (codes "COMB_SECTION\n1 2 3 -1\n1 4 -1\n-1\n2 -1\n-1\n-1\n") }
+    ensures memories { IsSmallText fields.MemoryPart
+        (codes "MEMORY_SECTION\n3 4 5 -1\n2 -1\n-1\n") }
+    ensures subset_rows { IsSmallText fields.SubsetRowPart
+        (codes "SUBSET_ROW_SECTION\n2 3 -1\n-1\n4 -1\n2 5 -1\n-1\n") }
     ensures branches { IsSmallText fields.BranchPart
         (codes "BRANCH_SECTION\n1 2\n0 2 1 7 -3 -1\n0 -1\n") }
     ensures no_families { text_of_field without_families fields.FamilyPart ≡ codes "COMB_SECTION\n-1\n" }
+    ensures no_memories { text_of_field without_memory fields.MemoryPart ≡ codes "MEMORY_SECTION\n-1\n" }
+    ensures no_rows { text_of_field without_memory fields.SubsetRowPart
+        ≡ codes "SUBSET_ROW_SECTION\n-1\n" }
     ensures in_space { text_of_field spatial_node fields.NodeCoordPart
         ≡ codes "NODE_COORD_SECTION\n1 1.5 0 -2\n" }
     ensures shown { text_of_field spatial_node fields.DisplayDataPart

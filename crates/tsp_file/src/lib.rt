@@ -20,6 +20,7 @@ mod file;
 mod laws;
 mod range;
 mod relayout;
+mod remembered;
 mod rules;
 mod table;
 mod typed;
@@ -42,7 +43,7 @@ pub use relayout::RelayoutFault;
 pub use rules::{DraftFault, EndFault, end_fault};
 pub use table::bad_field;
 pub use tsp_format::{
-    CoordKind, DisplayKind, Field, Kind, Layout, TreeStep, WeightFormat, WeightKind,
+    CoordKind, DisplayKind, Field, Kind, Layout, RowSets, TreeStep, WeightFormat, WeightKind,
 };
 pub use tsp_io::{Watched, WriteFault};
 pub use typed::{DualData, ListedWeights, NodeData, RoutingData, TreeData, first_asymmetric};

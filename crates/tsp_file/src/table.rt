@@ -1,17 +1,17 @@
 //! The table of fields: whether each is valid on its own, by the tests of `src/validity.rt`.
 //! `File::of` of tsp_file asks for the first that is not.
 
-ghost use Rattle.tsp_file.specs.Prelude.{ℕ, Bool, List, Some, MatchResult, map, option_map, most_nodes, field_word, steps_of};
+ghost use Rattle.tsp_file.specs.Prelude.{ℕ, Bool, List, Some, MatchResult, map, option_map, most_nodes, field_word, subset_rows_of, steps_of};
 ghost use Rattle.std.specs.Prelude.{◌≡◌};
 ghost use Rattle.tsp_file.specs.states.Drafts.{points_of, fields_of, families_of};
-ghost use Rattle.tsp_file.specs.Validity.{if_there, with_dimension, is_by_node, is_kept, is_node, is_from_to, is_point, are_comments, are_others, are_depots, are_fixed, are_triples, fit_matrix, are_tours, are_family_lists, are_tree_steps, section_fits, value_fits, fits, first_failing, bad_field};
+ghost use Rattle.tsp_file.specs.Validity.{if_there, with_dimension, is_by_node, is_kept, is_node, is_from_to, is_point, are_comments, are_others, are_depots, are_fixed, are_triples, fit_matrix, are_tours, are_family_lists, are_memory_lists, are_subset_rows, are_tree_steps, section_fits, value_fits, fits, first_failing, bad_field};
 
 use crate::coords::Coords;
 use crate::draft::Draft;
 use crate::range::{are_from_to, is_from_to};
 use crate::validity;
 use tsp_format::{
-    Field, MOST_COMMENTS, MOST_NODES, MOST_OTHERS, Shape, TreeStep, ValueShape, Word,
+    Field, MOST_COMMENTS, MOST_NODES, MOST_OTHERS, RowSets, Shape, TreeStep, ValueShape, Word,
 };
 
 /// Whether a field of a draft is valid on its own.
@@ -56,6 +56,8 @@ fn section_fits(draft: &Draft, field: Field, shape: Shape) -> bool
         Shape::Tours => are_tours(&draft.tours),
         Shape::Triples => are_triples(draft.dimension, &draft.fixed_potentials),
         Shape::Families => are_family_lists(draft.dimension, &draft.families),
+        Shape::Memories => are_memory_lists(draft.dimension, &draft.memories),
+        Shape::SubsetRows => are_subset_rows(draft.dimension, &draft.subset_rows),
         Shape::Steps => are_tree_steps(draft.dimension, &draft.branches),
     }
 }
@@ -232,6 +234,30 @@ fn are_family_lists(dimension: Option<u32>, families: &Option<Vec<Vec<Vec<u32>>>
         (None, _) => true,
         (Some(_), None) => false,
         (Some(families), Some(nodes)) => validity::are_family_lists(nodes, families),
+    }
+}
+
+/// The lists of a memory are of nodes, and not too long together.
+fn are_memory_lists(dimension: Option<u32>, lists: &Option<Vec<Vec<u32>>>) -> bool
+    ensures { result ≡ if_there (with_dimension are_memory_lists dimension)
+        (option_map (λ v. map (λ list. list.items) v.items) lists.now) }
+{
+    match (lists, dimension) {
+        (None, _) => true,
+        (Some(_), None) => false,
+        (Some(lists), Some(nodes)) => validity::are_memory_lists(nodes, lists),
+    }
+}
+
+/// The subset rows are of nodes, and not too many.
+fn are_subset_rows(dimension: Option<u32>, rows: &Option<Vec<RowSets>>) -> bool
+    ensures { result ≡ if_there (with_dimension are_subset_rows dimension)
+        (option_map (λ v. subset_rows_of v.items) rows.now) }
+{
+    match (rows, dimension) {
+        (None, _) => true,
+        (Some(_), None) => false,
+        (Some(rows), Some(nodes)) => validity::are_subset_rows(nodes, rows),
     }
 }
 

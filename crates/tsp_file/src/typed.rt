@@ -8,7 +8,7 @@ ghost use Rattle.tsp_file.specs.Valid.{IsWithin};
 
 use crate::file::File;
 use std::alloc::{AllocError, Global};
-use tsp_format::{Kind, Layout, TreeStep, WeightFormat, WeightKind};
+use tsp_format::{Kind, Layout, RowSets, TreeStep, WeightFormat, WeightKind};
 
 /// The demands, depots and capacity of a file of TYPE CVRP.
 #[derive(Clone, Copy, Debug)]
@@ -43,7 +43,7 @@ pub struct DualData<'a> {
     pub columns: &'a [i64],
 }
 
-/// The families, steps, scale and load unit of a file of TYPE BRANCHES.
+/// The families, memories, subset rows, steps, scale and load unit of a file of TYPE BRANCHES.
 #[derive(Clone, Copy, Debug)]
 pub struct TreeData<'a> {
     /// SCALE, which is 1 where it is missing.
@@ -52,12 +52,17 @@ pub struct TreeData<'a> {
     pub load_unit: i64,
     /// COMB_SECTION: families, each as its sets of nodes; none where it is missing.
     pub families: &'a [Vec<Vec<u32>>],
+    /// MEMORY_SECTION: lists of nodes, the first of which remembers the others; none where it is
+    /// missing.
+    pub memories: &'a [Vec<u32>],
+    /// SUBSET_ROW_SECTION: subset rows; none where it is missing.
+    pub subset_rows: &'a [RowSets],
     /// BRANCH_SECTION: the steps of one tree of cases.
     pub steps: &'a [TreeStep],
 }
 
 impl File {
-    ghost use Rattle.tsp_file.specs.Prelude.{[], Some, IsSome, unwrap_or, pos, map, MatchOption, Explicit, most_scale, most_load_unit, steps_of, IsFromTo};
+    ghost use Rattle.tsp_file.specs.Prelude.{[], Some, IsSome, unwrap_or, pos, map, IfSome, MatchOption, Explicit, most_scale, most_load_unit, subset_rows_of, steps_of, IsFromTo};
     ghost use Rattle.std.specs.Prelude.{◌≡◌, ◌≢◌};
     ghost use Rattle.tsp_format.specs.declared.kinds.Kind.TheVariants as kinds;
     ghost use Rattle.tsp_file.specs.states.Drafts.{families_of};
@@ -65,7 +70,7 @@ impl File {
     ghost use Rattle.tsp_file.specs.Cost.{ListsWeights};
     ghost use Rattle.tsp_file.specs.Relayout.{HasListedWeights};
     ghost use Rattle.tsp_file.specs.Fields.{nodes_of};
-    ghost use Rattle.tsp_file.specs.Cost.{HoldsNodeNumbers, HoldsDuals, HoldsCases, AreMultipliersIn, AreSomeSets};
+    ghost use Rattle.tsp_file.specs.Cost.{HoldsNodeNumbers, HoldsDuals, HoldsCases, HoldsMemory, AreMultipliersIn, AreSomeSets};
 
     /// The weights of this file with their layout; none where its weights aren't listed.
     #[inline]
@@ -135,11 +140,13 @@ impl File {
         })
     }
 
-    /// The families, steps, scale and load unit of a file of TYPE BRANCHES; none of every other
-    /// file.
+    /// The families, memories, subset rows, steps, scale and load unit of a file of TYPE BRANCHES;
+    /// none of every other file.
     pub fn as_tree(&self) -> Option<TreeData<'_>>
-        ensures { MatchOption result (self.now.kind ≢ Some kinds.Branches) (λ held. HoldsCases
+        ensures cases { MatchOption result (self.now.kind ≢ Some kinds.Branches) (λ held. HoldsCases
             self.now held.scale held.load_unit (families_of held.families.now) (steps_of held.steps.now)) }
+        ensures memory { IfSome result (λ held. HoldsMemory self.now
+            (map (λ list. list.items) held.memories.now) (subset_rows_of held.subset_rows.now)) }
     {
         let Some(Kind::Branches) = self.fields().kind else {
             return None;
@@ -148,6 +155,8 @@ impl File {
             scale: self.scale_or_one(),
             load_unit: self.load_unit_or_one(),
             families: self.families_or_none(),
+            memories: self.memories_or_none(),
+            subset_rows: self.rows_or_none(),
             steps: self.branches()?,
         })
     }

@@ -1,17 +1,18 @@
-//! Tests of the value of one field: texts, points, nodes, weights, tours, families, steps of a tree.
+//! Tests of the value of one field: texts, points, nodes, weights, tours, families,
+//! memories, subset rows, steps of a tree.
 
-ghost use Rattle.tsp_file.specs.Prelude.{not, cond, Some, None, length, slice_index, nat_le, map, list_all, sum_by, field_word, is_blank, is_keyword_byte, most_coordinate, most_tour_nodes, most_families, most_family_nodes, most_branches, most_changes, on_plane, step_of, steps_of, are_whole, branch_count, change_count};
+ghost use Rattle.tsp_file.specs.Prelude.{not, cond, Some, None, length, slice_index, nat_le, map, list_all, sum_by, field_word, is_blank, is_keyword_byte, most_coordinate, most_tour_nodes, most_families, most_family_nodes, most_rows, most_branches, most_changes, on_plane, subset_row_of, subset_rows_of, row_size, step_of, steps_of, are_whole, branch_count, change_count};
 ghost use Rattle.std.specs.Prelude.{◌≡◌, ◌+◌, ◌-◌, ◌==◌, ◌||◌, ◌&&◌};
 ghost use Rattle.tsp_file.specs.states.Drafts.{points_of, families_of};
-ghost use Rattle.tsp_file.specs.Validity.{is_kept, is_unknown_keyword, is_other, is_within, is_node, is_third, is_point, are_depots, is_pair_of, are_fixed, is_triple_of, are_triples, fit_matrix, is_node_list, is_set_of, are_sets, are_family_lists, is_change, is_branch_of, is_step, are_tree_steps};
+ghost use Rattle.tsp_file.specs.Validity.{is_kept, is_unknown_keyword, is_other, is_within, is_node, is_third, is_point, are_depots, is_pair_of, are_fixed, is_triple_of, are_triples, fit_matrix, is_node_list, is_set_of, are_sets, are_family_lists, are_memory_lists, is_row_of, are_subset_rows, is_change, is_branch_of, is_step, are_tree_steps};
 
 use crate::coords::Coords;
 use crate::range::{are_from_to, is_from_to};
 use tsp_format::{
     Field, Keyword, MOST_BRANCHES, MOST_CHANGES, MOST_COORDINATE, MOST_DEMAND, MOST_DEPOTS,
     MOST_DIFFERENCE, MOST_FAMILIES, MOST_FAMILY_NODES, MOST_FIXED, MOST_KEPT_BYTES,
-    MOST_MATRIX_NODES, MOST_MULTIPLIER, MOST_MULTIPLIERS, MOST_NODES, MOST_POTENTIAL,
-    MOST_TOUR_NODES, MOST_WEIGHT, TreeStep, Word, is_blank, is_keyword_byte, is_letter,
+    MOST_MATRIX_NODES, MOST_MULTIPLIER, MOST_MULTIPLIERS, MOST_NODES, MOST_POTENTIAL, MOST_ROWS,
+    MOST_TOUR_NODES, MOST_WEIGHT, RowSets, TreeStep, Word, is_blank, is_keyword_byte, is_letter,
 };
 use tsp_number::{Decimal, InSpace, PlanePoint, Point};
 
@@ -310,6 +311,53 @@ pub(crate) fn are_family_lists(n: u32, families: &[Vec<Vec<u32>>]) -> bool
         && have_few_family_nodes(families)
 }
 
+/// Whether the lists are of nodes of 1..n, none of them empty, with together at most
+/// `MOST_FAMILY_NODES` nodes.
+#[tactic(auto, using(crate::proofs::SeenLists::memories_seen))]
+pub(crate) fn are_memory_lists(n: u32, lists: &[Vec<u32>]) -> bool
+    ensures { result ≡ are_memory_lists n (map (λ list. list.items) lists.now) }
+{
+    is_each_set(n, lists) && nodes_of_sets(lists, MOST_FAMILY_NODES).is_some()
+}
+
+/// Whether a row has a set of nodes of 1..n that isn't empty, and further nodes of 1..n.
+fn is_row_of(n: u32, row: &RowSets) -> bool
+    ensures { result ≡ is_row_of n (subset_row_of row.now) }
+{
+    is_set_of(n, &row.set) && are_nodes(n, &row.further)
+}
+
+/// Whether every row is valid by `is_row_of`.
+fn is_each_row(n: u32, rows: &[RowSets]) -> bool
+    ensures { result ≡ list_all (λ row. is_row_of n (subset_row_of row)) rows.now }
+{
+    rows.iter().all(|row| is_row_of(n, row))
+}
+
+/// Whether the rows have together at most `MOST_FAMILY_NODES` nodes.
+fn have_few_row_nodes(rows: &[RowSets]) -> bool
+    ensures { result ≡ nat_le (sum_by (λ row. row_size (subset_row_of row)) rows.now) most_family_nodes }
+{
+    let mut total = 0;
+    'rows: for row in rows {
+        let left = MOST_FAMILY_NODES - total;
+        if row.set.len() > left || row.further.len() > left - row.set.len() {
+            return false;
+        }
+        total += row.set.len() + row.further.len();
+    }
+    true
+}
+
+/// Whether the rows are of nodes of 1..n, at most `MOST_ROWS` with together at most
+/// `MOST_FAMILY_NODES` nodes.
+#[tactic(auto, using(crate::proofs::SeenLists::rows_seen))]
+pub(crate) fn are_subset_rows(n: u32, rows: &[RowSets]) -> bool
+    ensures { result ≡ are_subset_rows n (subset_rows_of rows.now) }
+{
+    rows.len() <= MOST_ROWS && is_each_row(n, rows) && have_few_row_nodes(rows)
+}
+
 /// Whether an index is that of a node or of some family.
 fn is_index(n: u32, index: u32) -> bool
     ensures { result ≡ is_node (n + most_families) index }
@@ -317,12 +365,19 @@ fn is_index(n: u32, index: u32) -> bool
     1 <= index && u64::from(index) <= u64::from(n) + MOST_FAMILIES as u64
 }
 
-/// Whether an index is that of a node or of some family, and a difference is of a size of at most
-/// `MOST_DIFFERENCE`.
+/// Whether an index of a leaf is that of a node, of some family or of some row.
+fn is_leaf_index(n: u32, index: u32) -> bool
+    ensures { result ≡ is_node (n + most_families + most_rows) index }
+{
+    1 <= index && u64::from(index) <= u64::from(n) + MOST_FAMILIES as u64 + MOST_ROWS as u64
+}
+
+/// Whether an index is that of a node, of some family or of some row, and a difference is of a size
+/// of at most `MOST_DIFFERENCE`.
 fn is_change(n: u32, change: (u32, i64)) -> bool
     ensures { result ≡ is_change n change }
 {
-    is_index(n, change.0) && is_from_to(change.1, -MOST_DIFFERENCE, MOST_DIFFERENCE)
+    is_leaf_index(n, change.0) && is_from_to(change.1, -MOST_DIFFERENCE, MOST_DIFFERENCE)
 }
 
 /// Whether every change of a leaf is valid by `is_change`.

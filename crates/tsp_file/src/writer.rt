@@ -1,10 +1,10 @@
 //! Writes the canonical text of a file, field by field, by the files of `src/writer/`.
 
-ghost use Rattle.tsp_file.specs.Prelude.{flat_map, option_map, None, map, [], Leaf, step_of, steps_of};
+ghost use Rattle.tsp_file.specs.Prelude.{flat_map, option_map, None, map, [], Leaf, subset_row_of, subset_rows_of, step_of, steps_of};
 ghost use Rattle.std.specs.Prelude.{◌≡◌};
 ghost use Rattle.tsp_io.specs.Streams.{Writes};
 ghost use Rattle.tsp_io.specs.states.Watched.{sink_of, Puts};
-ghost use Rattle.tsp_file.specs.CanonicalText.{text_of, text_of_field, text_of_section, text_of_value, value_line, keyword_line, other_line, optional, before_blank, set_line, family_lines, family_list, change_words, step_line, case_tree_lines, section_text};
+ghost use Rattle.tsp_file.specs.CanonicalText.{text_of, text_of_field, text_of_section, text_of_value, value_line, keyword_line, other_line, optional, before_blank, set_line, family_lines, family_list, row_lines, row_list, change_words, step_line, case_tree_lines, section_text};
 ghost use Rattle.tsp_file.specs.Rules.{fault_of};
 ghost use Rattle.tsp_file.specs.states.Drafts.{fields_of, families_of};
 
@@ -21,7 +21,7 @@ use crate::writer::sections::{
 use itoa::{Buffer, Integer};
 use std::alloc::Global;
 use std::io::Write;
-use tsp_format::{Field, Shape, TreeStep, ValueShape, Word};
+use tsp_format::{Field, RowSets, Shape, TreeStep, ValueShape, Word};
 use tsp_io::{Piece, Watched, WriteFault, hand_over, put, put_number};
 
 /// Writes the canonical text of a file.
@@ -137,6 +137,8 @@ fn put_section<W: Write>(
         Shape::Tours => put_tour_section(piece, out, field, &draft.tours),
         Shape::Triples => put_triple_section(piece, out, field, &draft.fixed_potentials),
         Shape::Families => put_family_section(piece, out, field, &draft.families),
+        Shape::Memories => put_memory_section(piece, out, field, &draft.memories),
+        Shape::SubsetRows => put_row_section(piece, out, field, &draft.subset_rows),
         Shape::Steps => put_step_section(piece, out, field, &draft.branches),
     }
 }
@@ -243,7 +245,7 @@ fn put_set<W: Write>(piece: &mut Piece, out: &mut Watched<W>, set: &[u32])
     put(piece, out, b"-1\n");
 }
 
-/// Adds a line for each set of a family, and the line -1.
+/// Adds a line for each set of a family, or for each list of a memory, and the line -1.
 fn put_family<W: Write>(piece: &mut Piece, out: &mut Watched<W>, family: &[Vec<u32>])
     ensures { Puts W.contents out.old piece.old out.new piece.new
         (family_lines (map (λ set. set.items) family.now)) }
@@ -260,6 +262,24 @@ fn put_families<W: Write>(piece: &mut Piece, out: &mut Watched<W>, families: &[V
 {
     'families: for family in families {
         put_family(piece, out, family);
+    }
+    put(piece, out, b"-1\n");
+}
+
+/// Adds the two lines of a subset row.
+fn put_row<W: Write>(piece: &mut Piece, out: &mut Watched<W>, row: &RowSets)
+    ensures { Puts W.contents out.old piece.old out.new piece.new (row_lines (subset_row_of row.now)) }
+{
+    put_set(piece, out, &row.set);
+    put_set(piece, out, &row.further);
+}
+
+/// Adds the lines of each subset row, and the line -1.
+fn put_rows<W: Write>(piece: &mut Piece, out: &mut Watched<W>, rows: &[RowSets])
+    ensures { Puts W.contents out.old piece.old out.new piece.new (row_list (subset_rows_of rows.now)) }
+{
+    'rows: for row in rows {
+        put_row(piece, out, row);
     }
     put(piece, out, b"-1\n");
 }
@@ -325,6 +345,38 @@ fn put_family_section<W: Write>(
     if let Some(families) = families {
         put_opening(piece, out, field);
         put_families(piece, out, families);
+    }
+}
+
+/// Adds a section of what customers remember, where the file has it.
+fn put_memory_section<W: Write>(
+    piece: &mut Piece,
+    out: &mut Watched<W>,
+    field: Field,
+    lists: &Option<Vec<Vec<u32>>>,
+)
+    ensures { Puts W.contents out.old piece.old out.new piece.new (optional (λ lists. section_text
+        field (family_lines lists)) (option_map (λ v. map (λ list. list.items) v.items) lists.now)) }
+{
+    if let Some(lists) = lists {
+        put_opening(piece, out, field);
+        put_family(piece, out, lists);
+    }
+}
+
+/// Adds a section of subset rows, where the file has it.
+fn put_row_section<W: Write>(
+    piece: &mut Piece,
+    out: &mut Watched<W>,
+    field: Field,
+    rows: &Option<Vec<RowSets>>,
+)
+    ensures { Puts W.contents out.old piece.old out.new piece.new (optional (λ rows. section_text
+        field (row_list rows)) (option_map (λ v. subset_rows_of v.items) rows.now)) }
+{
+    if let Some(rows) = rows {
+        put_opening(piece, out, field);
+        put_rows(piece, out, rows);
     }
 }
 

@@ -5,11 +5,11 @@ use Rattle.std.specs.Prelude.{ℕ, Bool, true, false, cond, List, Option, None, 
 use Rattle.std.specs.Str.{bytes_eq}
 use Rattle.tsp_format.specs.Words.{field_word, fields_in_order}
 use Rattle.tsp_format.specs.declared.keyword.Field.{Field}
-use Rattle.tsp_format.specs.declared.keyword.Field.TheVariants.{OtherKey, FixedEdgesPart, NameKey, TypeKey, CommentKey, DimensionKey, CapacityKey, ScaleKey, LoadUnitKey, EdgeWeightTypeKey, EdgeWeightFormatKey, NodeCoordTypeKey, DisplayDataTypeKey, NodeCoordPart, DisplayDataPart, DemandPart, DepotPart, EdgeWeightPart, TourPart, NodePotentialPart, RowPotentialPart, ColumnPotentialPart, FixedEdgePotentialPart, FamilyPart, BranchPart}
+use Rattle.tsp_format.specs.declared.keyword.Field.TheVariants.{OtherKey, FixedEdgesPart, NameKey, TypeKey, CommentKey, DimensionKey, CapacityKey, ScaleKey, LoadUnitKey, EdgeWeightTypeKey, EdgeWeightFormatKey, NodeCoordTypeKey, DisplayDataTypeKey, NodeCoordPart, DisplayDataPart, DemandPart, DepotPart, EdgeWeightPart, TourPart, NodePotentialPart, RowPotentialPart, ColumnPotentialPart, FixedEdgePotentialPart, FamilyPart, MemoryPart, SubsetRowPart, BranchPart}
 use Rattle.tsp_format.specs.declared.keyword.Keyword.{Keyword}
 use Rattle.tsp_format.specs.declared.keyword.Keyword.TheVariants.{Known, EdgeDataFormat, EdgeDataSection, Eof, Unknown}
 use Rattle.tsp_format.specs.declared.keyword.Shape.{Shape}
-use Rattle.tsp_format.specs.declared.keyword.Shape.TheVariants.{Numbers, Points, SpacePoints, Depots, Pairs, Weights, Tours, Triples, Families, Steps}
+use Rattle.tsp_format.specs.declared.keyword.Shape.TheVariants.{Numbers, Points, SpacePoints, Depots, Pairs, Weights, Tours, Triples, Families, Memories, SubsetRows, Steps}
 use Rattle.tsp_format.specs.declared.keyword.ValueShape.{ValueShape}
 use Rattle.tsp_format.specs.declared.keyword.ValueShape.TheVariants.{Kept, KeptEach, Number, Word}
 
@@ -122,9 +122,13 @@ most_tour_nodes = 1000000
 abbrev pub most_families : ℕ
 most_families = 10000
 
--- nodes of all sets of all families
+-- nodes of all sets of all families; of all lists of a memory; of all subset rows
 abbrev pub most_family_nodes : ℕ
 most_family_nodes = 1000000
+
+-- subset rows
+abbrev pub most_rows : ℕ
+most_rows = 10000
 
 -- branches of a tree of cases
 abbrev pub most_branches : ℕ
@@ -158,6 +162,8 @@ shape_of spatial RowPotentialPart = Some (Numbers (neg_ℤ (pos most_potential))
 shape_of spatial ColumnPotentialPart = Some (Numbers (neg_ℤ (pos most_potential)) (pos most_potential))
 shape_of spatial FixedEdgePotentialPart = Some Triples
 shape_of spatial FamilyPart = Some Families
+shape_of spatial MemoryPart = Some Memories
+shape_of spatial SubsetRowPart = Some SubsetRows
 shape_of spatial BranchPart = Some Steps
 shape_of spatial field = None
 

@@ -1,5 +1,5 @@
 -- Circles 1 and 3 of docs/trust.md.
--- The steps of a tree of cases, as BRANCH_SECTION lists them, and ranges of whole numbers.
+-- The steps of a tree of cases, as BRANCH_SECTION lists them, subset rows, and ranges of whole numbers.
 use Rattle.std.specs.Prelude.{ℤ, ◌≤ℤ◌, ℕ, zero, suc, ◌+◌, Bool, true, false, List, [], ◌∷◌, length}
 
 -- z is from `least` to `most`
@@ -40,3 +40,14 @@ abbrev pub change_count : List Step → ℕ
 change_count [] = 0
 change_count (Branch first second ∷ steps) = change_count steps
 change_count (Leaf changes ∷ steps) = length changes + change_count steps
+
+-- ---- the subset rows of SUBSET_ROW_SECTION
+
+-- A limited-memory subset row: a set of customers, and further customers that keep its parity too.
+pub record SubsetRow : Type 0 where
+  pub set : List ℕ
+  pub further : List ℕ
+
+-- how many nodes both lists have
+abbrev pub row_size : SubsetRow → ℕ
+row_size row = length row.set + length row.further

@@ -159,6 +159,8 @@ field_word field.RowPotentialPart = codes "ROW_POTENTIAL_SECTION"
 field_word field.ColumnPotentialPart = codes "COLUMN_POTENTIAL_SECTION"
 field_word field.FixedEdgePotentialPart = codes "FIXED_EDGE_POTENTIAL_SECTION"
 field_word field.FamilyPart = codes "COMB_SECTION"
+field_word field.MemoryPart = codes "MEMORY_SECTION"
+field_word field.SubsetRowPart = codes "SUBSET_ROW_SECTION"
 field_word field.BranchPart = codes "BRANCH_SECTION"
 
 -- ---- all values; each lemma `.._found` says that a value is the first with its word
@@ -255,7 +257,7 @@ fields_in_order = field.NameKey ∷ field.TypeKey ∷ field.CommentKey ∷ field
     ∷ field.DisplayDataTypeKey
     ∷ field.NodeCoordPart ∷ field.DisplayDataPart ∷ field.DemandPart ∷ field.DepotPart ∷ field.FixedEdgesPart
     ∷ field.EdgeWeightPart ∷ field.TourPart ∷ field.NodePotentialPart ∷ field.RowPotentialPart ∷ field.ColumnPotentialPart
-    ∷ field.FixedEdgePotentialPart ∷ field.FamilyPart ∷ field.BranchPart ∷ []
+    ∷ field.FixedEdgePotentialPart ∷ field.FamilyPart ∷ field.MemoryPart ∷ field.SubsetRowPart ∷ field.BranchPart ∷ []
 
 pub field_found : (value : Field) → IsFirstWithWord field_word fields_in_order value
 field_found field.NameKey = refl
@@ -282,4 +284,6 @@ field_found field.RowPotentialPart = refl
 field_found field.ColumnPotentialPart = refl
 field_found field.FixedEdgePotentialPart = refl
 field_found field.FamilyPart = refl
+field_found field.MemoryPart = refl
+field_found field.SubsetRowPart = refl
 field_found field.BranchPart = refl

@@ -46,8 +46,10 @@ pub fn examples_of_fields()
     ensures fixed_potentials { StandsAt 23 fields.FixedEdgePotentialPart
         (codes "FIXED_EDGE_POTENTIAL_SECTION") }
     ensures families { StandsAt 24 fields.FamilyPart (codes "COMB_SECTION") }
-    ensures branches { StandsAt 25 fields.BranchPart (codes "BRANCH_SECTION") }
-    ensures no_more { length fields_in_order ≡ 25 }
+    ensures memories { StandsAt 25 fields.MemoryPart (codes "MEMORY_SECTION") }
+    ensures subset_rows { StandsAt 26 fields.SubsetRowPart (codes "SUBSET_ROW_SECTION") }
+    ensures branches { StandsAt 27 fields.BranchPart (codes "BRANCH_SECTION") }
+    ensures no_more { length fields_in_order ≡ 27 }
 {}
 
 /// What keywords are that are no field's word, and what bytes are.
@@ -153,6 +155,7 @@ pub fn examples_of_limits()
     ensures tour_nodes { limits.most_tour_nodes ≡ 10 ^ 6 }
     ensures families { limits.most_families ≡ 10 ^ 4 }
     ensures family_nodes { limits.most_family_nodes ≡ 10 ^ 6 }
+    ensures rows { limits.most_rows ≡ 10 ^ 4 }
     ensures branches { limits.most_branches ≡ 10 ^ 6 }
     ensures changes { limits.most_changes ≡ 10 ^ 7 }
     ensures difference { limits.most_difference ≡ 2 * 10 ^ 15 }
@@ -165,6 +168,8 @@ pub fn examples_of_limits()
         ≡ Some (shapes.Numbers (negsuc (10 ^ 15 - 1)) (pos (10 ^ 15))) }
     ensures columns_both_ways { shape_of false fields.ColumnPotentialPart
         ≡ Some (shapes.Numbers (negsuc (10 ^ 15 - 1)) (pos (10 ^ 15))) }
+    ensures lists_of_nodes { shape_of true fields.MemoryPart ≡ Some shapes.Memories }
+    ensures rows_of_nodes { shape_of false fields.SubsetRowPart ≡ Some shapes.SubsetRows }
     ensures no_shape { shape_of true fields.ScaleKey ≡ None }
     ensures nodes_from_one { value_shape_of fields.DimensionKey
         ≡ Some (values.Number (pos 1) (pos (10 ^ 5))) }

@@ -2,9 +2,9 @@
 
 ghost use Rattle.std.specs.List.{find};
 ghost use Rattle.std.specs.Prelude.{◌≡◌, pos};
-ghost use Rattle.tsp_format.specs.Limits.{keyword_of, field_of, known_or_not, most_nodes, most_matrix_nodes, most_coordinate, most_weight, most_demand, most_capacity, most_scale, most_load_unit, most_potential, most_word_bytes, most_line_bytes, most_kept_bytes, most_comments, most_others, most_depots, most_fixed, most_triples, most_multiplier, most_tour_nodes, most_families, most_family_nodes, most_branches, most_changes, most_difference, most_file_bytes, shape_of, value_shape_of};
+ghost use Rattle.tsp_format.specs.Limits.{keyword_of, field_of, known_or_not, most_nodes, most_matrix_nodes, most_coordinate, most_weight, most_demand, most_capacity, most_scale, most_load_unit, most_potential, most_word_bytes, most_line_bytes, most_kept_bytes, most_comments, most_others, most_depots, most_fixed, most_triples, most_multiplier, most_tour_nodes, most_families, most_family_nodes, most_rows, most_branches, most_changes, most_difference, most_file_bytes, shape_of, value_shape_of};
 ghost use Rattle.tsp_format.specs.Words.{field_word, fields_in_order, field_found};
-ghost use Rattle.tsp_format.specs.declared.keyword.TheConstants.{MOST_NODES, MOST_MATRIX_NODES, MOST_COORDINATE, MOST_WEIGHT, MOST_DEMAND, MOST_CAPACITY, MOST_SCALE, MOST_LOAD_UNIT, MOST_POTENTIAL, MOST_WORD_BYTES, MOST_LINE_BYTES, MOST_KEPT_BYTES, MOST_COMMENTS, MOST_OTHERS, MOST_DEPOTS, MOST_FIXED, MOST_MULTIPLIERS, MOST_MULTIPLIER, MOST_TOUR_NODES, MOST_FAMILIES, MOST_FAMILY_NODES, MOST_BRANCHES, MOST_CHANGES, MOST_DIFFERENCE, MOST_FILE_BYTES};
+ghost use Rattle.tsp_format.specs.declared.keyword.TheConstants.{MOST_NODES, MOST_MATRIX_NODES, MOST_COORDINATE, MOST_WEIGHT, MOST_DEMAND, MOST_CAPACITY, MOST_SCALE, MOST_LOAD_UNIT, MOST_POTENTIAL, MOST_WORD_BYTES, MOST_LINE_BYTES, MOST_KEPT_BYTES, MOST_COMMENTS, MOST_OTHERS, MOST_DEPOTS, MOST_FIXED, MOST_MULTIPLIERS, MOST_MULTIPLIER, MOST_TOUR_NODES, MOST_FAMILIES, MOST_FAMILY_NODES, MOST_ROWS, MOST_BRANCHES, MOST_CHANGES, MOST_DIFFERENCE, MOST_FILE_BYTES};
 
 use crate::word::{Word, value_of};
 use std::fmt;
@@ -92,6 +92,8 @@ pub enum Field {
     ColumnPotentialPart,
     FixedEdgePotentialPart,
     FamilyPart,
+    MemoryPart,
+    SubsetRowPart,
     BranchPart,
 }
 
@@ -116,6 +118,11 @@ pub enum Shape {
     Triples,
     /// Families, each of sets of nodes up to a -1, up to one more -1; a third ends the list.
     Families,
+    /// Lists of nodes, each up to a -1; one more -1 ends the list.
+    Memories,
+    /// Rows, each of two lists of nodes up to a -1, the second of which may be empty; one more -1
+    /// ends the list.
+    SubsetRows,
     /// The steps of a tree of cases.
     Steps,
 }
@@ -135,7 +142,7 @@ pub enum ValueShape {
 
 impl Field {
     /// Each field, in canonical order.
-    pub const ALL: [Field; 25] = [
+    pub const ALL: [Field; 27] = [
         Field::NameKey,
         Field::TypeKey,
         Field::CommentKey,
@@ -160,6 +167,8 @@ impl Field {
         Field::ColumnPotentialPart,
         Field::FixedEdgePotentialPart,
         Field::FamilyPart,
+        Field::MemoryPart,
+        Field::SubsetRowPart,
         Field::BranchPart,
     ];
 
@@ -186,6 +195,8 @@ impl Field {
             }
             Field::FixedEdgePotentialPart => Some(Shape::Triples),
             Field::FamilyPart => Some(Shape::Families),
+            Field::MemoryPart => Some(Shape::Memories),
+            Field::SubsetRowPart => Some(Shape::SubsetRows),
             Field::BranchPart => Some(Shape::Steps),
             _ => None,
         }
@@ -261,6 +272,8 @@ impl Word for Field {
             Field::ColumnPotentialPart => "COLUMN_POTENTIAL_SECTION",
             Field::FixedEdgePotentialPart => "FIXED_EDGE_POTENTIAL_SECTION",
             Field::FamilyPart => "COMB_SECTION",
+            Field::MemoryPart => "MEMORY_SECTION",
+            Field::SubsetRowPart => "SUBSET_ROW_SECTION",
             Field::BranchPart => "BRANCH_SECTION",
         }
     }
@@ -338,8 +351,11 @@ pub const MOST_TOUR_NODES: usize = 1_000_000;
 /// The most families.
 pub const MOST_FAMILIES: usize = 10_000;
 
-/// The most nodes of all families of a file.
+/// The most nodes of all families of a file, of all lists of its memory, and of all its subset rows.
 pub const MOST_FAMILY_NODES: usize = 1_000_000;
+
+/// The most subset rows.
+pub const MOST_ROWS: usize = 10_000;
 
 /// The most branches of a tree of cases.
 pub const MOST_BRANCHES: usize = 1_000_000;
@@ -379,6 +395,7 @@ pub fn limits_are_those_of_the_profile()
     ensures tour_nodes { MOST_TOUR_NODES ≡ most_tour_nodes }
     ensures families { MOST_FAMILIES ≡ most_families }
     ensures family_nodes { MOST_FAMILY_NODES ≡ most_family_nodes }
+    ensures rows { MOST_ROWS ≡ most_rows }
     ensures branches { MOST_BRANCHES ≡ most_branches }
     ensures changes { MOST_CHANGES ≡ most_changes }
     ensures difference { MOST_DIFFERENCE ≡ pos most_difference }

@@ -1,5 +1,5 @@
 -- Families and steps of trees as they are written are read back.
-use Rattle.tsp_read.proofs.Prelude.{◌≡◌, ℕ, suc, ◌+◌, ◌^◌, ◌<◌, ◌≤◌, Bool, true, false, cond, List, [], ◌∷◌, ◌++◌, length, map, refl, sym, ap, subst, ◌∙◌, append_assoc, append-nil, arith, None, Result, and_parts, and_left, and_right, leb-true, not_from_true, false≢true, and_from, length-append, list_all-append, sum_by-cons, decimal, signed_decimal, list_all, flat_map, sum_by, ℤ, not, ◌&&◌, ◌||◌, nat_le, nat_abs, codes, result_err, NumberFault, most_families, most_family_nodes, most_branches, most_changes, most_difference, Step, Branch, Leaf, are_whole, branch_count, change_count, within_abs, line_end, number_line, before_blank, ended_line, set_line, family_lines, family_list, change_words, step_line, case_tree_lines, is_node, is_set_of, are_sets, are_family_lists, is_within, is_change, is_step, are_tree_steps, word_fault, is_past_families, FamiliesSoFar, no_families, with_node, with_end, with_family_word, whole_families, place_in_families, place_of_family, is_not_empty, number, node_or_end, is_end, SetNode, wants_more}
+use Rattle.tsp_read.proofs.Prelude.{◌≡◌, ℕ, suc, ◌+◌, ◌^◌, ◌<◌, ◌≤◌, Bool, true, false, cond, List, [], ◌∷◌, ◌++◌, length, map, refl, sym, ap, subst, ◌∙◌, append_assoc, append-nil, arith, None, Result, and_parts, and_left, and_right, leb-true, not_from_true, false≢true, and_from, length-append, list_all-append, sum_by-cons, decimal, signed_decimal, list_all, flat_map, sum_by, ℤ, not, ◌&&◌, ◌||◌, nat_le, nat_abs, codes, result_err, NumberFault, most_families, most_family_nodes, most_rows, most_branches, most_changes, most_difference, Step, Branch, Leaf, are_whole, branch_count, change_count, within_abs, line_end, number_line, before_blank, ended_line, set_line, family_lines, family_list, change_words, step_line, case_tree_lines, is_node, is_set_of, are_sets, are_family_lists, is_within, is_change, is_step, are_tree_steps, word_fault, is_past_families, FamiliesSoFar, no_families, with_node, with_end, with_family_word, whole_families, place_in_families, place_of_family, is_not_empty, number, node_or_end, is_end, SetNode, wants_more}
 use Rattle.tsp_read.proofs.NumbersReadBack.{NumberLaws, listed_back, node_goes_on, end_read, end_ends, no_rows, has_room, signed_plain, are_branch}
 use Rattle.tsp_read.proofs.Onto.{AllTaken, Runs, runs_none, runs_one, runs_then, all_taken}
 use Rattle.tsp_read.proofs.Text.{is_plain_word, WritesWords, number_line_written}
@@ -36,7 +36,7 @@ room_there : (begun : Bool) (families count : ℕ) → nat_le most_family_nodes 
     → is_past_families begun families count ≡ false
 room_there begun families count nodes few = rw (nodes, few) (and_right (not begun) false refl)
 
-node_taken : NumberLaws → (n : ℕ) → n < 2 ^ 32 → (begun : Bool) (families count k : ℕ) → nat_le most_family_nodes count ≡ false
+pub node_taken : NumberLaws → (n : ℕ) → n < 2 ^ 32 → (begun : Bool) (families count k : ℕ) → nat_le most_family_nodes count ≡ false
     → nat_le most_families families ≡ false → is_node n k ≡ true
     → word_fault n (SetNode begun families count) (decimal k) ≡ None
 node_taken laws n few begun families count k nodes room is =
@@ -44,7 +44,7 @@ node_taken laws n few begun families count k nodes room is =
     (ap (λ (r : Result ℤ NumberFault). result_err r) (listed_back laws n k few is)) refl refl
     (and_left (is_past_families begun families count) (not (is_end n (decimal k))) (room_there begun families count nodes room)) refl
 
-end_taken : NumberLaws → (n : ℕ) (begun : Bool) (families count : ℕ) → word_fault n (SetNode begun families count) (codes "-1") ≡ None
+pub end_taken : NumberLaws → (n : ℕ) (begun : Bool) (families count : ℕ) → word_fault n (SetNode begun families count) (codes "-1") ≡ None
 end_taken laws n begun families count =
     no_rows (result_err (node_or_end n (codes "-1"))) false false (is_past_families begun families count && not (is_end n (codes "-1"))) false
     (ap (λ (r : Result ℤ NumberFault). result_err r) (end_read laws n)) refl refl
@@ -93,7 +93,7 @@ nodes_run laws n few families sets nodes (k ∷ set) count room begins all =
     (onward n start middle last (decimal k ∷ []) (map decimal set) (node_runs laws n few families sets nodes count k (has_room most_family_nodes count (length set) room) begins both.0)
     (nodes_run laws n few families sets (nodes ++ k ∷ []) set (count + 1) (omega arith) begins both.1))
 
-filled : {A : Type 0} (xs : List A) → nat_le 1 (length xs) ≡ true → is_not_empty xs ≡ true
+pub filled : {A : Type 0} (xs : List A) → nat_le 1 (length xs) ≡ true → is_not_empty xs ≡ true
 filled [] some = absurd (false≢true some)
 filled (x ∷ xs) some = refl
 
@@ -223,7 +223,7 @@ same_line first more =
     let front = flat_map before_blank more in
     append_assoc (before_blank first) front ending ∙ append_assoc first (32 ∷ []) (front ++ ending) ∙ ap (λ (t : List ℕ). first ++ t) (moved_blanks more)
 
-ended_written : (words : List (List ℕ)) → list_all is_plain_word words ≡ true
+pub ended_written : (words : List (List ℕ)) → list_all is_plain_word words ≡ true
     → WritesWords (ended_line words) (words ++ codes "-1" ∷ [])
 ended_written [] all = end_written
 ended_written (first ∷ more) all =
@@ -234,14 +234,14 @@ ended_written (first ∷ more) all =
 
 -- ---- families
 
-nodes_plain : (n : ℕ) → n < 2 ^ 32 → (nodes : List ℕ) → list_all (is_node n) nodes ≡ true
+pub nodes_plain : (n : ℕ) → n < 2 ^ 32 → (nodes : List ℕ) → list_all (is_node n) nodes ≡ true
     → list_all is_plain_word (map decimal nodes) ≡ true
 nodes_plain n few [] all = refl
 nodes_plain n few (k ∷ nodes) all =
     let both = and_parts (is_node n k) (list_all (is_node n) nodes) all in
     and_from (is_plain_word (decimal k)) (list_all is_plain_word (map decimal nodes)) (node_plain n k few both.0) (nodes_plain n few nodes both.1)
 
-set_written : (n : ℕ) → n < 2 ^ 32 → (set : List ℕ) → is_set_of n set ≡ true → WritesWords (set_line set) (set_words set)
+pub set_written : (n : ℕ) → n < 2 ^ 32 → (set : List ℕ) → is_set_of n set ≡ true → WritesWords (set_line set) (set_words set)
 set_written n few set fits =
     ended_written (map decimal set) (nodes_plain n few set (and_parts (nat_le 1 (length set)) (list_all (is_node n) set) fits).1)
 
@@ -259,30 +259,30 @@ families_written n few families fits =
 
 -- ---- steps
 
-changes_plain : (n : ℕ) → n + most_families < 2 ^ 32 → (changes : List (ℕ × ℤ)) → list_all (is_change n) changes ≡ true
+changes_plain : (n : ℕ) → n + most_families + most_rows < 2 ^ 32 → (changes : List (ℕ × ℤ)) → list_all (is_change n) changes ≡ true
     → list_all is_plain_word (flat_map change_words changes) ≡ true
 changes_plain n few [] all = refl
 changes_plain n few (change ∷ changes) all =
     let both = and_parts (is_change n change) (list_all (is_change n) changes) all in
-    let parts = and_parts (is_node (n + most_families) change.0) (is_within most_difference change.1) both.0 in
+    let parts = and_parts (is_node (n + most_families + most_rows) change.0) (is_within most_difference change.1) both.0 in
     let small = within_abs most_difference change.1 parts.1 in
     let index = decimal change.0 in
     let difference = signed_decimal change.1 in
     let more = flat_map change_words changes in
-    and_from (is_plain_word index) (list_all is_plain_word (difference ∷ more)) (node_plain (n + most_families) change.0 few parts.0)
+    and_from (is_plain_word index) (list_all is_plain_word (difference ∷ more)) (node_plain (n + most_families + most_rows) change.0 few parts.0)
     (and_from (is_plain_word difference) (list_all is_plain_word more) (signed_plain change.1 (omega (arith, small))) (changes_plain n few changes both.1))
 
-step_written : (n : ℕ) → n + most_families < 2 ^ 32 → (step : Step) → is_step n step ≡ true
+step_written : (n : ℕ) → n + most_families + most_rows < 2 ^ 32 → (step : Step) → is_step n step ≡ true
     → WritesWords (step_line step) (step_words step)
 step_written n few (Branch a b) fits =
     let are = are_branch n (a, b) fits in
-    number_line_written (decimal a) (decimal b ∷ []) (node_plain (n + most_families) a few are.first)
+    number_line_written (decimal a) (decimal b ∷ []) (node_plain (n + most_families) a (omega (arith, few)) are.first)
     (and_from (is_plain_word (decimal b)) true (node_plain n b (omega (arith, few)) are.second) refl)
 step_written n few (Leaf changes) fits =
     let words = flat_map change_words changes in
     ended_written (codes "0" ∷ words) (and_from (is_plain_word (codes "0")) (list_all is_plain_word words) refl (changes_plain n few changes fits))
 
-pub steps_written : (n : ℕ) → n + most_families < 2 ^ 32 → (steps : List Step) → are_tree_steps n steps ≡ true
+pub steps_written : (n : ℕ) → n + most_families + most_rows < 2 ^ 32 → (steps : List Step) → are_tree_steps n steps ≡ true
     → WritesWords (case_tree_lines steps) (flat_map step_words steps)
 steps_written n few steps fits =
     let each = list_all (is_step n) steps in

@@ -1,5 +1,5 @@
 -- A keyword's line sets its field, or is the first fault.
-use Rattle.tsp_read.proofs.Prelude.{◌≡◌, ◌≢◌, Bool, refl, subst, Some, None, cond, ℕ, true, false, List, ◌∷◌, set, get_or, sym, ap, ◌∙◌, Option, Result, Ok, Err, find, ℤ, pos, nat_abs, nat_lt, is_some, is_none, not, ◌&&◌, result_ok, whole_of, Point, NumberFault, most_nodes, most_capacity, most_scale, most_load_unit, shape_of, value_shape_of, most_line_bytes, is_section_field, kind_word, weight_kind_word, weight_format_word, coord_kind_word, display_kind_word, kinds, weight_kinds, weight_formats, coord_kinds, display_kinds, Field, NameKey, TypeKey, CommentKey, OtherKey, DimensionKey, CapacityKey, ScaleKey, LoadUnitKey, EdgeWeightTypeKey, EdgeWeightFormatKey, NodeCoordTypeKey, DisplayDataTypeKey, NodeCoordPart, DisplayDataPart, DemandPart, DepotPart, FixedEdgesPart, EdgeWeightPart, TourPart, NodePotentialPart, RowPotentialPart, ColumnPotentialPart, FixedEdgePotentialPart, FamilyPart, BranchPart, Known, Fields, spatial, stands_in, with_one_number, fields_of, clean_more, space_kept, coords_stay, first_stays, same_field, has_line, open_section, words_of, kind_named, weight_kind_named, weight_format_named, coord_kind_named, display_kind_named, is_left_out, says_space, spatial_after, dimension_in, row_of, is_late, coords_by_node, is_not_empty, first_word, WordLine, Item, Line, IsClean, fields_by, sections_in_order, first_incomplete, LineFault}
+use Rattle.tsp_read.proofs.Prelude.{◌≡◌, ◌≢◌, Bool, refl, subst, Some, None, cond, ℕ, true, false, List, ◌∷◌, set, get_or, sym, ap, ◌∙◌, Option, Result, Ok, Err, find, ℤ, pos, nat_abs, nat_lt, is_some, is_none, not, ◌&&◌, result_ok, whole_of, Point, NumberFault, most_nodes, most_capacity, most_scale, most_load_unit, shape_of, value_shape_of, most_line_bytes, is_section_field, kind_word, weight_kind_word, weight_format_word, coord_kind_word, display_kind_word, kinds, weight_kinds, weight_formats, coord_kinds, display_kinds, Field, NameKey, TypeKey, CommentKey, OtherKey, DimensionKey, CapacityKey, ScaleKey, LoadUnitKey, EdgeWeightTypeKey, EdgeWeightFormatKey, NodeCoordTypeKey, DisplayDataTypeKey, NodeCoordPart, DisplayDataPart, DemandPart, DepotPart, FixedEdgesPart, EdgeWeightPart, TourPart, NodePotentialPart, RowPotentialPart, ColumnPotentialPart, FixedEdgePotentialPart, FamilyPart, MemoryPart, SubsetRowPart, BranchPart, Known, Fields, spatial, stands_in, with_one_number, fields_of, clean_more, space_kept, coords_stay, first_stays, same_field, has_line, open_section, words_of, kind_named, weight_kind_named, weight_format_named, coord_kind_named, display_kind_named, is_left_out, says_space, spatial_after, dimension_in, row_of, is_late, coords_by_node, is_not_empty, first_word, WordLine, Item, Line, IsClean, fields_by, sections_in_order, first_incomplete, LineFault}
 use Rattle.tsp_format.specs.declared.keyword.ValueShape.{ValueShape}
 use Rattle.tsp_format.specs.declared.keyword.ValueShape.TheVariants.{Kept, KeptEach, Number, Word}
 use Rattle.tsp_format.specs.declared.kinds.CoordKind.{CoordKind}
@@ -49,6 +49,8 @@ by_keyword P p0 p1 p2 p3 p4 p5 p6 p7 p8 p9 p10 RowPotentialPart shape e = absurd
 by_keyword P p0 p1 p2 p3 p4 p5 p6 p7 p8 p9 p10 ColumnPotentialPart shape e = absurd cc
 by_keyword P p0 p1 p2 p3 p4 p5 p6 p7 p8 p9 p10 FixedEdgePotentialPart shape e = absurd cc
 by_keyword P p0 p1 p2 p3 p4 p5 p6 p7 p8 p9 p10 FamilyPart shape e = absurd cc
+by_keyword P p0 p1 p2 p3 p4 p5 p6 p7 p8 p9 p10 MemoryPart shape e = absurd cc
+by_keyword P p0 p1 p2 p3 p4 p5 p6 p7 p8 p9 p10 SubsetRowPart shape e = absurd cc
 by_keyword P p0 p1 p2 p3 p4 p5 p6 p7 p8 p9 p10 BranchPart shape e = absurd cc
 
 ranged : (P : ℤ → ℤ → Type 0) (l h low high : ℤ) → P l h → Number l h ≡ Number low high → P low high
@@ -96,6 +98,8 @@ other_alone in_space RowPotentialPart shape k0 k1 k2 k3 k4 k5 k6 numbered = cc
 other_alone in_space ColumnPotentialPart shape k0 k1 k2 k3 k4 k5 k6 numbered = cc
 other_alone in_space FixedEdgePotentialPart shape k0 k1 k2 k3 k4 k5 k6 numbered = cc
 other_alone in_space FamilyPart shape k0 k1 k2 k3 k4 k5 k6 numbered = cc
+other_alone in_space MemoryPart shape k0 k1 k2 k3 k4 k5 k6 numbered = cc
+other_alone in_space SubsetRowPart shape k0 k1 k2 k3 k4 k5 k6 numbered = cc
 other_alone in_space BranchPart shape k0 k1 k2 k3 k4 k5 k6 numbered = cc
 
 -- ---- the line of a keyword with a word or a number as its value
@@ -396,12 +400,12 @@ dimension_field : (earlier : List Item) (line : WordLine) (z : ℤ)
     → has_line DepotPart earlier ≡ false → has_line FixedEdgesPart earlier ≡ false → has_line EdgeWeightPart earlier ≡ false
     → has_line NodePotentialPart earlier ≡ false → has_line RowPotentialPart earlier ≡ false
     → has_line ColumnPotentialPart earlier ≡ false → has_line FixedEdgePotentialPart earlier ≡ false
-    → has_line FamilyPart earlier ≡ false
-    → has_line BranchPart earlier ≡ false
+    → has_line FamilyPart earlier ≡ false → has_line MemoryPart earlier ≡ false
+    → has_line SubsetRowPart earlier ≡ false → has_line BranchPart earlier ≡ false
     → (let fields = fields_by (λ field. has_line field earlier) earlier in record fields { dimension = Some (nat_abs z) })
     ≡ fields_by (is_closed (Line (Known DimensionKey) line ∷ earlier)) (Line (Known DimensionKey) line ∷ earlier)
-dimension_field earlier line z read c0 c1 c2 c3 c4 c5 c6 c7 c8 c9 c10 c11 =
-    rw (c0, c1, c2, c3, c4, c5, c6, c7, c8, c9, c10, c11, read) refl
+dimension_field earlier line z read c0 c1 c2 c3 c4 c5 c6 c7 c8 c9 c10 c11 c12 c13 =
+    rw (c0, c1, c2, c3, c4, c5, c6, c7, c8, c9, c10, c11, c12, c13, read) refl
 
 dimension_first : (earlier : List Item) (line : WordLine) → has_line NodeCoordPart earlier ≡ false
     → has_line DisplayDataPart earlier ≡ false
@@ -409,9 +413,10 @@ dimension_first : (earlier : List Item) (line : WordLine) → has_line NodeCoord
     → has_line EdgeWeightPart earlier ≡ false → has_line NodePotentialPart earlier ≡ false
     → has_line RowPotentialPart earlier ≡ false
     → has_line ColumnPotentialPart earlier ≡ false → has_line FixedEdgePotentialPart earlier ≡ false
-    → has_line FamilyPart earlier ≡ false → has_line BranchPart earlier ≡ false
+    → has_line FamilyPart earlier ≡ false → has_line MemoryPart earlier ≡ false
+    → has_line SubsetRowPart earlier ≡ false → has_line BranchPart earlier ≡ false
     → first_incomplete earlier ≡ find (is_closed_incomplete (Line (Known DimensionKey) line ∷ earlier)) sections_in_order
-dimension_first earlier line c0 c1 c2 c3 c4 c5 c6 c7 c8 c9 c10 c11 = rw (c0, c1, c2, c3, c4, c5, c6, c7, c8, c9, c10, c11) refl
+dimension_first earlier line c0 c1 c2 c3 c4 c5 c6 c7 c8 c9 c10 c11 c12 c13 = rw (c0, c1, c2, c3, c4, c5, c6, c7, c8, c9, c10, c11, c12, c13) refl
 
 -- no section but the tours comes before DIMENSION
 none_before : (f : Field) (earlier : List Item) → is_section_field f ≡ true → same_field TourPart f ≡ false → IsClean earlier
@@ -435,12 +440,13 @@ dimension_taken old new line z gives is same_first same_part earlier h short =
           ∙ dimension_field earlier line z gives.2 (none NodeCoordPart refl refl) (none DisplayDataPart refl refl)
           (none DemandPart refl refl) (none DepotPart refl refl) (none FixedEdgesPart refl refl) (none EdgeWeightPart refl refl)
           (none NodePotentialPart refl refl) (none RowPotentialPart refl refl) (none ColumnPotentialPart refl refl)
-          (none FixedEdgePotentialPart refl refl) (none FamilyPart refl refl) (none BranchPart refl refl);
+          (none FixedEdgePotentialPart refl refl) (none FamilyPart refl refl) (none MemoryPart refl refl)
+          (none SubsetRowPart refl refl) (none BranchPart refl refl);
       incomplete = same_first ∙ h.incomplete ∙ dimension_first earlier line (none NodeCoordPart refl refl)
           (none DisplayDataPart refl refl) (none DemandPart refl refl) (none DepotPart refl refl) (none FixedEdgesPart refl refl)
           (none EdgeWeightPart refl refl) (none NodePotentialPart refl refl) (none RowPotentialPart refl refl)
           (none ColumnPotentialPart refl refl) (none FixedEdgePotentialPart refl refl) (none FamilyPart refl refl)
-          (none BranchPart refl refl);
+          (none MemoryPart refl refl) (none SubsetRowPart refl refl) (none BranchPart refl refl);
       part = still_none old new (Line (Known DimensionKey) line ∷ earlier) refl same_part h.part;
     }
 

@@ -21,6 +21,7 @@ pub mod Groups
 pub mod SectionFields
 pub mod Words
 pub mod FamilyWords
+pub mod MemoryBack
 pub mod TreeWords
 pub mod Shapes
 pub mod Stages

@@ -1,5 +1,5 @@
 -- Sections as they are written are read back, and are complete.
-use Rattle.tsp_read.proofs.Prelude.{◌≡◌, ℕ, ◌+◌, ◌≤◌, Bool, true, false, cond, List, [], ◌∷◌, length, refl, ap, subst, ◌∙◌, arith, Option, Some, None, Result, ◌^◌, ◌<◌, append_assoc, ◌++◌, sym, false≢true, and_parts, leb-true, and_left, and_right, true≢false, take_all, decimal, signed_decimal, list_all, prefix_len, find, filter, option_map, option_and_then, option_map_or, ℤ, pos, not, nat_le, nat_abs, is_some, unwrap_or, ◌&&◌, nat_lt, result_ok, whole_of, NumberFault, most_nodes, most_capacity, most_scale, most_load_unit, most_matrix_nodes, most_line_bytes, shape_of, is_section_field, is_blank, is_spatial, coord_kind_word, weight_kind_word, field_word, fields_in_order, Field, DimensionKey, CapacityKey, ScaleKey, LoadUnitKey, NodeCoordTypeKey, EdgeWeightTypeKey, CommentKey, OtherKey, NodeCoordPart, Known, Shape, Numbers, Points, SpacePoints, Depots, Pairs, Weights, Tours, Triples, Families, Steps, line_lens, text_of_section, text_of_field, Fields, spatial, with_dimension, if_there, is_node, is_from_to, section_fits, fits, clean_more, same_field_is, has_line, value_at, read_as, dimension_in, named_at, coord_kind_named, weight_kind_named, spatial_after, same_field, is_open, values_at, others_in, open_section, words_of, place_by, place_in, may_repeat, row_of, first_word, Item, WordLine, Line, LineEnd, items_in, items_of, has_no_line_end, PastEnd, IsClean, needs_nodes, is_matrix, opening_rows, wants_more, is_incomplete, first_incomplete}
+use Rattle.tsp_read.proofs.Prelude.{◌≡◌, ℕ, ◌+◌, ◌≤◌, Bool, true, false, cond, List, [], ◌∷◌, length, refl, ap, subst, ◌∙◌, arith, Option, Some, None, Result, ◌^◌, ◌<◌, append_assoc, ◌++◌, sym, false≢true, and_parts, leb-true, and_left, and_right, true≢false, take_all, decimal, signed_decimal, list_all, prefix_len, find, filter, option_map, option_and_then, option_map_or, ℤ, pos, not, nat_le, nat_abs, is_some, unwrap_or, ◌&&◌, nat_lt, result_ok, whole_of, NumberFault, most_nodes, most_capacity, most_scale, most_load_unit, most_matrix_nodes, most_line_bytes, shape_of, is_section_field, is_blank, is_spatial, coord_kind_word, weight_kind_word, field_word, fields_in_order, Field, DimensionKey, CapacityKey, ScaleKey, LoadUnitKey, NodeCoordTypeKey, EdgeWeightTypeKey, CommentKey, OtherKey, NodeCoordPart, Known, Shape, Numbers, Points, SpacePoints, Depots, Pairs, Weights, Tours, Triples, Families, Memories, SubsetRows, Steps, line_lens, text_of_section, text_of_field, Fields, spatial, with_dimension, if_there, is_node, is_from_to, section_fits, fits, clean_more, same_field_is, has_line, value_at, read_as, dimension_in, named_at, coord_kind_named, weight_kind_named, spatial_after, same_field, is_open, values_at, others_in, open_section, words_of, place_by, place_in, may_repeat, row_of, first_word, Item, WordLine, Line, LineEnd, items_in, items_of, has_no_line_end, PastEnd, IsClean, needs_nodes, is_matrix, opening_rows, wants_more, is_incomplete, first_incomplete}
 use Rattle.tsp_format.specs.declared.kinds.CoordKind.{CoordKind}
 use Rattle.tsp_format.specs.declared.kinds.WeightKind.{WeightKind}
 use Rattle.tsp_file.proofs.ValidFields.{dimensioned}
@@ -144,14 +144,14 @@ by_shape f = by_section (ByShape f)
     (refl, refl, entries_there f (spatial f), points_writable (spatial f), refl, refl) (refl, refl, refl, refl, refl, refl) (refl, refl, refl, refl, refl, refl) (refl, refl, refl, refl, refl, refl)
     (refl, refl, refl, refl, refl, refl) (refl, refl, refl, refl, refl, refl) (refl, refl, refl, refl, refl, refl) (refl, refl, refl, refl, refl, refl)
     (refl, refl, refl, refl, refl, refl) (refl, refl, refl, refl, refl, refl) (refl, refl, refl, refl, refl, refl) (refl, refl, refl, refl, refl, refl)
-    (refl, refl, refl, refl, refl, refl)
+    (refl, refl, refl, refl, refl, refl) (refl, refl, refl, refl, refl, refl) (refl, refl, refl, refl, refl, refl)
 
 is_plain : (field : Field) → is_section_field field ≡ true → IsPlain field
 is_plain = by_section IsPlain
     (refl, refl, refl, refl, refl, refl) (refl, refl, refl, refl, refl, refl) (refl, refl, refl, refl, refl, refl) (refl, refl, refl, refl, refl, refl)
     (refl, refl, refl, refl, refl, refl) (refl, refl, refl, refl, refl, refl) (refl, refl, refl, refl, refl, refl) (refl, refl, refl, refl, refl, refl)
     (refl, refl, refl, refl, refl, refl) (refl, refl, refl, refl, refl, refl) (refl, refl, refl, refl, refl, refl) (refl, refl, refl, refl, refl, refl)
-    (refl, refl, refl, refl, refl, refl)
+    (refl, refl, refl, refl, refl, refl) (refl, refl, refl, refl, refl, refl) (refl, refl, refl, refl, refl, refl)
 
 -- the facts of a section with these entries, or without any
 pub record IsSection (f : Fields) (field : Field) (shape : Shape) (entries : Option (Entries shape)) : Type 0 where
@@ -212,6 +212,8 @@ are_right laws f Tours xs items written one fit =
     record { valid = fit; few = λ e. absurd (false≢true e); known = λ e. absurd (false≢true e) }
 are_right laws f Triples xs items written one fit = counted laws f Triples xs items written one fit
 are_right laws f Families xs items written one fit = counted laws f Families xs items written one fit
+are_right laws f Memories xs items written one fit = counted laws f Memories xs items written one fit
+are_right laws f SubsetRows xs items written one fit = counted laws f SubsetRows xs items written one fit
 are_right laws f Steps xs items written one fit = counted laws f Steps xs items written one fit
 
 -- ---- the step
@@ -339,7 +341,7 @@ none_found test chosen fails (field ∷ fields) =
 -- a section has a shape in a spatial file as in another
 in_space_too : (in_space : Bool) (field : Field) → is_section_field field ≡ true → is_some (shape_of in_space field) ≡ true
 in_space_too in_space =
-    by_section (λ g. is_some (shape_of in_space g) ≡ true) refl refl refl refl refl refl refl refl refl refl refl refl refl
+    by_section (λ g. is_some (shape_of in_space g) ≡ true) refl refl refl refl refl refl refl refl refl refl refl refl refl refl refl
 
 pub none_incomplete : NumberLaws → (f : Fields) (items : List Item) → ((g : Field) → fits f g ≡ true) → Stage f [] items
     → first_incomplete items ≡ None

@@ -1,5 +1,5 @@
 -- A section is opened by its line, and closed: its field has its value, and no other field changes.
-use Rattle.tsp_read.proofs.Prelude.{◌≡◌, ℕ, Bool, true, false, List, [], ◌∷◌, ◌≤◌, cond, get_or, arith, refl, sym, ap, subst, ◌∙◌, Option, Some, None, Ok, Err, ℤ, nat_le, nat_lt, is_some, unwrap_or, not, ◌&&◌, option_map_or, find, and_parts, leb-true, Point, Field, DimensionKey, Known, most_nodes, most_line_bytes, most_matrix_nodes, shape_of, is_section_field, Step, fields_in_order, Fields, stands_in, with_numbers, with_points, spatial, fields_of, if_there, is_node, LineFault, Shape, Numbers, Pairs, Triples, Families, Steps, numbers_by_node, place_of_number, coords_by_node, fixed_in, place_of_fixed, fixed_triples_in, place_of_triple, whole_families, place_of_family, whole_steps, place_of_step, PastEnd, is_not_empty, WordLine, Item, Line, is_open, has_line, open_section, words_of, dimension_of, spatial_after, place_by, place_in, dimension_in, row_of, when, first_row, needs_nodes, is_matrix, opening_rows, wants_more, is_incomplete, sections_in_order, first_incomplete, clean_more, was_opened, no_words_opened}
+use Rattle.tsp_read.proofs.Prelude.{◌≡◌, ℕ, Bool, true, false, List, [], ◌∷◌, ◌≤◌, cond, get_or, arith, refl, sym, ap, subst, ◌∙◌, Option, Some, None, Ok, Err, ℤ, nat_le, nat_lt, is_some, unwrap_or, not, ◌&&◌, option_map_or, find, and_parts, leb-true, Point, Field, DimensionKey, Known, most_nodes, most_line_bytes, most_matrix_nodes, shape_of, is_section_field, Step, fields_in_order, Fields, stands_in, with_numbers, with_points, spatial, fields_of, if_there, is_node, LineFault, Shape, Numbers, Pairs, Triples, Families, Memories, SubsetRows, Steps, SubsetRow, numbers_by_node, place_of_number, coords_by_node, fixed_in, place_of_fixed, fixed_triples_in, place_of_triple, whole_families, place_of_family, whole_memories, place_of_memory, whole_rows, place_of_row, whole_steps, place_of_step, PastEnd, is_not_empty, WordLine, Item, Line, is_open, has_line, open_section, words_of, dimension_of, spatial_after, place_by, place_in, dimension_in, row_of, when, first_row, needs_nodes, is_matrix, opening_rows, wants_more, is_incomplete, sections_in_order, first_incomplete, clean_more, was_opened, no_words_opened}
 use Rattle.tsp_text.specs.declared.fault.LineFault.TheVariants as row
 use Rattle.tsp_read.specs.declared.section_builder.SectionBuilder.{SectionBuilder}
 use Rattle.tsp_read.specs.declared.section_builder.SectionBuilder.TheVariants as parts
@@ -7,11 +7,13 @@ use Rattle.tsp_read.specs.declared.by_node.NumberList.{NumberList}
 use Rattle.tsp_read.specs.declared.by_node.PointList.{PointList}
 use Rattle.tsp_read.specs.declared.lists.FixedList.{FixedList}
 use Rattle.tsp_read.specs.declared.section_builder.TripleList.{TripleList}
+use Rattle.tsp_read.specs.declared.memory_lists.MemoryList.{MemoryList}
+use Rattle.tsp_read.specs.declared.memory_lists.RowList.{RowList}
 use Rattle.tsp_read.specs.declared.tree.FamilyList.{FamilyList}
 use Rattle.tsp_read.specs.declared.tree.TreeList.{TreeList}
 use Rattle.tsp_read.specs.states.Holds.{MayOpen, HoldsSection, with_words, with_section, first_of, fields_there, OpenHolds, Holds, Closed}
 use Rattle.tsp_read.specs.states.Parts.{are_in_space}
-use Rattle.tsp_read.specs.states.HeldParts.{HoldsNumbers, HoldsPoints, HoldsFixed, HoldsTriples, HoldsFamilies, HoldsTree, shape_of_points, shape_by, HoldsPart, HoldsShape}
+use Rattle.tsp_read.specs.states.HeldParts.{HoldsNumbers, HoldsPoints, HoldsFixed, HoldsTriples, HoldsFamilies, HoldsMemories, HoldsSubsetRows, HoldsTree, shape_of_points, shape_by, HoldsPart, HoldsShape}
 use Rattle.tsp_read.specs.declared.reading.OpenSection.{OpenSection}
 use Rattle.tsp_read.specs.declared.reading.Reading.{Reading}
 use Rattle.tsp_read.proofs.TextSteps.{but, first_without, first_more, opened_fields, opened_first, keywords_stay, closed_fields, stored_keywords}
@@ -197,6 +199,28 @@ families_stored section part families more old new is put finished in_space n wo
     let got = finished n words (subst (λ (p : SectionBuilder). HoldsPart p n words) is h.1) in
     stored_as section Families old new more in_space n words (h.0 ∙ ap (λ p. Some (shape_by p)) is)
     (put ∙ ap (λ xs. record old { families = Some xs }) got.0) got.1
+
+pub memories_stored : (section : OpenSection) (part : MemoryList) (lists : List (List ℕ)) (more : Bool) (old new : Fields)
+    → section.part ≡ parts.Memories part
+    → new ≡ record old { memories = Some lists }
+    → ((n : ℕ) (words : List (List ℕ)) → HoldsMemories part n words → (lists ≡ whole_memories n words) × (more ≡ wants_more (place_of_memory n words)))
+    → (in_space : Bool) (n : ℕ) (words : List (List ℕ)) → HoldsSection in_space section n words
+    → (new ≡ with_section in_space section.field n words old) × (more ≡ wants_more (place_in in_space section.field n words))
+memories_stored section part lists more old new is put finished in_space n words h =
+    let got = finished n words (subst (λ (p : SectionBuilder). HoldsPart p n words) is h.1) in
+    stored_as section Memories old new more in_space n words (h.0 ∙ ap (λ p. Some (shape_by p)) is)
+    (put ∙ ap (λ xs. record old { memories = Some xs }) got.0) got.1
+
+pub rows_stored : (section : OpenSection) (part : RowList) (rows : List SubsetRow) (more : Bool) (old new : Fields)
+    → section.part ≡ parts.SubsetRows part
+    → new ≡ record old { subset_rows = Some rows }
+    → ((n : ℕ) (words : List (List ℕ)) → HoldsSubsetRows part n words → (rows ≡ whole_rows n words) × (more ≡ wants_more (place_of_row n words)))
+    → (in_space : Bool) (n : ℕ) (words : List (List ℕ)) → HoldsSection in_space section n words
+    → (new ≡ with_section in_space section.field n words old) × (more ≡ wants_more (place_in in_space section.field n words))
+rows_stored section part rows more old new is put finished in_space n words h =
+    let got = finished n words (subst (λ (p : SectionBuilder). HoldsPart p n words) is h.1) in
+    stored_as section SubsetRows old new more in_space n words (h.0 ∙ ap (λ p. Some (shape_by p)) is)
+    (put ∙ ap (λ xs. record old { subset_rows = Some xs }) got.0) got.1
 
 pub steps_stored : (section : OpenSection) (part : TreeList) (steps : List Step) (more : Bool) (old new : Fields)
     → section.part ≡ parts.Steps part

@@ -1,6 +1,6 @@
 -- Sections by their shape, as they are written: each word is taken at its place, none is left to come, and the entries
 -- are read back.
-use Rattle.tsp_read.proofs.Prelude.{◌≡◌, ℕ, ◌+◌, ◌*◌, ◌^◌, ◌<◌, ◌≤◌, Bool, true, false, cond, List, [], ◌∷◌, ◌++◌, length, map, refl, ap, arith, Option, ℤ, pos, ◌&&◌, ◌||◌, ◌==◌, nat_le, nat_lt, unsigned_abs, codes, list_all, list_any, flat_map, enumerate_from, sum_by, decimal, signed_decimal, false≢true, and_parts, or_right, leb-true, ltb-true, eqb-true, le-ltb, ints, Point, Field, Shape, Numbers, Points, SpacePoints, Depots, Pairs, Weights, Tours, Triples, Families, Steps, most_nodes, most_matrix_nodes, most_weight, most_depots, most_fixed, most_triples, most_tour_nodes, most_families, Step, Fields, numbers_in, points_in, if_there, is_by_node, is_point, is_within, is_from_to, is_node, is_pair_of, is_triple_of, are_depots, are_fixed, are_triples, fit_matrix, is_node_list, are_tours, are_family_lists, are_tree_steps, with_dimension, section_fits, section_text, lines_by_node, node_list, pair_list, triple_list, family_list, case_tree_lines, coordinate_words, whole_number, line_lens, matrix_lines, optional, text_of_section, is_end, PastEnd, Weight, PastWeights, DepotAfter, weights_in, tours_in, whole_steps, numbers_by_node, points_by_node, space_points_by_node, depots_in, fixed_in, fixed_triples_in, whole_families, place_by, wants_more, needs_nodes, is_matrix}
+use Rattle.tsp_read.proofs.Prelude.{◌≡◌, ℕ, ◌+◌, ◌*◌, ◌^◌, ◌<◌, ◌≤◌, Bool, true, false, cond, List, [], ◌∷◌, ◌++◌, length, map, refl, ap, arith, Option, ℤ, pos, ◌&&◌, ◌||◌, ◌==◌, nat_le, nat_lt, unsigned_abs, codes, list_all, list_any, flat_map, enumerate_from, sum_by, decimal, signed_decimal, false≢true, and_parts, or_right, leb-true, ltb-true, eqb-true, le-ltb, ints, Point, Field, Shape, Numbers, Points, SpacePoints, Depots, Pairs, Weights, Tours, Triples, Families, Memories, SubsetRows, Steps, most_nodes, most_matrix_nodes, most_weight, most_depots, most_fixed, most_triples, most_tour_nodes, most_families, most_rows, Step, SubsetRow, Fields, numbers_in, points_in, if_there, is_by_node, is_point, is_within, is_from_to, is_node, is_pair_of, is_triple_of, are_depots, are_fixed, are_triples, fit_matrix, is_node_list, are_tours, are_family_lists, are_memory_lists, are_subset_rows, are_tree_steps, with_dimension, section_fits, section_text, lines_by_node, node_list, pair_list, triple_list, family_lines, family_list, row_list, case_tree_lines, coordinate_words, whole_number, line_lens, matrix_lines, optional, text_of_section, is_end, PastEnd, Weight, PastWeights, DepotAfter, weights_in, tours_in, whole_steps, numbers_by_node, points_by_node, space_points_by_node, depots_in, fixed_in, fixed_triples_in, whole_families, whole_memories, whole_rows, place_by, wants_more, needs_nodes, is_matrix}
 use Rattle.tsp_file.specs.Cost.{origin}
 use Rattle.tsp_read.proofs.Text.{WritesWords}
 use Rattle.tsp_read.proofs.NumbersReadBack.{NumberLaws, end_ends, depots_taken, depots_back, weights_taken, weights_back, pair_words, pairs_listed, triple_words, triples_listed}
@@ -9,7 +9,8 @@ use Rattle.tsp_read.proofs.NumbersReadBack as listed
 use Rattle.tsp_read.proofs.Groups as by_node
 use Rattle.tsp_read.proofs.Groups.{AreSmall, entry_words, number_words, numbers_spelled, point_words, space_point_words, points_spelled, space_points_spelled}
 use Rattle.tsp_read.proofs.Words.{tour_words, tours_taken, tours_back, values_written, node_lines_written, tour_lines_written, pair_lines_written, triple_lines_written, matrix_lines_written}
-use Rattle.tsp_read.proofs.FamilyWords.{families_words, families_taken, families_back, families_done, families_written, steps_written}
+use Rattle.tsp_read.proofs.FamilyWords.{family_words, families_words, families_taken, families_back, families_done, families_written, steps_written}
+use Rattle.tsp_read.proofs.MemoryBack.{memories_taken, memories_back, memories_done, memories_written, rows_words, rows_taken, rows_back, rows_done, rows_written}
 use Rattle.tsp_read.proofs.TreeWords.{step_words, steps_taken, steps_back, steps_done}
 
 -- ---- what a section of a shape has
@@ -24,6 +25,8 @@ Entries Weights = List ℤ
 Entries Tours = List (List ℕ)
 Entries Triples = List (ℕ × ℕ × ℤ)
 Entries Families = List (List (List ℕ))
+Entries Memories = List (List ℕ)
+Entries SubsetRows = List SubsetRow
 Entries Steps = List Step
 
 -- the entries of a field, where the file has it
@@ -37,6 +40,8 @@ entries_in f field Weights = f.weights
 entries_in f field Tours = f.tours
 entries_in f field Triples = f.fixed_potentials
 entries_in f field Families = f.families
+entries_in f field Memories = f.memories
+entries_in f field SubsetRows = f.subset_rows
 entries_in f field Steps = f.branches
 
 -- whether the entries are valid in a file of n nodes
@@ -50,6 +55,8 @@ are_valid Weights n xs = fit_matrix n xs
 are_valid Tours n xs = are_tours xs
 are_valid Triples n xs = are_triples n xs
 are_valid Families n xs = are_family_lists n xs
+are_valid Memories n xs = are_memory_lists n xs
+are_valid SubsetRows n xs = are_subset_rows n xs
 are_valid Steps n xs = are_tree_steps n xs
 
 -- the lines of the entries; those of weights have these lengths
@@ -63,6 +70,8 @@ lines_for lens Weights xs = matrix_lines lens xs
 lines_for lens Tours xs = flat_map node_list xs
 lines_for lens Triples xs = triple_list xs
 lines_for lens Families xs = family_list xs
+lines_for lens Memories xs = family_lines xs
+lines_for lens SubsetRows xs = row_list xs
 lines_for lens Steps xs = case_tree_lines xs
 
 -- the words of the lines
@@ -76,6 +85,8 @@ words_for Weights xs = map signed_decimal xs
 words_for Tours xs = flat_map tour_words xs
 words_for Triples xs = flat_map triple_words xs ++ codes "-1" ∷ []
 words_for Families xs = families_words xs
+words_for Memories xs = family_words xs
+words_for SubsetRows xs = rows_words xs
 words_for Steps xs = flat_map step_words xs
 
 -- the entries that words give
@@ -89,6 +100,8 @@ read_for Weights n words = weights_in words
 read_for Tours n words = tours_in words
 read_for Triples n words = fixed_triples_in n words
 read_for Families n words = whole_families n words
+read_for Memories n words = whole_memories n words
+read_for SubsetRows n words = whole_rows n words
 read_for Steps n words = whole_steps n words
 
 -- the text and the condition of a section, over these
@@ -107,6 +120,8 @@ text_by f field Weights = refl
 text_by f field Tours = refl
 text_by f field Triples = refl
 text_by f field Families = refl
+text_by f field Memories = refl
+text_by f field SubsetRows = refl
 text_by f field Steps = refl
 
 abbrev pub fit_for : Fields → (shape : Shape) → Entries shape → Bool
@@ -123,6 +138,8 @@ fits_by f field Weights = refl
 fits_by f field Tours = refl
 fits_by f field Triples = refl
 fits_by f field Families = refl
+fits_by f field Memories = refl
+fits_by f field SubsetRows = refl
 fits_by f field Steps = refl
 
 -- ---- ranges of numbers that can be written
@@ -152,8 +169,8 @@ pub record IsBody (lens : List ℕ) (shape : Shape) (n : ℕ) (xs : Entries shap
 few_nodes : (n : ℕ) → n ≤ most_nodes → n < 2 ^ 32
 few_nodes n few = omega (arith, few)
 
--- the indices of nodes and families
-few_indices : (n : ℕ) → n ≤ most_nodes → n + most_families < 2 ^ 32
+-- the indices of nodes, families and rows
+few_indices : (n : ℕ) → n ≤ most_nodes → n + most_families + most_rows < 2 ^ 32
 few_indices n few = omega (arith, few)
 
 depots_ended : NumberLaws → (n : ℕ) (nodes : List ℕ) → list_any (is_end n) (map decimal nodes ++ codes "-1" ∷ []) ≡ true
@@ -263,6 +280,24 @@ body laws lens Families writable n few xs fit =
       taken = families_taken laws n most xs fit;
       back = families_back laws n most xs fit;
       done = families_done laws n most xs fit;
+      few = λ e. absurd (false≢true e);
+    }
+body laws lens Memories writable n few xs fit =
+    let most = few_nodes n (few refl) in
+    record {
+      written = memories_written n most xs fit;
+      taken = memories_taken laws n most xs fit;
+      back = memories_back laws n most xs fit;
+      done = memories_done laws n most xs fit;
+      few = λ e. absurd (false≢true e);
+    }
+body laws lens SubsetRows writable n few xs fit =
+    let most = few_nodes n (few refl) in
+    record {
+      written = rows_written n most xs fit;
+      taken = rows_taken laws n most xs fit;
+      back = rows_back laws n most xs fit;
+      done = rows_done laws n most xs fit;
       few = λ e. absurd (false≢true e);
     }
 body laws lens Steps writable n few xs fit =

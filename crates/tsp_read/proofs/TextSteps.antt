@@ -148,7 +148,7 @@ opened_fields earlier line = by_section (λ f. has_line f earlier ≡ false → 
     ≡ fields_by (is_closed (Line (Known f) line ∷ earlier)) (Line (Known f) line ∷ earlier))
     (λ none. rw none refl) (λ none. rw none refl) (λ none. rw none refl) (λ none. rw none refl) (λ none. rw none refl)
     (λ none. rw none refl) (λ none. rw none refl) (λ none. rw none refl) (λ none. rw none refl) (λ none. rw none refl)
-    (λ none. rw none refl) (λ none. rw none refl) (λ none. rw none refl)
+    (λ none. rw none refl) (λ none. rw none refl) (λ none. rw none refl) (λ none. rw none refl) (λ none. rw none refl)
 
 -- the first closed section that is incomplete is the one from before
 pub opened_first : (earlier : List Item) (line : WordLine) (f : Field) → is_section_field f ≡ true → has_line f earlier ≡ false
@@ -157,13 +157,13 @@ opened_first earlier line = by_section (λ f. has_line f earlier ≡ false
     → find (is_incomplete earlier) sections_in_order ≡ find (is_closed_incomplete (Line (Known f) line ∷ earlier)) sections_in_order)
     (λ none. rw none refl) (λ none. rw none refl) (λ none. rw none refl) (λ none. rw none refl) (λ none. rw none refl)
     (λ none. rw none refl) (λ none. rw none refl) (λ none. rw none refl) (λ none. rw none refl) (λ none. rw none refl)
-    (λ none. rw none refl) (λ none. rw none refl) (λ none. rw none refl)
+    (λ none. rw none refl) (λ none. rw none refl) (λ none. rw none refl) (λ none. rw none refl) (λ none. rw none refl)
 
 -- what the keywords say stays
 pub keywords_stay : (earlier : List Item) (line : WordLine) (f : Field) → is_section_field f ≡ true
     → keywords_there (Line (Known f) line ∷ earlier) ≡ keywords_there earlier
 keywords_stay earlier line = by_section (λ f. keywords_there (Line (Known f) line ∷ earlier) ≡ keywords_there earlier)
-    refl refl refl refl refl refl refl refl refl refl refl refl refl
+    refl refl refl refl refl refl refl refl refl refl refl refl refl refl refl
 
 -- ---- a word of the open section: the closed ones stay
 
@@ -173,7 +173,7 @@ word_fields earlier word = by_section (λ f. open_section earlier ≡ Some f
     → fields_by (is_closed (NumberWord word ∷ earlier)) (NumberWord word ∷ earlier) ≡ fields_by (is_closed earlier) earlier)
     (λ o. rw o refl) (λ o. rw o refl) (λ o. rw o refl) (λ o. rw o refl) (λ o. rw o refl)
     (λ o. rw o refl) (λ o. rw o refl) (λ o. rw o refl) (λ o. rw o refl) (λ o. rw o refl)
-    (λ o. rw o refl) (λ o. rw o refl) (λ o. rw o refl)
+    (λ o. rw o refl) (λ o. rw o refl) (λ o. rw o refl) (λ o. rw o refl) (λ o. rw o refl)
 
 pub word_first : (earlier : List Item) (word : List ℕ) (f : Field) → is_section_field f ≡ true → open_section earlier ≡ Some f
     → find (is_closed_incomplete (NumberWord word ∷ earlier)) sections_in_order ≡ find (is_closed_incomplete earlier) sections_in_order
@@ -181,7 +181,7 @@ word_first earlier word = by_section (λ f. open_section earlier ≡ Some f
     → find (is_closed_incomplete (NumberWord word ∷ earlier)) sections_in_order ≡ find (is_closed_incomplete earlier) sections_in_order)
     (λ o. rw o refl) (λ o. rw o refl) (λ o. rw o refl) (λ o. rw o refl) (λ o. rw o refl)
     (λ o. rw o refl) (λ o. rw o refl) (λ o. rw o refl) (λ o. rw o refl) (λ o. rw o refl)
-    (λ o. rw o refl) (λ o. rw o refl) (λ o. rw o refl)
+    (λ o. rw o refl) (λ o. rw o refl) (λ o. rw o refl) (λ o. rw o refl) (λ o. rw o refl)
 
 -- ---- the open section is closed
 
@@ -199,7 +199,7 @@ closed_fields earlier = by_section (λ f. open_section earlier ≡ Some f → ha
     (λ o there. points_stored (spatial_after earlier) (dimension_in earlier) (words_of NodeCoordPart earlier) (fields_by (is_closed earlier) earlier)
     ∙ rw (o, there) refl) (λ o there. rw (o, there) refl) (λ o there. rw (o, there) refl) (λ o there. rw (o, there) refl) (λ o there. rw (o, there) refl)
     (λ o there. rw (o, there) refl) (λ o there. rw (o, there) refl) (λ o there. rw (o, there) refl) (λ o there. rw (o, there) refl) (λ o there. rw (o, there) refl)
-    (λ o there. rw (o, there) refl) (λ o there. rw (o, there) refl) (λ o there. rw (o, there) refl)
+    (λ o there. rw (o, there) refl) (λ o there. rw (o, there) refl) (λ o there. rw (o, there) refl) (λ o there. rw (o, there) refl) (λ o there. rw (o, there) refl)
 
 -- what the keywords say stays
 pub stored_keywords : (in_space : Bool) (n : ℕ) (words : List (List ℕ)) (fields : Fields) (f : Field) → is_section_field f ≡ true
@@ -208,7 +208,7 @@ stored_keywords in_space n words fields =
     by_section (λ f. fields_there (with_section in_space f n words fields) ≡ fields_there fields)
     (ap fields_there (points_stored in_space n words fields)) refl refl refl refl
     refl refl refl refl refl
-    refl refl refl
+    refl refl refl refl refl
 
 -- ---- a word of the open section: nothing changes but the words of that section
 

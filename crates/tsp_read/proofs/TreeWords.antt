@@ -1,5 +1,5 @@
 -- The steps of a tree as they are written: each word is taken at its place, and they are read back.
-use Rattle.tsp_read.proofs.Prelude.{◌≡◌, ℕ, zero, suc, ◌+◌, ◌-◌, ◌^◌, ◌<◌, ◌≤◌, true, false, cond, List, [], ◌∷◌, ◌++◌, length, refl, sym, ap, subst, ◌∙◌, append_assoc, append-nil, arith, None, Some, Result, Ok, ℤ, pos, neg_ℤ, not, ◌&&◌, ◌==◌, nat_le, nat_abs, codes, result_err, list_all, flat_map, decimal, signed_decimal, and_from, and_parts, and_left, and_right, leb-true, le-leb, eqb-true, false_from_ne_true, not_from_true, false≢true, NumberFault, whole_of, most_families, most_branches, most_changes, most_difference, Step, Branch, Leaf, are_whole, branch_count, change_count, within_abs, is_within, is_node, is_branch_of, is_change, is_step, are_tree_steps, change_words, number, reads_as, whole_of_size, StepAfter, IndexAfter, Amount, PastGroups, TreeSoFar, no_steps, index_or_leaf, begins_leaf, index_or_end, ends_leaf, with_leaf, with_word_of, with_tree_word, whole_steps, place_in_step, place_in_tree, place_of_step, word_fault, wants_more}
+use Rattle.tsp_read.proofs.Prelude.{◌≡◌, ℕ, zero, suc, ◌+◌, ◌-◌, ◌^◌, ◌<◌, ◌≤◌, true, false, cond, List, [], ◌∷◌, ◌++◌, length, refl, sym, ap, subst, ◌∙◌, append_assoc, append-nil, arith, None, Some, Result, Ok, ℤ, pos, neg_ℤ, not, ◌&&◌, ◌==◌, nat_le, nat_abs, codes, result_err, list_all, flat_map, decimal, signed_decimal, and_from, and_parts, and_left, and_right, leb-true, le-leb, eqb-true, false_from_ne_true, not_from_true, false≢true, NumberFault, whole_of, most_families, most_rows, most_branches, most_changes, most_difference, Step, Branch, Leaf, are_whole, branch_count, change_count, within_abs, is_within, is_node, is_branch_of, is_change, is_step, are_tree_steps, change_words, number, reads_as, whole_of_size, StepAfter, IndexAfter, Amount, PastGroups, TreeSoFar, no_steps, index_or_leaf, begins_leaf, index_or_end, ends_leaf, with_leaf, with_word_of, with_tree_word, whole_steps, place_in_step, place_in_tree, place_of_step, word_fault, wants_more}
 use Rattle.std.proofs.lemmas.Fmt.{decimal_digit}
 use Rattle.tsp_read.proofs.NumbersReadBack.{NumberLaws, node_back, listed_back, node_goes_on, end_read, end_ends, no_zero, no_rows, has_room, second_taken, are_branch}
 use Rattle.tsp_read.proofs.Onto.{AllTaken, Runs, runs_none, runs_one, runs_then, all_taken}
@@ -102,18 +102,18 @@ zero_taken laws n branches =
     (ap (λ (r : Result ℤ NumberFault). result_err r) (zero_read laws n)) refl refl
     (and_right (nat_le most_branches branches) (not (begins_leaf n (codes "0"))) (not_from_true (begins_leaf n (codes "0")) (leaf_begins laws n))) refl
 
-index_taken : NumberLaws → (n changes k : ℕ) → n + most_families < 2 ^ 32 → nat_le most_changes changes ≡ false
-    → is_node (n + most_families) k ≡ true → word_fault n (IndexAfter changes) (decimal k) ≡ None
+index_taken : NumberLaws → (n changes k : ℕ) → n + most_families + most_rows < 2 ^ 32 → nat_le most_changes changes ≡ false
+    → is_node (n + most_families + most_rows) k ≡ true → word_fault n (IndexAfter changes) (decimal k) ≡ None
 index_taken laws n changes k few room is =
     no_rows (result_err (index_or_end n (decimal k))) false false (nat_le most_changes changes && not (ends_leaf n (decimal k))) false
-    (ap (λ (r : Result ℤ NumberFault). result_err r) (listed_back laws (n + most_families) k few is)) refl refl
+    (ap (λ (r : Result ℤ NumberFault). result_err r) (listed_back laws (n + most_families + most_rows) k few is)) refl refl
     (and_left (nat_le most_changes changes) (not (ends_leaf n (decimal k))) room) refl
 
 end_taken : NumberLaws → (n changes : ℕ) → word_fault n (IndexAfter changes) (codes "-1") ≡ None
 end_taken laws n changes =
     no_rows (result_err (index_or_end n (codes "-1"))) false false (nat_le most_changes changes && not (ends_leaf n (codes "-1"))) false
-    (ap (λ (r : Result ℤ NumberFault). result_err r) (end_read laws (n + most_families))) refl refl
-    (and_right (nat_le most_changes changes) (not (ends_leaf n (codes "-1"))) (not_from_true (ends_leaf n (codes "-1")) (end_ends laws (n + most_families)))) refl
+    (ap (λ (r : Result ℤ NumberFault). result_err r) (end_read laws (n + most_families + most_rows))) refl refl
+    (and_right (nat_le most_changes changes) (not (ends_leaf n (codes "-1"))) (not_from_true (ends_leaf n (codes "-1")) (end_ends laws (n + most_families + most_rows)))) refl
 
 difference_back : NumberLaws → (z : ℤ) → is_within most_difference z ≡ true
     → whole_of_size most_difference (signed_decimal z) ≡ Ok z
@@ -127,12 +127,12 @@ difference_taken laws n z inside =
     no_rows (result_err (whole_of_size most_difference (signed_decimal z))) false false false false
     (ap (λ (r : Result ℤ NumberFault). result_err r) (difference_back laws z inside)) refl refl refl refl
 
-change_runs : NumberLaws → (n : ℕ) → n + most_families < 2 ^ 32
+change_runs : NumberLaws → (n : ℕ) → n + most_families + most_rows < 2 ^ 32
     → (steps : List Step) (leaf : List (ℕ × ℤ)) (change : ℕ × ℤ) (to_come branches changes : ℕ) → (to_come == 0) ≡ false
     → nat_le most_changes changes ≡ false → is_change n change ≡ true
     → TreeRuns n (within steps leaf to_come branches changes) (change_words change) (within steps (leaf ++ change ∷ []) to_come branches (changes + 1))
 change_runs laws n few steps leaf change to_come branches changes still room fits =
-    let both = and_parts (is_node (n + most_families) change.0) (is_within most_difference change.1) fits in
+    let both = and_parts (is_node (n + most_families + most_rows) change.0) (is_within most_difference change.1) fits in
     let index = decimal change.0 in
     let difference = signed_decimal change.1 in
     let start = within steps leaf to_come branches changes in
@@ -140,12 +140,12 @@ change_runs laws n few steps leaf change to_come branches changes still room fit
     let last = within steps (leaf ++ change ∷ []) to_come branches (changes + 1) in
     onward n start middle last (index ∷ []) (difference ∷ [])
     (one n start index middle still (index_taken laws n changes change.0 few room both.0)
-    (ap (λ t. cond t (with_leaf start) (record start { first = Some (nat_abs (number (index_or_end n index))); changes = changes + 1 })) (node_goes_on laws (n + most_families) change.0 few both.0)
-    ∙ ap (λ (r : Result ℤ NumberFault). half steps leaf (nat_abs (number r)) to_come branches (changes + 1)) (listed_back laws (n + most_families) change.0 few both.0)))
+    (ap (λ t. cond t (with_leaf start) (record start { first = Some (nat_abs (number (index_or_end n index))); changes = changes + 1 })) (node_goes_on laws (n + most_families + most_rows) change.0 few both.0)
+    ∙ ap (λ (r : Result ℤ NumberFault). half steps leaf (nat_abs (number r)) to_come branches (changes + 1)) (listed_back laws (n + most_families + most_rows) change.0 few both.0)))
     (one n middle difference last still (difference_taken laws n change.1 both.1)
     (ap (λ (r : Result ℤ NumberFault). within steps (leaf ++ (change.0, number r) ∷ []) to_come branches (changes + 1)) (difference_back laws change.1 both.1)))
 
-changes_run : NumberLaws → (n : ℕ) → n + most_families < 2 ^ 32
+changes_run : NumberLaws → (n : ℕ) → n + most_families + most_rows < 2 ^ 32
     → (steps : List Step) (before leaf : List (ℕ × ℤ)) (to_come branches changes : ℕ) → (to_come == 0) ≡ false
     → changes + length leaf ≤ most_changes → list_all (is_change n) leaf ≡ true
     → TreeRuns n (within steps before to_come branches changes) (flat_map change_words leaf) (within steps (before ++ leaf) to_come branches (changes + length leaf))
@@ -168,7 +168,7 @@ changes_run laws n few steps before (change ∷ leaf) to_come branches changes s
     (change_runs laws n few steps before change to_come branches changes still (has_room most_changes changes (length leaf) room) both.0)
     (changes_run laws n few steps (before ++ change ∷ []) leaf to_come branches (changes + 1) still (omega arith) both.1))
 
-leaf_runs : NumberLaws → (n : ℕ) → n + most_families < 2 ^ 32
+leaf_runs : NumberLaws → (n : ℕ) → n + most_families + most_rows < 2 ^ 32
     → (steps : List Step) (leaf : List (ℕ × ℤ)) (to_come branches changes : ℕ) → (to_come == 0) ≡ false
     → changes + length leaf ≤ most_changes → list_all (is_change n) leaf ≡ true
     → TreeRuns n (between steps to_come branches changes) (leaf_words leaf) (between (steps ++ Leaf leaf ∷ []) (to_come - 1) branches (changes + length leaf))
@@ -183,7 +183,7 @@ leaf_runs laws n few steps leaf to_come branches changes still room all =
     (ap (λ t. cond t entered (record start { first = Some (nat_abs (number (index_or_leaf n (codes "0")))); branches = branches + 1 })) (leaf_begins laws n)))
     (onward n entered filled last (flat_map change_words leaf) (codes "-1" ∷ []) (changes_run laws n few steps [] leaf to_come branches changes still room all)
     (one n filled (codes "-1") last still (end_taken laws n (changes + length leaf))
-    (ap (λ t. cond t (with_leaf filled) (record filled { first = Some (nat_abs (number (index_or_end n (codes "-1")))); changes = changes + length leaf + 1 })) (end_ends laws (n + most_families)))))
+    (ap (λ t. cond t (with_leaf filled) (record filled { first = Some (nat_abs (number (index_or_end n (codes "-1")))); changes = changes + length leaf + 1 })) (end_ends laws (n + most_families + most_rows)))))
 
 -- ---- all steps
 
@@ -191,7 +191,7 @@ not_zero : (count : ℕ) → (suc count == 0) ≡ false
 not_zero count = false_from_ne_true (suc count == 0) (λ e. let none = eqb-true (suc count) 0 e in absurd (omega arith))
 
 -- plan: by induction over the steps: a branch has one tree more to come (`branch_runs`), a leaf one less (`leaf_runs`)
-each_step_runs : NumberLaws → (n : ℕ) → n + most_families < 2 ^ 32 → (before steps : List Step) (to_come branches changes : ℕ)
+each_step_runs : NumberLaws → (n : ℕ) → n + most_families + most_rows < 2 ^ 32 → (before steps : List Step) (to_come branches changes : ℕ)
     → branches + branch_count steps ≤ most_branches
     → changes + change_count steps ≤ most_changes → list_all (is_step n) steps ≡ true → are_whole to_come steps ≡ true
     → TreeRuns n (between before to_come branches changes) (flat_map step_words steps) (between (before ++ steps) 0 (branches + branch_count steps) (changes + change_count steps))
@@ -217,7 +217,7 @@ each_step_runs laws n few before (Branch a b ∷ steps) (suc to_come) branches c
     subst (λ (s : TreeSoFar). TreeRuns n start (flat_map step_words (Branch a b ∷ steps)) s) ends
     (onward n start middle last (step_words (Branch a b)) (flat_map step_words steps)
     (subst (λ (s : TreeSoFar). TreeRuns n start (step_words (Branch a b)) s) next
-    (branch_runs laws n few before a b (suc to_come) branches changes (not_zero to_come) (has_room most_branches branches (branch_count steps) room) both.0))
+    (branch_runs laws n (omega (arith, few)) before a b (suc to_come) branches changes (not_zero to_come) (has_room most_branches branches (branch_count steps) room) both.0))
     (each_step_runs laws n few (before ++ Branch a b ∷ []) steps (suc (suc to_come)) (branches + 1) changes (omega arith) changes_room both.1 whole))
 each_step_runs laws n few before (Leaf leaf ∷ steps) (suc to_come) branches changes room changes_room all whole =
     let both = and_parts (is_step n (Leaf leaf)) (list_all (is_step n) steps) all in
@@ -240,7 +240,7 @@ each_step_runs laws n few before (Leaf leaf ∷ steps) (suc to_come) branches ch
 abbrev all_of : List Step → TreeSoFar
 all_of steps = between steps 0 (0 + branch_count steps) (0 + change_count steps)
 
-all_run : NumberLaws → (n : ℕ) → n + most_families < 2 ^ 32 → (steps : List Step) → are_tree_steps n steps ≡ true
+all_run : NumberLaws → (n : ℕ) → n + most_families + most_rows < 2 ^ 32 → (steps : List Step) → are_tree_steps n steps ≡ true
     → TreeRuns n no_steps (flat_map step_words steps) (all_of steps)
 all_run laws n few steps fits =
     let each = list_all (is_step n) steps in
@@ -251,15 +251,15 @@ all_run laws n few steps fits =
     let one = and_parts each branches two.0 in
     each_step_runs laws n few [] steps 1 0 0 (omega (arith, leb-true (branch_count steps) most_branches one.1)) (omega (arith, leb-true (change_count steps) most_changes two.1)) one.0 three.1
 
-pub steps_taken : NumberLaws → (n : ℕ) → n + most_families < 2 ^ 32 → (steps : List Step) → are_tree_steps n steps ≡ true
+pub steps_taken : NumberLaws → (n : ℕ) → n + most_families + most_rows < 2 ^ 32 → (steps : List Step) → are_tree_steps n steps ≡ true
     → AllTaken n (place_of_step n) [] (flat_map step_words steps)
 steps_taken laws n few steps fits =
     all_taken n (with_tree_word n) place_in_tree no_steps [] (flat_map step_words steps) (all_run laws n few steps fits).taken
 
-pub steps_back : NumberLaws → (n : ℕ) → n + most_families < 2 ^ 32 → (steps : List Step) → are_tree_steps n steps ≡ true
+pub steps_back : NumberLaws → (n : ℕ) → n + most_families + most_rows < 2 ^ 32 → (steps : List Step) → are_tree_steps n steps ≡ true
     → whole_steps n (flat_map step_words steps) ≡ steps
 steps_back laws n few steps fits = ap (λ (s : TreeSoFar). s.steps) (all_run laws n few steps fits).gives
 
-pub steps_done : NumberLaws → (n : ℕ) → n + most_families < 2 ^ 32 → (steps : List Step) → are_tree_steps n steps ≡ true
+pub steps_done : NumberLaws → (n : ℕ) → n + most_families + most_rows < 2 ^ 32 → (steps : List Step) → are_tree_steps n steps ≡ true
     → wants_more (place_of_step n (flat_map step_words steps)) ≡ false
 steps_done laws n few steps fits = ap (λ (s : TreeSoFar). wants_more (place_in_tree s)) (all_run laws n few steps fits).gives

@@ -20,6 +20,7 @@ mod feed;
 mod items;
 mod line;
 mod lists;
+mod memory_lists;
 mod reading;
 mod round_trip;
 mod runs;
@@ -36,6 +37,7 @@ pub use line::{
     set_named, without_start,
 };
 pub use lists::{DepotList, FixedList};
+pub use memory_lists::{MemoryList, RowList};
 pub use reading::ReadError;
 pub use round_trip::{canonical_texts_are_read_back, written_numbers_are_read_back};
 pub use runs::{Gathered, GatheredNodes, TourList, WeightList};

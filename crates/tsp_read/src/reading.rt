@@ -307,6 +307,16 @@ fn store(draft: &mut Draft, alloc: Global, section: OpenSection) -> Result<bool,
             draft.families = Some(families);
             Ok(wants_more)
         }
+        SectionBuilder::Memories(part) => {
+            let (lists, wants_more) = part.finish();
+            draft.memories = Some(lists);
+            Ok(wants_more)
+        }
+        SectionBuilder::SubsetRows(part) => {
+            let (rows, wants_more) = part.finish();
+            draft.subset_rows = Some(rows);
+            Ok(wants_more)
+        }
         SectionBuilder::Steps(part) => {
             let (steps, wants_more) = part.finish();
             draft.branches = Some(steps);

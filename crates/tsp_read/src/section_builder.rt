@@ -8,6 +8,7 @@ ghost use Rattle.tsp_read.specs.states.Parts.{as_number, as_node_or_end, as_inde
 use crate::by_node::{NumberList, PointList};
 use crate::line::StepFault;
 use crate::lists::{DepotList, FixedList};
+use crate::memory_lists::{MemoryList, RowList};
 use crate::runs::{TourList, WeightList};
 use crate::tree::{FamilyList, TreeList};
 use std::alloc::Global;
@@ -28,6 +29,8 @@ pub enum SectionBuilder {
     Tours(TourList),
     Triples(TripleList),
     Families(FamilyList),
+    Memories(MemoryList),
+    SubsetRows(RowList),
     Steps(TreeList),
 }
 
@@ -59,6 +62,8 @@ impl SectionBuilder {
             Shape::Tours => SectionBuilder::Tours(TourList::open(alloc)),
             Shape::Triples => SectionBuilder::Triples(TripleList::open(alloc, n)),
             Shape::Families => SectionBuilder::Families(FamilyList::open(alloc, n)),
+            Shape::Memories => SectionBuilder::Memories(MemoryList::open(alloc, n)),
+            Shape::SubsetRows => SectionBuilder::SubsetRows(RowList::open(alloc, n)),
             Shape::Steps => SectionBuilder::Steps(TreeList::open(alloc, n)),
         })
     }
@@ -87,6 +92,8 @@ impl SectionBuilder {
             SectionBuilder::Tours(part) => part.push(alloc, word),
             SectionBuilder::Triples(part) => part.push(word),
             SectionBuilder::Families(part) => part.push(alloc, word),
+            SectionBuilder::Memories(part) => part.push(alloc, word),
+            SectionBuilder::SubsetRows(part) => part.push(alloc, word),
             SectionBuilder::Steps(part) => part.push(alloc, word),
         }
     }

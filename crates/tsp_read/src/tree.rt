@@ -11,7 +11,7 @@ use std::alloc::Global;
 use std::mem;
 use tsp_format::{
     MOST_BRANCHES, MOST_CHANGES, MOST_DIFFERENCE, MOST_FAMILIES, MOST_FAMILY_NODES, MOST_NODES,
-    TreeStep,
+    MOST_ROWS, TreeStep,
 };
 use tsp_io::{Refused, push};
 use tsp_number::parse_whole;
@@ -153,6 +153,7 @@ impl FamilyList {
 #[derive(Drop)]
 pub struct TreeList {
     n: u32,
+    last_family: u32,
     last_index: u32,
     steps: Vec<TreeStep>,
     first: Option<u32>,
@@ -176,7 +177,8 @@ impl TreeList {
     {
         TreeList {
             n,
-            last_index: n.saturating_add(MOST_FAMILIES as u32),
+            last_family: n.saturating_add(MOST_FAMILIES as u32),
+            last_index: n.saturating_add((MOST_FAMILIES + MOST_ROWS) as u32),
             steps: Vec::new(alloc),
             first: None,
             in_leaf: false,
@@ -227,7 +229,7 @@ impl TreeList {
         ensures kept { IfErr result (λ _. (n : ℕ) (words : List (List ℕ))
             → HoldsTree self.old n words → HoldsTree self.new n words) }
     {
-        let Some(first) = read_index_or_leaf(word, self.last_index)? else {
+        let Some(first) = read_index_or_leaf(word, self.last_family)? else {
             self.in_leaf = true;
             return Ok(());
         };
@@ -285,7 +287,8 @@ impl TreeList {
         ensures few { OnOk result ((n : ℕ) (words : List (List ℕ)) → HoldsTree self.old n words
             → self.new.to_come ≤ length self.new.steps.items + 1) }
         ensures kept { IfErr result (λ _. tree_held self.new ≡ tree_held self.old) }
-        ensures n { (self.new.n ≡ self.old.n) × (self.new.last_index ≡ self.old.last_index) }
+        ensures n { (self.new.n ≡ self.old.n) × (self.new.last_family ≡ self.old.last_family)
+            × (self.new.last_index ≡ self.old.last_index) }
     {
         push(&mut self.steps, TreeStep::Leaf(Vec::new(alloc)))?;
         let last = self.steps.len() - 1;

@@ -1,6 +1,6 @@
 -- Small verdicts and files, whose reports are evaluated.
 use Rattle.std.specs.Prelude.{List, ℕ, [], ◌∷◌, Some, pos, codes, negsuc}
-use Rattle.tsp_format.specs.Steps.{Leaf}
+use Rattle.tsp_format.specs.Steps.{Leaf, SubsetRow}
 use Rattle.tsp_format.specs.declared.kinds.Kind.TheVariants.{Tsp, Cvrp, Tour, Potentials, Branches}
 use Rattle.tsp_format.specs.declared.kinds.WeightFormat.TheVariants.{Listed}
 use Rattle.tsp_format.specs.declared.kinds.WeightKind.TheVariants.{Explicit}
@@ -43,13 +43,19 @@ shown_tours = record blank_fields { kind = Some Tour; tours = Some ((2 ∷ 1 ∷
 abbrev pub shown_potentials : Fields
 shown_potentials = record blank_fields { kind = Some Potentials; dimension = Some 2; scale = Some (pos 3); others = foo }
 
--- branches: a tree of one leaf, with a family and a load unit
+-- a subset row
+abbrev row : SubsetRow
+row = record { set = 1 ∷ 2 ∷ []; further = [] }
+
+-- branches: a tree of one leaf, with a family, a memory, subset rows and a load unit
 abbrev pub shown_tree : Fields
 shown_tree = record blank_fields {
   kind = Some Branches;
   dimension = Some 2;
   load_unit = Some (pos 4);
   families = Some (((1 ∷ []) ∷ []) ∷ []);
+  memories = Some ((1 ∷ 2 ∷ []) ∷ (2 ∷ []) ∷ []);
+  subset_rows = Some (row ∷ row ∷ row ∷ []);
   branches = Some (Leaf [] ∷ []);
   others = foo;
 }

@@ -9,7 +9,7 @@ use Rattle.tsp_format.specs.declared.kinds.WeightKind.{WeightKind}
 use Rattle.tsp_format.specs.declared.kinds.WeightFormat.{WeightFormat}
 use Rattle.tsp_format.specs.Words.{weight_kind_word, weight_format_word}
 use Rattle.tsp_format.specs.Nodes.{nodes_to}
-use Rattle.tsp_format.specs.Steps.{Step, leaf_count}
+use Rattle.tsp_format.specs.Steps.{Step, SubsetRow, leaf_count}
 use Rattle.tsp_file.specs.Fields.{Fields, nodes_of}
 use Rattle.tsp_file.specs.Rules.{is_explicit}
 use Rattle.tsp_file.specs.Cost.{meant_scale, cost}
@@ -79,13 +79,27 @@ abbrev pub families_line : Option (List (List (List ℕ))) → List ℕ
 families_line None = []
 families_line (Some families) = codes "combs " ++ decimal (length families) ++ codes "\n"
 
+-- how many lists a memory has, where a section has them
+abbrev pub memory_line : Option (List (List ℕ)) → List ℕ
+memory_line None = []
+memory_line (Some lists) = codes "memory " ++ decimal (length lists) ++ codes "\n"
+
+-- how many subset rows there are, where a section lists them
+abbrev pub rows_line : Option (List SubsetRow) → List ℕ
+rows_line None = []
+rows_line (Some rows) = codes "rows " ++ decimal (length rows) ++ codes "\n"
+
+-- the lines on what a leaf has multipliers for, or what walks remember
+abbrev pub part_lines : Fields → List ℕ
+part_lines f = families_line f.families ++ (memory_line f.memories ++ rows_line f.subset_rows)
+
 -- how many leaves a tree has
 abbrev pub leaves_line : List Step → List ℕ
 leaves_line steps = codes "leaves " ++ decimal (leaf_count steps) ++ codes "\n"
 
 -- the lines on a tree of cases
 abbrev pub tree_lines : Fields → List ℕ
-tree_lines f = scale_line f.scale ++ (load_unit_line f.load_unit ++ (families_line f.families ++ leaves_line (unwrap_or f.branches [])))
+tree_lines f = scale_line f.scale ++ (load_unit_line f.load_unit ++ (part_lines f ++ leaves_line (unwrap_or f.branches [])))
 
 -- ---- the whole
 

@@ -19,7 +19,7 @@ ghost use Rattle.tsp_report.specs.Report.{head_of, solution_line, not_judged, ty
 ghost use Rattle.tsp_report.specs.Examples.{matrix, shown_routes, shown_tours, shown_potentials, shown_tree, untyped, each_reason};
 ghost use Rattle.tsp_report.specs.Tasks.{files_of, files_of_task, numbered, IsMapped, IsMappedTask};
 ghost use Rattle.tsp_report.specs.Verdicts.{rank_of, row_of_reason, role_of};
-ghost use Rattle.tsp_report.specs.Show.{name_line, weights_line, canonical_line, fixed_line, all_tour_lines, scale_line, load_unit_line, families_line, leaves_line, shown};
+ghost use Rattle.tsp_report.specs.Show.{name_line, weights_line, canonical_line, fixed_line, all_tour_lines, scale_line, load_unit_line, families_line, memory_line, rows_line, leaves_line, shown};
 ghost use Rattle.tsp_report.specs.declared.task.CertificateKind.{CertificateKind};
 ghost use Rattle.tsp_report.specs.declared.task.CertificateKind.TheVariants as certificates;
 ghost use Rattle.tsp_report.specs.declared.task.Comparison.{Comparison};
@@ -147,6 +147,11 @@ pub fn examples_of_shown_lines()
     ensures no_families { families_line None ≡ [] }
     ensures families { families_line (Some (((1 ∷ []) ∷ []) ∷ []))
         ≡ codes "combs " ++ decimal 1 ++ codes "\n" }
+    ensures no_memory { memory_line None ≡ [] }
+    ensures memory { memory_line (Some ((1 ∷ []) ∷ []))
+        ≡ codes "memory " ++ decimal 1 ++ codes "\n" }
+    ensures no_rows { rows_line None ≡ [] }
+    ensures rows { rows_line (Some []) ≡ codes "rows " ++ decimal 0 ++ codes "\n" }
     ensures leaves { leaves_line (Branch 1 2 ∷ Leaf [] ∷ Leaf [] ∷ [])
         ≡ codes "leaves " ++ decimal 2 ++ codes "\n" }
 {}
@@ -191,7 +196,7 @@ pub fn examples_of_shown_files()
     ensures potentials { shown shown_potentials
         ≡ codes "type POTENTIALS\nnodes 2\nscale 3\nnot judged FOO\n" }
     ensures branching { shown shown_tree
-        ≡ codes "type BRANCHES\nnodes 2\nscale 1\nload unit 4\ncombs 1\nleaves 1\nnot judged FOO\n" }
+        ≡ codes "type BRANCHES\nnodes 2\nscale 1\nload unit 4\ncombs 1\nmemory 2\nrows 3\nleaves 1\nnot judged FOO\n" }
     ensures untyped { shown untyped ≡ codes "type \nnot judged FOO\n" }
 {}
 

@@ -4,19 +4,19 @@ ghost use Rattle.std.specs.List.{flat_map, enumerate_from};
 ghost use Rattle.std.specs.Option.{option_map, option_map_or};
 ghost use Rattle.std.specs.Prelude.{◌≡◌, ◌++◌, [], map, false};
 ghost use Rattle.tsp_format.specs.Steps.{leaf_count};
-ghost use Rattle.tsp_format.specs.states.TreeSteps.{steps_of};
+ghost use Rattle.tsp_format.specs.states.TreeSteps.{subset_rows_of, steps_of};
 ghost use Rattle.tsp_io.specs.Streams.{Writes};
 ghost use Rattle.tsp_io.specs.states.Watched.{sink_of, Puts};
 ghost use Rattle.tsp_file.specs.Rules.{is_instance};
 ghost use Rattle.tsp_file.specs.states.Drafts.{families_of};
 ghost use Rattle.tsp_report.specs.Report.{nodes_line, not_judged};
-ghost use Rattle.tsp_report.specs.Show.{shown, head_lines, name_line, lines_by_type, cost_lines, weights_line, layout_part, canonical_line, fixed_line, all_tour_lines, tour_line, scale_line, load_unit_line, families_line, leaves_line, tree_lines};
+ghost use Rattle.tsp_report.specs.Show.{shown, head_lines, name_line, lines_by_type, cost_lines, weights_line, layout_part, canonical_line, fixed_line, all_tour_lines, tour_line, scale_line, load_unit_line, families_line, memory_line, rows_line, part_lines, leaves_line, tree_lines};
 
 use crate::report::{put_named, put_nodes, put_others, put_type};
 use std::io::Write;
 use tsp_cost::{Instance, canonical_length};
 use tsp_file::File;
-use tsp_format::{Kind, TreeStep, WeightFormat, WeightKind, Word};
+use tsp_format::{Kind, RowSets, TreeStep, WeightFormat, WeightKind, Word};
 use tsp_io::{Piece, Watched, WriteFault, hand_over, put};
 
 /// Writes the lines of `show`: a file's NAME, its TYPE, the number of its nodes, and the rest of
@@ -227,15 +227,25 @@ fn put_load_unit<W: Write>(piece: &mut Piece, out: &mut Watched<W>, unit: Option
     }
 }
 
-/// Adds the lines of a tree of cases: its scale, its load unit, and how many families and leaves it
-/// has.
+/// Adds the lines of a tree of cases: its scale, its load unit, and how many families, lists of a
+/// memory, subset rows and leaves it has.
 fn put_tree<W: Write>(piece: &mut Piece, out: &mut Watched<W>, file: &File)
     ensures { Puts W.contents out.old piece.old out.new piece.new (tree_lines file.now) }
 {
     put_scale(piece, out, file.scale());
     put_load_unit(piece, out, file.load_unit());
-    put_families(piece, out, file.families());
+    put_parts(piece, out, file);
     put_leaves(piece, out, file.branches().unwrap_or(&[]));
+}
+
+/// Adds how many families, lists of a memory and subset rows there are, for each section that is
+/// present.
+fn put_parts<W: Write>(piece: &mut Piece, out: &mut Watched<W>, file: &File)
+    ensures { Puts W.contents out.old piece.old out.new piece.new (part_lines file.now) }
+{
+    put_families(piece, out, file.families());
+    put_memory(piece, out, file.memories());
+    put_rows(piece, out, file.subset_rows());
 }
 
 /// Adds the line of the number of families, where a section lists them.
@@ -249,6 +259,28 @@ fn put_families<W: Write>(
 {
     if let Some(families) = families {
         put_named(piece, out, b"combs ", families.len());
+        put(piece, out, b"\n");
+    }
+}
+
+/// Adds the line of the number of lists of a memory, where a section has them.
+fn put_memory<W: Write>(piece: &mut Piece, out: &mut Watched<W>, lists: Option<&[Vec<u32>]>)
+    ensures { Puts W.contents out.old piece.old out.new piece.new
+        (memory_line (option_map (λ lists. map (λ list. list.items) lists.now) lists.entry)) }
+{
+    if let Some(lists) = lists {
+        put_named(piece, out, b"memory ", lists.len());
+        put(piece, out, b"\n");
+    }
+}
+
+/// Adds the line of the number of subset rows, where a section lists them.
+fn put_rows<W: Write>(piece: &mut Piece, out: &mut Watched<W>, rows: Option<&[RowSets]>)
+    ensures { Puts W.contents out.old piece.old out.new piece.new
+        (rows_line (option_map (λ rows. subset_rows_of rows.now) rows.entry)) }
+{
+    if let Some(rows) = rows {
+        put_named(piece, out, b"rows ", rows.len());
         put(piece, out, b"\n");
     }
 }

@@ -3,7 +3,9 @@
 use std::alloc::{AllocError, Global};
 use std::test::Fail;
 use tsp_file::{Coords, Draft, File};
-use tsp_format::{CoordKind, DisplayKind, Kind, Layout, TreeStep, WeightFormat, WeightKind};
+use tsp_format::{
+    CoordKind, DisplayKind, Kind, Layout, RowSets, TreeStep, WeightFormat, WeightKind,
+};
 use tsp_number::{Decimal, PlanePoint};
 
 /// A file of tours.
@@ -97,17 +99,33 @@ fn set_lists(alloc: Global, draft: &mut Draft) -> Result<(), Fail> {
     families.push(lists_of(alloc, &[&[1, 2], &[1, 3]])?)?;
     families.push(lists_of(alloc, &[&[4]])?)?;
     draft.families = Some(families);
+    draft.memories = Some(lists_of(alloc, &[&[2, 3, 4], &[3]])?);
+    draft.subset_rows = Some(two_rows(alloc)?);
     draft.branches = Some(two_leaves(alloc)?);
     Ok(())
 }
 
-/// Lists of nodes: the sets of a family, or tours.
+/// Lists of nodes: the sets of a family, a memory, or tours.
 fn lists_of(alloc: Global, lists: &[&[u32]]) -> Result<Vec<Vec<u32>>, AllocError> {
     let mut held = Vec::new(alloc);
     for list in lists {
         held.push(Vec::from_slice(alloc, list)?)?;
     }
     Ok(held)
+}
+
+/// A subset row without further nodes, and one with two.
+fn two_rows(alloc: Global) -> Result<Vec<RowSets>, AllocError> {
+    let mut rows = Vec::new(alloc);
+    rows.push(RowSets {
+        set: Vec::from_slice(alloc, &[2u32, 3])?,
+        further: Vec::new(alloc),
+    })?;
+    rows.push(RowSets {
+        set: Vec::from_slice(alloc, &[4u32])?,
+        further: Vec::from_slice(alloc, &[2u32, 3])?,
+    })?;
+    Ok(rows)
 }
 
 /// A tree with a branch on the nodes 1 and 2, a leaf with two differences, and one with none.

@@ -9,4 +9,5 @@ pub mod Sections
 pub mod ValidItems
 pub mod ValidCuts
 pub mod ValidTree
+pub mod ValidMemory
 pub mod EachOnce

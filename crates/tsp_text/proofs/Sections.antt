@@ -1,5 +1,5 @@
 -- A statement of every section, from one proof of it for each section; and the line that opens one.
-use Rattle.tsp_text.proofs.Prelude.{◌≡◌, Bool, true, false, cond, List, ◌∷◌, refl, Some, None, ℕ, nat_lt, is_some, option_map_or, Field, NameKey, TypeKey, CommentKey, OtherKey, DimensionKey, CapacityKey, ScaleKey, LoadUnitKey, EdgeWeightTypeKey, EdgeWeightFormatKey, NodeCoordTypeKey, DisplayDataTypeKey, NodeCoordPart, DisplayDataPart, DemandPart, DepotPart, FixedEdgesPart, EdgeWeightPart, TourPart, NodePotentialPart, RowPotentialPart, ColumnPotentialPart, FixedEdgePotentialPart, FamilyPart, BranchPart, Known, most_line_bytes, shape_of, is_section_field}
+use Rattle.tsp_text.proofs.Prelude.{◌≡◌, Bool, true, false, cond, List, ◌∷◌, refl, Some, None, ℕ, nat_lt, is_some, option_map_or, Field, NameKey, TypeKey, CommentKey, OtherKey, DimensionKey, CapacityKey, ScaleKey, LoadUnitKey, EdgeWeightTypeKey, EdgeWeightFormatKey, NodeCoordTypeKey, DisplayDataTypeKey, NodeCoordPart, DisplayDataPart, DemandPart, DepotPart, FixedEdgesPart, EdgeWeightPart, TourPart, NodePotentialPart, RowPotentialPart, ColumnPotentialPart, FixedEdgePotentialPart, FamilyPart, MemoryPart, SubsetRowPart, BranchPart, Known, most_line_bytes, shape_of, is_section_field}
 use Rattle.tsp_format.specs.declared.keyword.Shape.{Shape}
 use Rattle.tsp_format.specs.declared.keyword.Shape.TheVariants.{Points, SpacePoints}
 use Rattle.tsp_file.specs.Fields.{stands_in}
@@ -12,33 +12,35 @@ use Rattle.tsp_text.specs.ParsesTo.{opening_rows, fields_by}
 -- plan: by the field: each section is a premise, and a keyword is none
 pub by_section : (P : Field → Type 0) → P NodeCoordPart → P DisplayDataPart → P DemandPart → P DepotPart → P FixedEdgesPart
     → P EdgeWeightPart → P TourPart → P NodePotentialPart → P RowPotentialPart → P ColumnPotentialPart → P FixedEdgePotentialPart
-    → P FamilyPart → P BranchPart
+    → P FamilyPart → P MemoryPart → P SubsetRowPart → P BranchPart
     → (f : Field) → is_section_field f ≡ true → P f
-by_section P p0 p1 p2 p3 p4 p5 p6 p7 p8 p9 p10 p11 p12 NameKey e = cc
-by_section P p0 p1 p2 p3 p4 p5 p6 p7 p8 p9 p10 p11 p12 TypeKey e = cc
-by_section P p0 p1 p2 p3 p4 p5 p6 p7 p8 p9 p10 p11 p12 CommentKey e = cc
-by_section P p0 p1 p2 p3 p4 p5 p6 p7 p8 p9 p10 p11 p12 OtherKey e = cc
-by_section P p0 p1 p2 p3 p4 p5 p6 p7 p8 p9 p10 p11 p12 DimensionKey e = cc
-by_section P p0 p1 p2 p3 p4 p5 p6 p7 p8 p9 p10 p11 p12 CapacityKey e = cc
-by_section P p0 p1 p2 p3 p4 p5 p6 p7 p8 p9 p10 p11 p12 ScaleKey e = cc
-by_section P p0 p1 p2 p3 p4 p5 p6 p7 p8 p9 p10 p11 p12 LoadUnitKey e = cc
-by_section P p0 p1 p2 p3 p4 p5 p6 p7 p8 p9 p10 p11 p12 EdgeWeightTypeKey e = cc
-by_section P p0 p1 p2 p3 p4 p5 p6 p7 p8 p9 p10 p11 p12 EdgeWeightFormatKey e = cc
-by_section P p0 p1 p2 p3 p4 p5 p6 p7 p8 p9 p10 p11 p12 NodeCoordTypeKey e = cc
-by_section P p0 p1 p2 p3 p4 p5 p6 p7 p8 p9 p10 p11 p12 DisplayDataTypeKey e = cc
-by_section P p0 p1 p2 p3 p4 p5 p6 p7 p8 p9 p10 p11 p12 NodeCoordPart e = p0
-by_section P p0 p1 p2 p3 p4 p5 p6 p7 p8 p9 p10 p11 p12 DisplayDataPart e = p1
-by_section P p0 p1 p2 p3 p4 p5 p6 p7 p8 p9 p10 p11 p12 DemandPart e = p2
-by_section P p0 p1 p2 p3 p4 p5 p6 p7 p8 p9 p10 p11 p12 DepotPart e = p3
-by_section P p0 p1 p2 p3 p4 p5 p6 p7 p8 p9 p10 p11 p12 FixedEdgesPart e = p4
-by_section P p0 p1 p2 p3 p4 p5 p6 p7 p8 p9 p10 p11 p12 EdgeWeightPart e = p5
-by_section P p0 p1 p2 p3 p4 p5 p6 p7 p8 p9 p10 p11 p12 TourPart e = p6
-by_section P p0 p1 p2 p3 p4 p5 p6 p7 p8 p9 p10 p11 p12 NodePotentialPart e = p7
-by_section P p0 p1 p2 p3 p4 p5 p6 p7 p8 p9 p10 p11 p12 RowPotentialPart e = p8
-by_section P p0 p1 p2 p3 p4 p5 p6 p7 p8 p9 p10 p11 p12 ColumnPotentialPart e = p9
-by_section P p0 p1 p2 p3 p4 p5 p6 p7 p8 p9 p10 p11 p12 FixedEdgePotentialPart e = p10
-by_section P p0 p1 p2 p3 p4 p5 p6 p7 p8 p9 p10 p11 p12 FamilyPart e = p11
-by_section P p0 p1 p2 p3 p4 p5 p6 p7 p8 p9 p10 p11 p12 BranchPart e = p12
+by_section P p0 p1 p2 p3 p4 p5 p6 p7 p8 p9 p10 p11 p12 p13 p14 NameKey e = cc
+by_section P p0 p1 p2 p3 p4 p5 p6 p7 p8 p9 p10 p11 p12 p13 p14 TypeKey e = cc
+by_section P p0 p1 p2 p3 p4 p5 p6 p7 p8 p9 p10 p11 p12 p13 p14 CommentKey e = cc
+by_section P p0 p1 p2 p3 p4 p5 p6 p7 p8 p9 p10 p11 p12 p13 p14 OtherKey e = cc
+by_section P p0 p1 p2 p3 p4 p5 p6 p7 p8 p9 p10 p11 p12 p13 p14 DimensionKey e = cc
+by_section P p0 p1 p2 p3 p4 p5 p6 p7 p8 p9 p10 p11 p12 p13 p14 CapacityKey e = cc
+by_section P p0 p1 p2 p3 p4 p5 p6 p7 p8 p9 p10 p11 p12 p13 p14 ScaleKey e = cc
+by_section P p0 p1 p2 p3 p4 p5 p6 p7 p8 p9 p10 p11 p12 p13 p14 LoadUnitKey e = cc
+by_section P p0 p1 p2 p3 p4 p5 p6 p7 p8 p9 p10 p11 p12 p13 p14 EdgeWeightTypeKey e = cc
+by_section P p0 p1 p2 p3 p4 p5 p6 p7 p8 p9 p10 p11 p12 p13 p14 EdgeWeightFormatKey e = cc
+by_section P p0 p1 p2 p3 p4 p5 p6 p7 p8 p9 p10 p11 p12 p13 p14 NodeCoordTypeKey e = cc
+by_section P p0 p1 p2 p3 p4 p5 p6 p7 p8 p9 p10 p11 p12 p13 p14 DisplayDataTypeKey e = cc
+by_section P p0 p1 p2 p3 p4 p5 p6 p7 p8 p9 p10 p11 p12 p13 p14 NodeCoordPart e = p0
+by_section P p0 p1 p2 p3 p4 p5 p6 p7 p8 p9 p10 p11 p12 p13 p14 DisplayDataPart e = p1
+by_section P p0 p1 p2 p3 p4 p5 p6 p7 p8 p9 p10 p11 p12 p13 p14 DemandPart e = p2
+by_section P p0 p1 p2 p3 p4 p5 p6 p7 p8 p9 p10 p11 p12 p13 p14 DepotPart e = p3
+by_section P p0 p1 p2 p3 p4 p5 p6 p7 p8 p9 p10 p11 p12 p13 p14 FixedEdgesPart e = p4
+by_section P p0 p1 p2 p3 p4 p5 p6 p7 p8 p9 p10 p11 p12 p13 p14 EdgeWeightPart e = p5
+by_section P p0 p1 p2 p3 p4 p5 p6 p7 p8 p9 p10 p11 p12 p13 p14 TourPart e = p6
+by_section P p0 p1 p2 p3 p4 p5 p6 p7 p8 p9 p10 p11 p12 p13 p14 NodePotentialPart e = p7
+by_section P p0 p1 p2 p3 p4 p5 p6 p7 p8 p9 p10 p11 p12 p13 p14 RowPotentialPart e = p8
+by_section P p0 p1 p2 p3 p4 p5 p6 p7 p8 p9 p10 p11 p12 p13 p14 ColumnPotentialPart e = p9
+by_section P p0 p1 p2 p3 p4 p5 p6 p7 p8 p9 p10 p11 p12 p13 p14 FixedEdgePotentialPart e = p10
+by_section P p0 p1 p2 p3 p4 p5 p6 p7 p8 p9 p10 p11 p12 p13 p14 FamilyPart e = p11
+by_section P p0 p1 p2 p3 p4 p5 p6 p7 p8 p9 p10 p11 p12 p13 p14 MemoryPart e = p12
+by_section P p0 p1 p2 p3 p4 p5 p6 p7 p8 p9 p10 p11 p12 p13 p14 SubsetRowPart e = p13
+by_section P p0 p1 p2 p3 p4 p5 p6 p7 p8 p9 p10 p11 p12 p13 p14 BranchPart e = p14
 
 -- a field with a shape is a section, in a spatial file as in another
 pub section_of : (in_space : Bool) (f : Field) (shape : Shape) → shape_of in_space f ≡ Some shape → is_section_field f ≡ true
@@ -66,6 +68,8 @@ section_of in_space RowPotentialPart shape e = refl
 section_of in_space ColumnPotentialPart shape e = refl
 section_of in_space FixedEdgePotentialPart shape e = refl
 section_of in_space FamilyPart shape e = refl
+section_of in_space MemoryPart shape e = refl
+section_of in_space SubsetRowPart shape e = refl
 section_of in_space BranchPart shape e = refl
 
 some_cond : {A : Type 0} (b : Bool) (x : A) → is_some (cond b (Some x) None) ≡ b
@@ -89,7 +93,7 @@ opening in_space earlier line short = by_section (λ f. row_of earlier (Line (Kn
     ≡ option_map_or (λ shape. opening_rows shape (has_line f earlier) line.value (has_line DimensionKey earlier) (dimension_in earlier)) (shape_of in_space f) None)
     (rw short (points_open in_space (has_line NodeCoordPart earlier) (has_line DimensionKey earlier) line.value (dimension_in earlier))) (rw short refl) (rw short refl) (rw short refl) (rw short refl)
     (rw short refl) (rw short refl) (rw short refl) (rw short refl) (rw short refl)
-    (rw short refl) (rw short refl) (rw short refl)
+    (rw short refl) (rw short refl) (rw short refl) (rw short refl) (rw short refl)
 
 -- a section is among the fields where a line opened it
 pub standing : (earlier : List Item) (f : Field) → is_section_field f ≡ true
@@ -101,6 +105,7 @@ standing earlier = by_section (λ f. stands_in (fields_by (λ field. has_line fi
     (some_cond (has_line TourPart earlier) _) (some_cond (has_line NodePotentialPart earlier) _)
     (some_cond (has_line RowPotentialPart earlier) _) (some_cond (has_line ColumnPotentialPart earlier) _)
     (some_cond (has_line FixedEdgePotentialPart earlier) _) (some_cond (has_line FamilyPart earlier) _)
+    (some_cond (has_line MemoryPart earlier) _) (some_cond (has_line SubsetRowPart earlier) _)
     (some_cond (has_line BranchPart earlier) _)
 
 -- the number of nodes stays, and whether the file is spatial
@@ -109,4 +114,4 @@ pub nodes_stay : (earlier : List Item) (line : WordLine) (f : Field) → is_sect
 nodes_stay earlier line = by_section (λ f. (dimension_in (Line (Known f) line ∷ earlier) ≡ dimension_in earlier)
     × (spatial_after (Line (Known f) line ∷ earlier) ≡ spatial_after earlier))
     (refl, refl) (refl, refl) (refl, refl) (refl, refl) (refl, refl) (refl, refl) (refl, refl) (refl, refl)
-    (refl, refl) (refl, refl) (refl, refl) (refl, refl) (refl, refl)
+    (refl, refl) (refl, refl) (refl, refl) (refl, refl) (refl, refl) (refl, refl) (refl, refl)

@@ -1,5 +1,5 @@
 -- The first fault of a text, which is the fault of every longer text, and that every text has one answer.
-use Rattle.tsp_text.proofs.Prelude.{◌≡◌, List, ◌∷◌, None, ap, ◌∙◌, [], ◌++◌, refl, sym, Option, Some, ◌≢◌, ℕ, Bool, true, false, Result, Ok, Err, ◌+◌, ◌-◌, cond, length, reverse, subst, arith, inl, inr, append_assoc, take, true≢false, false≢true, ltb-true, ltb-false, lt-leb, append-nil, reverse-append, take_all, take-append-le, list_any-append, option_or, option_map, ◌&&◌, ◌||◌, not, nat_lt, codes, ℤ, pos, negsuc, neg_ℤ, if◌then◌else◌, most_word_bytes, most_weight, most_nodes, most_families, most_file_bytes, Field}
+use Rattle.tsp_text.proofs.Prelude.{◌≡◌, List, ◌∷◌, None, ap, ◌∙◌, [], ◌++◌, refl, sym, Option, Some, ◌≢◌, ℕ, Bool, true, false, Result, Ok, Err, ◌+◌, ◌-◌, cond, length, reverse, subst, arith, inl, inr, append_assoc, take, true≢false, false≢true, ltb-true, ltb-false, lt-leb, append-nil, reverse-append, take_all, take-append-le, list_any-append, option_or, option_map, ◌&&◌, ◌||◌, not, nat_lt, codes, ℤ, pos, negsuc, neg_ℤ, if◌then◌else◌, most_word_bytes, most_weight, most_nodes, most_families, most_rows, most_file_bytes, Field}
 use Rattle.std.proofs.Math.Seq.{take-append-add}
 use Rattle.std.proofs.lemmas.Option.{none-some, same_Some}
 use Rattle.std.proofs.lemmas.Slice.Eq.{bytes_eq-Decides}
@@ -204,7 +204,7 @@ long_fault n PastWeights word long = refl
 long_fault n (TourNode count) word long = rw (whole_long word (negsuc 0) (pos most_nodes) long) refl
 long_fault n (SetNode begun families count) word long = rw (whole_long word (negsuc 0) (pos n) long) refl
 long_fault n (StepAfter branches) word long = rw (whole_long word (pos 0) (pos (n + most_families)) long) refl
-long_fault n (IndexAfter count) word long = rw (whole_long word (negsuc 0) (pos (n + most_families)) long) refl
+long_fault n (IndexAfter count) word long = rw (whole_long word (negsuc 0) (pos (n + most_families + most_rows)) long) refl
 
 same_word_row : (earlier : List Item) (word next : List ℕ) (opened : Option Field) → IsLong word → IsLong next
     → open_section earlier ≡ opened

@@ -178,7 +178,7 @@ end_holds n families [] [] count h = h
 -- ---- a node
 
 -- its family is within the limit
-has_room : (begun : Bool) (families count : ℕ) → is_past_families begun families count ≡ false → (begun ≡ true → families < most_families)
+pub has_room : (begun : Bool) (families count : ℕ) → is_past_families begun families count ≡ false → (begun ≡ true → families < most_families)
     → (count < most_family_nodes) × (families < most_families)
 has_room begun families count room other = by_count (nat_le most_family_nodes count) refl room
   where

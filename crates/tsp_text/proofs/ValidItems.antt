@@ -1,5 +1,5 @@
 -- The fields of cut items without a fault are valid, field by field.
-use Rattle.tsp_text.proofs.Prelude.{◌≡◌, ℕ, Bool, true, false, cond, List, [], ◌∷◌, refl, sym, ap, subst, ◌∙◌, Option, Some, None, ◌++◌, length, arith, ◌*◌, false≢true, and_from, true≢false, le-leb, leb-false, ltb-false, length-map, length_push, list_all-map, list_any, list_all, find, option_or, option_map, pos, ◌&&◌, nat_le, nat_lt, neg_ℤ, not, ◌||◌, is_section_field, most_multiplier, most_matrix_nodes, most_weight, most_demand, most_potential, fields_in_order, Field, DimensionKey, TourPart, FixedEdgePotentialPart, EdgeWeightPart, NameKey, TypeKey, CommentKey, OtherKey, CapacityKey, ScaleKey, LoadUnitKey, EdgeWeightTypeKey, EdgeWeightFormatKey, NodeCoordTypeKey, DisplayDataTypeKey, NodeCoordPart, DisplayDataPart, DemandPart, DepotPart, FixedEdgesPart, NodePotentialPart, RowPotentialPart, ColumnPotentialPart, FamilyPart, BranchPart, Known, EdgeDataFormat, EdgeDataSection, Eof, Unknown, if_there, with_dimension, is_from_to, is_pair_of, is_triple_of, are_triples, is_within, fit_matrix, is_by_node, is_point, is_demand, are_depots, are_fixed, are_tours, are_family_lists, are_tree_steps, fits, first_failing, bad_field}
+use Rattle.tsp_text.proofs.Prelude.{◌≡◌, ℕ, Bool, true, false, cond, List, [], ◌∷◌, refl, sym, ap, subst, ◌∙◌, Option, Some, None, ◌++◌, length, arith, ◌*◌, false≢true, and_from, true≢false, le-leb, leb-false, ltb-false, length-map, length_push, list_all-map, list_any, list_all, find, option_or, option_map, pos, ◌&&◌, nat_le, nat_lt, neg_ℤ, not, ◌||◌, is_section_field, most_multiplier, most_matrix_nodes, most_weight, most_demand, most_potential, fields_in_order, Field, DimensionKey, TourPart, FixedEdgePotentialPart, EdgeWeightPart, NameKey, TypeKey, CommentKey, OtherKey, CapacityKey, ScaleKey, LoadUnitKey, EdgeWeightTypeKey, EdgeWeightFormatKey, NodeCoordTypeKey, DisplayDataTypeKey, NodeCoordPart, DisplayDataPart, DemandPart, DepotPart, FixedEdgesPart, NodePotentialPart, RowPotentialPart, ColumnPotentialPart, FamilyPart, MemoryPart, SubsetRowPart, BranchPart, Known, EdgeDataFormat, EdgeDataSection, Eof, Unknown, if_there, with_dimension, is_from_to, is_pair_of, is_triple_of, are_triples, is_within, fit_matrix, is_by_node, is_point, is_demand, are_depots, are_fixed, are_tours, are_family_lists, are_memory_lists, are_subset_rows, are_tree_steps, fits, first_failing, bad_field}
 use Rattle.tsp_number.specs.NumberWord.{whole_of}
 use Rattle.tsp_format.proofs.Basics.{none_map, and_right_from}
 use Rattle.tsp_file.proofs.FileFields.{none_fails}
@@ -11,6 +11,8 @@ use Rattle.tsp_file.specs.declared.rules.EndFault.{EndFault}
 use Rattle.tsp_file.specs.declared.rules.EndFault.TheVariants.{Missing, Incomplete}
 use Rattle.tsp_text.proofs.GroupWords.{Words, begun_short, AreListed, valid_pair, past_end, begins, middle, group_fits, fixed_fit}
 use Rattle.tsp_text.proofs.ValidCuts.{part_cut, tours_fit, families_fit}
+use Rattle.tsp_text.proofs.ValidMemory.{memories_fit, rows_fit}
+use Rattle.tsp_text.specs.MemoryWords.{whole_memories, whole_rows}
 use Rattle.tsp_text.proofs.ValidKeywords.{whole_passes, all_pass, name_fits, comments_fit, others_fit, dimension_fits, capacity_fits, scale_fits, load_unit_fits, numbers_fit, points_fit, coords_fit, depots_fit}
 use Rattle.tsp_text.proofs.ValidRows.{clean_parts, no_row, same_field_is, late, dimension_there, is_taken, Grows, grown, nodes_kept, none_applies, still_stands}
 use Rattle.tsp_text.proofs.ValidTree.{steps_fit}
@@ -226,6 +228,10 @@ each_fits items cut clean whole FixedEdgePotentialPart =
     section_fits are_triples (fixed_triples_in (dimension_in items)) FixedEdgePotentialPart refl refl items clean (λ there. triples_fit items clean)
 each_fits items cut clean whole FamilyPart =
     section_fits are_family_lists (whole_families (dimension_in items)) FamilyPart refl refl items clean (λ there. families_fit items clean)
+each_fits items cut clean whole MemoryPart =
+    section_fits are_memory_lists (whole_memories (dimension_in items)) MemoryPart refl refl items clean (λ there. memories_fit items clean)
+each_fits items cut clean whole SubsetRowPart =
+    section_fits are_subset_rows (whole_rows (dimension_in items)) SubsetRowPart refl refl items clean (λ there. rows_fit items clean)
 each_fits items cut clean whole BranchPart =
     section_fits are_tree_steps (whole_steps (dimension_in items)) BranchPart refl refl items clean
     (λ there. steps_fit items clean (and_right_from (has_line BranchPart items) (wants_more (place_of_step (dimension_in items) (words_of BranchPart items))) there whole))

@@ -1,6 +1,6 @@
 -- The steps of a section without a fault: no more than may be, each in its range, and a whole tree where no more are
 -- wanted.
-use Rattle.tsp_text.proofs.Prelude.{◌≡◌, ℕ, zero, suc, ◌+◌, ◌-◌, ◌≤◌, Bool, true, false, cond, List, [], ◌∷◌, ◌++◌, length, refl, sym, ap, subst, ◌∙◌, Option, None, Some, Result, Ok, Err, arith, not, ◌==◌, ◌&&◌, ℤ, pos, negsuc, neg_ℤ, nat_le, nat_abs, int_le, list_all, result_err, true≢false, false≢true, and_from, and_parts, not_from_false, le-leb, leb-false, nat_tests, append_assoc, append-nil, length_push, BranchPart, most_families, most_branches, most_changes, most_difference, is_from_to, is_within, is_node, is_branch_of, is_change, is_step, are_tree_steps}
+use Rattle.tsp_text.proofs.Prelude.{◌≡◌, ℕ, zero, suc, ◌+◌, ◌-◌, ◌≤◌, Bool, true, false, cond, List, [], ◌∷◌, ◌++◌, length, refl, sym, ap, subst, ◌∙◌, Option, None, Some, Result, Ok, Err, arith, not, ◌==◌, ◌&&◌, ℤ, pos, negsuc, neg_ℤ, nat_le, nat_abs, int_le, list_all, result_err, true≢false, false≢true, and_from, and_parts, not_from_false, le-leb, leb-false, nat_tests, append_assoc, append-nil, length_push, BranchPart, most_families, most_rows, most_branches, most_changes, most_difference, is_from_to, is_within, is_node, is_branch_of, is_change, is_step, are_tree_steps}
 use Rattle.std.specs.Ordering.{int_eq}
 use Rattle.std.proofs.lemmas.List.Sums.{fold-append}
 use Rattle.tsp_number.specs.declared.word.NumberFault.{NumberFault}
@@ -21,7 +21,7 @@ abbrev IsBegun : ℕ → Bool → Option ℕ → Type 0
 IsBegun n false None = Unit {0}
 IsBegun n false (Some first) = is_node (n + most_families) first ≡ true
 IsBegun n true None = Unit {0}
-IsBegun n true (Some index) = is_node (n + most_families) index ≡ true
+IsBegun n true (Some index) = is_node (n + most_families + most_rows) index ≡ true
 
 -- whether that is a branch, and whether it is a difference, as a number
 abbrev begun_branch : Bool → Option ℕ → ℕ
@@ -166,8 +166,8 @@ index_holds n s word left true some is row h none inside =
     rw (is, none) held
 index_holds n s word left false some is row h none inside =
     let t = is_taken n (IndexAfter s.changes) word row in
-    let found = read_listed (n + most_families) word t.is_read is in
-    let index : is_node (n + most_families) (nat_abs (number (index_or_end n word))) ≡ true = ap (λ r. is_node (n + most_families) (nat_abs (number r))) found.1 ∙ found.2 in
+    let found = read_listed (n + most_families + most_rows) word t.is_read is in
+    let index : is_node (n + most_families + most_rows) (nat_abs (number (index_or_end n word))) ≡ true = ap (λ r. is_node (n + most_families + most_rows) (nat_abs (number r))) found.1 ∙ found.2 in
     let room = leb-false most_changes s.changes (first_of_both (nat_le most_changes s.changes) (ends_leaf n word) t.has_room is) in
     let held : StepsHold n s.steps (Some (nat_abs (number (index_or_end n word)))) true s.leaf s.to_come s.branches (s.changes + 1) = record {
       all_steps = h.all_steps;
@@ -187,7 +187,7 @@ difference_holds : (n : ℕ) (s : TreeSoFar) (word : List ℕ) (index : ℕ)
 difference_holds n s word index h inside =
     let z = number (whole_of_size most_difference word) in
     let one : ℕ × ℤ = (index, z) in
-    let change : is_change n one ≡ true = and_from (is_node (n + most_families) index) (is_within most_difference z) h.begun
+    let change : is_change n one ≡ true = and_from (is_node (n + most_families + most_rows) index) (is_within most_difference z) h.begun
     (whole_passes (neg_ℤ (pos most_difference)) (pos most_difference) word refl) in
     let held : StepsHold n s.steps None true (s.leaf ++ one ∷ []) s.to_come s.branches s.changes = record {
       all_steps = h.all_steps;

@@ -9,7 +9,7 @@ use Rattle.tsp_format.specs.Words.{field_word, weighs_three, has_three, is_spati
 use Rattle.tsp_format.specs.declared.keyword.Keyword.{Keyword}
 use Rattle.tsp_format.specs.declared.keyword.Keyword.TheVariants.{Known, EdgeDataFormat, EdgeDataSection, Eof, Unknown}
 use Rattle.tsp_format.specs.declared.keyword.Shape.{Shape}
-use Rattle.tsp_format.specs.declared.keyword.Shape.TheVariants.{Numbers, Points, SpacePoints, Depots, Pairs, Weights, Tours, Triples, Families, Steps}
+use Rattle.tsp_format.specs.declared.keyword.Shape.TheVariants.{Numbers, Points, SpacePoints, Depots, Pairs, Weights, Tours, Triples, Families, Memories, SubsetRows, Steps}
 use Rattle.tsp_format.specs.declared.keyword.ValueShape.{ValueShape}
 use Rattle.tsp_format.specs.declared.keyword.ValueShape.TheVariants.{Kept, KeptEach, Number, Word}
 use Rattle.tsp_format.specs.declared.kinds.CoordKind.{CoordKind}
@@ -18,6 +18,7 @@ use Rattle.tsp_format.specs.declared.kinds.Kind.{Kind}
 use Rattle.tsp_format.specs.declared.kinds.WeightFormat.{WeightFormat}
 use Rattle.tsp_format.specs.declared.kinds.WeightKind.{WeightKind}
 use Rattle.tsp_text.specs.Groups.{place_of_number, place_of_point, place_of_space_point, place_of_depot, place_of_fixed, place_of_triple, place_of_family}
+use Rattle.tsp_text.specs.MemoryWords.{place_of_memory, place_of_row}
 use Rattle.tsp_text.specs.Items.{Item, Line, NumberWord, LineEnd, first_word}
 use Rattle.tsp_text.specs.SectionWords.{Place, PastEnd, place_of_weight, place_of_tour, place_of_step}
 
@@ -217,6 +218,8 @@ place_by Weights n words = place_of_weight n words
 place_by Tours n words = place_of_tour words
 place_by Triples n words = place_of_triple n words
 place_by Families n words = place_of_family n words
+place_by Memories n words = place_of_memory n words
+place_by SubsetRows n words = place_of_row n words
 place_by Steps n words = place_of_step n words
 
 -- the same of a section, in a spatial file or in another; no other field has words

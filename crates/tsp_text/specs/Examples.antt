@@ -9,6 +9,7 @@ use Rattle.tsp_text.specs.declared.fault.LineFault.{LineFault}
 use Rattle.tsp_text.specs.declared.fault.LineFault.TheVariants.{Number}
 use Rattle.tsp_text.specs.declared.fault.ReadFault.TheVariants as faults
 use Rattle.tsp_text.specs.Items.{line_item}
+use Rattle.tsp_text.specs.MemoryWords.{row_with}
 use Rattle.tsp_text.specs.SectionWords.{Place}
 use Rattle.tsp_text.specs.FaultRows.{is_surplus, is_surplus_at}
 use Rattle.tsp_text.specs.ParsesTo.{spelled, part, fault}
@@ -58,6 +59,15 @@ TriplesAre bytes = (fault (text bytes) ≡ None)
 abbrev pub FamilyIs : List ℕ → Type 0
 FamilyIs bytes = (fault (text bytes) ≡ None) × ((spelled (part (text bytes))).families
     ≡ Some (((1 ∷ 2 ∷ 3 ∷ []) ∷ (1 ∷ 4 ∷ []) ∷ (2 ∷ 5 ∷ []) ∷ (3 ∷ 6 ∷ []) ∷ []) ∷ []))
+
+-- it parses to a file with the lists (1, 2, 3) and (4)
+abbrev pub MemoryIs : List ℕ → Type 0
+MemoryIs bytes = (fault (text bytes) ≡ None) × ((spelled (part (text bytes))).memories ≡ Some ((1 ∷ 2 ∷ 3 ∷ []) ∷ (4 ∷ []) ∷ []))
+
+-- it parses to a file with the row of the set (1, 2) and no further node, and that of (3) and the further nodes (4, 1)
+abbrev pub RowsAre : List ℕ → Type 0
+RowsAre bytes = (fault (text bytes) ≡ None) × ((spelled (part (text bytes))).subset_rows
+    ≡ Some (row_with (1 ∷ 2 ∷ []) [] ∷ row_with (3 ∷ []) (4 ∷ 1 ∷ []) ∷ []))
 
 -- it parses to a file with the tree of a branch on the pair (1, 2), a leaf that adds 1 to the number of node 2, and one
 -- that adds nothing

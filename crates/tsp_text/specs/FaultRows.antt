@@ -173,10 +173,11 @@ is_self_edge earlier (NumberWord word) = at_place is_self_edge_at earlier word
 is_self_edge earlier LineEnd = false
 
 -- ---- Surplus: a line of COMMENT or of an unknown keyword after the most of them; past the groups or a whole tree a
--- word other than `-1`; a word past the weights; after the most of them a depot, a first node of a pair, triple, family
--- or branch, a node of the tours or of a family, or an index of a leaf (no -1, and no 0 that begins a leaf)
+-- word other than `-1`; a word past the weights; after the most of them a depot, a first node of a pair, triple, family,
+-- row or branch, a node of the tours, of a family, of a memory or of a row, or an index of a leaf (no -1, and no 0 that
+-- begins a leaf)
 
--- a node of families is beyond the limit, by whether a family has begun, after this many families and nodes
+-- a node of families or rows is beyond the limit, by whether one has begun, after this many of them and nodes
 abbrev pub is_past_families : Bool → ℕ → ℕ → Bool
 is_past_families begun families count = nat_le most_family_nodes count || (not begun && nat_le most_families families)
 
@@ -206,7 +207,7 @@ is_surplus earlier (Line Unknown line) = nat_le most_others (length (others_in e
 is_surplus earlier (NumberWord word) = at_place is_surplus_at earlier word
 is_surplus earlier LineEnd = false
 
--- ---- AfterEnd: a word other than `-1` after the -1 that ended the list, or the families
+-- ---- AfterEnd: a word other than `-1` after the -1 that ended the list, the families or the rows
 
 abbrev pub is_after_end_at : ℕ → Place → List ℕ → Bool
 is_after_end_at n PastEnd word = not (is_minus_one word)

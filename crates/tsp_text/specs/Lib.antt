@@ -5,5 +5,6 @@ pub mod Items
 pub mod Earlier
 pub mod SectionWords
 pub mod Groups
+pub mod MemoryWords
 pub mod FaultRows
 pub mod Examples

@@ -1,6 +1,6 @@
 -- Circle 2 of docs/trust.md.
 -- Which file a text parses to, or its first fault, and its text. Every text has exactly one answer.
-use Rattle.tsp_text.specs.Prelude.{find, filter, ℕ, List, codes, decimal, [], Option, None, Some, Bool, true, false, cond, ℤ, pos, neg_ℤ, not, nat_lt, length, take, reverse, Result, Ok, Err, number_fault_text, most_demand, most_potential, is_section_field, most_file_bytes, most_matrix_nodes, Field, NameKey, TypeKey, CommentKey, CapacityKey, ScaleKey, LoadUnitKey, EdgeWeightTypeKey, EdgeWeightFormatKey, NodeCoordTypeKey, DisplayDataTypeKey, NodeCoordPart, DisplayDataPart, DemandPart, DepotPart, FixedEdgesPart, EdgeWeightPart, TourPart, NodePotentialPart, RowPotentialPart, ColumnPotentialPart, FixedEdgePotentialPart, FamilyPart, BranchPart}
+use Rattle.tsp_text.specs.Prelude.{find, filter, ℕ, List, codes, decimal, [], Option, None, Some, Bool, true, false, cond, ℤ, pos, neg_ℤ, not, nat_lt, length, take, reverse, Result, Ok, Err, number_fault_text, most_demand, most_potential, is_section_field, most_file_bytes, most_matrix_nodes, Field, NameKey, TypeKey, CommentKey, CapacityKey, ScaleKey, LoadUnitKey, EdgeWeightTypeKey, EdgeWeightFormatKey, NodeCoordTypeKey, DisplayDataTypeKey, NodeCoordPart, DisplayDataPart, DemandPart, DepotPart, FixedEdgesPart, EdgeWeightPart, TourPart, NodePotentialPart, RowPotentialPart, ColumnPotentialPart, FixedEdgePotentialPart, FamilyPart, MemoryPart, SubsetRowPart, BranchPart}
 use Rattle.std.specs.Option.{option_or, option_map}
 use Rattle.std.specs.Prelude.{◌++◌, ◌≡◌, ◌∷◌, ◌&&◌}
 use Rattle.tsp_format.specs.Words.{fields_in_order}
@@ -12,6 +12,7 @@ use Rattle.tsp_file.specs.declared.rules.EndFault.{EndFault}
 use Rattle.tsp_text.specs.Earlier.{has_line, value_at, values_at, others_in, words_of, kind_named, weight_kind_named, weight_format_named, coord_kind_named, display_kind_named, number_at, named_at, dimension_of, spatial_after, place_in, dimension_in}
 use Rattle.tsp_text.specs.FaultRows.{row_of, when, first_row}
 use Rattle.tsp_text.specs.Groups.{numbers_by_node, points_by_node, coords_by_node, depots_in, fixed_in, fixed_triples_in, whole_families}
+use Rattle.tsp_text.specs.MemoryWords.{whole_memories, whole_rows}
 use Rattle.tsp_text.specs.Items.{Item, line_number, word_number, items_of, settled_items, to_end_line, has_end_line, is_not_empty}
 use Rattle.tsp_text.specs.SectionWords.{Place, NodeAfter, Coordinate, Amount, PastGroups, DepotAfter, FirstAfter, SecondOf, PastEnd, Weight, PastWeights, TourNode, SetNode, StepAfter, IndexAfter, weights_in, tours_in, whole_steps}
 use Rattle.tsp_text.specs.declared.fault.LineFault.{LineFault}
@@ -117,6 +118,8 @@ fields_by stands items = record {
   column_potentials = section_value stands (potentials_by_node (dimension_in items)) ColumnPotentialPart items;
   fixed_potentials = section_value stands (fixed_triples_in (dimension_in items)) FixedEdgePotentialPart items;
   families = section_value stands (whole_families (dimension_in items)) FamilyPart items;
+  memories = section_value stands (whole_memories (dimension_in items)) MemoryPart items;
+  subset_rows = section_value stands (whole_rows (dimension_in items)) SubsetRowPart items;
   branches = section_value stands (whole_steps (dimension_in items)) BranchPart items;
 }
 
@@ -130,7 +133,8 @@ spelled items = fields_by (stands items) items
 
 -- ---- the end
 
--- at this place the section isn't complete: a group is to come, a pair, triple or family isn't whole, or the tree isn't
+-- at this place the section isn't complete: a group is to come, a pair, triple, family, list or row
+-- isn't whole, or the tree isn't
 abbrev pub wants_more : Place → Bool
 wants_more (NodeAfter nodes) = true
 wants_more Coordinate = true

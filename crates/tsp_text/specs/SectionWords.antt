@@ -1,6 +1,6 @@
 -- Circle 2 of docs/trust.md.
 -- The words of each section at their places, and the numbers that they are: tours, weights, and the steps of a tree.
-use Rattle.tsp_text.specs.Prelude.{slice_split, filter, fold, ℕ, ℤ, Bool, List, false, cond, Result, Ok, Err, pos, negsuc, neg_ℤ, codes, not, length, map, nat_abs, nat_le, true, [], Option, None, Some, whole_of, NumberFault, most_nodes, most_weight, most_families, most_difference}
+use Rattle.tsp_text.specs.Prelude.{slice_split, filter, fold, ℕ, ℤ, Bool, List, false, cond, Result, Ok, Err, pos, negsuc, neg_ℤ, codes, not, length, map, nat_abs, nat_le, true, [], Option, None, Some, whole_of, NumberFault, most_nodes, most_weight, most_families, most_rows, most_difference}
 use Rattle.std.specs.Ordering.{int_eq}
 use Rattle.std.specs.Prelude.{◌≡◌, ◌≤ℤ◌, ◌*◌, ◌+◌, ◌-◌, ◌==◌, ◌∷◌, ◌++◌}
 use Rattle.std.specs.Result.{result_unwrap_or}
@@ -28,7 +28,8 @@ pub data Place : Type 0 where
   PastWeights : Place
   -- a node of the tours, after this many, or a -1
   TourNode : (count : ℕ) → Place
-  -- families: a node of a set, or a -1, by whether a family has begun, after this many whole families and nodes of all families
+  -- families and subset rows: a node of a set, or a -1, by whether a family or row has begun, after this many whole ones
+  -- (the most of either is the same) and nodes in all; so too a memory, of which no whole lists are counted
   SetNode : (begun : Bool) (families count : ℕ) → Place
   -- a tree of cases: the first word of a step, after this many branches (the second node of a branch is as that of a
   -- pair); an index of a leaf, or its -1, after this many of all leaves (its difference is a whole number of a range)
@@ -134,13 +135,13 @@ index_or_leaf n word = whole_of word (pos 0) (pos (n + most_families))
 abbrev pub begins_leaf : ℕ → List ℕ → Bool
 begins_leaf n word = reads_as (pos 0) (index_or_leaf n word)
 
--- an index of a node or of a family, or the -1 that ends a leaf
+-- an index of a node, of a family or of a subset row, or the -1 that ends a leaf
 abbrev pub index_or_end : ℕ → List ℕ → Result ℤ NumberFault
-index_or_end n word = node_or_end (n + most_families) word
+index_or_end n word = node_or_end (n + most_families + most_rows) word
 
 -- the word is that -1
 abbrev pub ends_leaf : ℕ → List ℕ → Bool
-ends_leaf n word = is_end (n + most_families) word
+ends_leaf n word = is_end (n + most_families + most_rows) word
 
 -- ---- one word more
 

@@ -10,7 +10,7 @@ ghost use Rattle.tsp_file.specs.declared.rules.EndFault.TheVariants as ends;
 ghost use Rattle.tsp_text.specs.declared.fault.LineFault.TheVariants as faults;
 ghost use Rattle.tsp_text.specs.declared.fault.ReadFault.TheVariants as reads;
 ghost use Rattle.tsp_text.specs.ParsesTo.{line_fault_text, read_fault_text};
-ghost use Rattle.tsp_text.specs.Examples.{FaultAt, IsNumberFault, MissingAtEnd, EndsWithFault, OthersAre, ToursAre, PairsAre, TriplesAre, FamilyIs, TreeIs, DemandsAre, HasSpacePoint, HasPlanePoint, quad, longest_line, long_line, long_word, filled_line, IsLimit, IsLimitOfLines};
+ghost use Rattle.tsp_text.specs.Examples.{FaultAt, IsNumberFault, MissingAtEnd, EndsWithFault, OthersAre, ToursAre, PairsAre, TriplesAre, FamilyIs, MemoryIs, RowsAre, TreeIs, DemandsAre, HasSpacePoint, HasPlanePoint, quad, longest_line, long_line, long_word, filled_line, IsLimit, IsLimitOfLines};
 ghost use Rattle.tsp_text.specs.FaultRows.{is_surplus_at};
 ghost use Rattle.tsp_text.specs.SectionWords.{DepotAfter, FirstAfter, TourNode, SetNode, StepAfter, IndexAfter};
 
@@ -75,6 +75,14 @@ pub fn faults_of_words()
         (codes "DIMENSION : 3/COMB_SECTION/1 2 -1 -1 -1 -1 3") 3 7 faults.AfterEnd }
     ensures other_spelling_past_the_families { FaultAt
         (codes "DIMENSION : 3/COMB_SECTION/-1 -1.0") 3 2 faults.AfterEnd }
+    ensures zero_in_a_list { IsNumberFault (codes "DIMENSION : 3/MEMORY_SECTION/1 0")
+        3 2 numbers.OutOfRange }
+    ensures past_the_lists { FaultAt
+        (codes "DIMENSION : 3/MEMORY_SECTION/1 2 -1 -1 -1 3") 3 6 faults.AfterEnd }
+    ensures node_past_all_in_a_row { IsNumberFault (codes "DIMENSION : 3/SUBSET_ROW_SECTION/1 -1 4")
+        3 3 numbers.OutOfRange }
+    ensures past_the_rows { FaultAt
+        (codes "DIMENSION : 3/SUBSET_ROW_SECTION/1 2 -1 -1 -1 -1 3") 3 7 faults.AfterEnd }
     ensures branch_of_a_node_with_itself { FaultAt
         (codes "DIMENSION : 4/BRANCH_SECTION/2 2") 3 2 faults.SelfEdge }
     ensures first_number_past_all_families { IsNumberFault
@@ -89,7 +97,9 @@ pub fn faults_of_words()
         3 5 numbers.OutOfRange }
     ensures index_zero { IsNumberFault (codes "DIMENSION : 4/BRANCH_SECTION/0 0")
         3 2 numbers.OutOfRange }
-    ensures index_past_all_families { IsNumberFault (codes "DIMENSION : 4/BRANCH_SECTION/0 10004 1 10005")
+    ensures branch_on_a_row { IsNumberFault (codes "DIMENSION : 4/BRANCH_SECTION/10005 1")
+        3 1 numbers.OutOfRange }
+    ensures index_past_all_rows { IsNumberFault (codes "DIMENSION : 4/BRANCH_SECTION/0 20004 1 20005")
         3 4 numbers.OutOfRange }
     ensures difference_too_large { IsNumberFault
         (codes "DIMENSION : 4/BRANCH_SECTION/0 1 2000000000000000 1 2000000000000001")
@@ -140,6 +150,15 @@ pub fn faults_at_the_end()
         (ends.Incomplete fields.FamilyPart) }
     ensures families_alone { MissingAtEnd
         (codes "TYPE : BRANCHES/DIMENSION : 3/COMB_SECTION/1 2 -1 -1") fields.BranchPart }
+    ensures cut_list { EndsWithFault
+        (codes "TYPE : TOUR/DIMENSION : 3/MEMORY_SECTION/1 -1 2/TOUR_SECTION")
+        (ends.Incomplete fields.MemoryPart) }
+    ensures cut_row_set { EndsWithFault
+        (codes "TYPE : TOUR/DIMENSION : 3/SUBSET_ROW_SECTION/1 2/TOUR_SECTION")
+        (ends.Incomplete fields.SubsetRowPart) }
+    ensures cut_row { EndsWithFault
+        (codes "TYPE : TOUR/DIMENSION : 3/SUBSET_ROW_SECTION/1 2 -1/TOUR_SECTION")
+        (ends.Incomplete fields.SubsetRowPart) }
     ensures cut_tree { EndsWithFault
         (codes "TYPE : BRANCHES/DIMENSION : 4/BRANCH_SECTION/1 2 0 2 1 -1")
         (ends.Incomplete fields.BranchPart) }
@@ -216,6 +235,7 @@ pub fn limits_of_sections()
     ensures nodes_of_tours { IsLimit (TourNode 1000000) (TourNode 999999) (codes "1") }
     ensures nodes_of_families { IsLimit (SetNode true 1 1000000) (SetNode true 1 999999) (codes "1") }
     ensures families { IsLimit (SetNode false 10000 5) (SetNode false 9999 5) (codes "1") }
+    ensures nodes_of_memories { IsLimit (SetNode false 0 1000000) (SetNode false 0 999999) (codes "1") }
     ensures branches { IsLimit (StepAfter 1000000) (StepAfter 999999) (codes "1") }
     ensures indices { IsLimit (IndexAfter 10000000) (IndexAfter 9999999) (codes "1") }
     ensures end_of_depots { is_surplus_at 3 (DepotAfter 100000) (codes "-1") ≡ false }
@@ -242,6 +262,14 @@ pub fn fields_of_texts()
         (codes "TYPE:BRANCHES/DIMENSION 6/COMB_SECTION/1 2 3 -1 1 4 -1/2 5 -1 3 6 -1.0 -1 -1 -1/BRANCH_SECTION/0 -1") }
     ensures family_without_an_end { FamilyIs
         (codes "TYPE:BRANCHES/DIMENSION 6/COMB_SECTION/1 2 3 -1 1 4 -1 2 5 -1 3 6 -1 -1/BRANCH_SECTION/0 -1") }
+    ensures memory { MemoryIs
+        (codes "TYPE:BRANCHES/DIMENSION 4/MEMORY_SECTION/1 2/3 -1.0 4 -1 -1 -1/BRANCH_SECTION/0 -1") }
+    ensures memory_without_an_end { MemoryIs
+        (codes "TYPE:BRANCHES/DIMENSION 4/MEMORY_SECTION/1 2 3 -1/4 -1/BRANCH_SECTION/0 -1") }
+    ensures rows { RowsAre
+        (codes "TYPE:BRANCHES/DIMENSION 4/SUBSET_ROW_SECTION/1 2 -1 -1/3 -1 4 1 -1 -1/BRANCH_SECTION/0 -1") }
+    ensures rows_without_an_end { RowsAre
+        (codes "TYPE:BRANCHES/DIMENSION 4/SUBSET_ROW_SECTION/1 2 -1 -1 3 -1 4 1 -1/BRANCH_SECTION/0 -1") }
     ensures tree { TreeIs
         (codes "TYPE:BRANCHES/DIMENSION 4/BRANCH_SECTION/1 2/0 +2 1 -1.0/0 -1 -1") }
     ensures demands { DemandsAre (codes "DIMENSION : 3/DEMAND_SECTION/2 7/3 9 1/5") }

@@ -39,7 +39,7 @@ pub enum LineFault {
     SelfEdge,
     /// There are more lines or words than the file can have.
     Surplus,
-    /// A word other than `-1` appears after the -1 that ended the list, or the families.
+    /// A word other than `-1` appears after the -1 that ended the list, the families or the rows.
     AfterEnd,
     /// The line says that the nodes have three coordinates, after a NODE_COORD_SECTION of two each.
     LateSpace,

@@ -1,5 +1,5 @@
 -- The fields of a draft as lists, and the states of a change of layout: half and full matrices, rows and columns.
-use Rattle.tsp_file.specs.Prelude.{All, option_map, ℕ, Some, Bool, true, false, nat_le, List, slice_index_or, ℤ, pos, map, on_plane, Point, most_weight, IsNode, cells_of_line, line_len_of, Listed, Layout, FullMatrix, UpperRow, LowerRow, UpperDiagRow, LowerDiagRow, UpperCol, LowerCol, UpperDiagCol, LowerDiagCol, steps_of}
+use Rattle.tsp_file.specs.Prelude.{All, option_map, ℕ, Some, Bool, true, false, nat_le, List, slice_index_or, ℤ, pos, map, on_plane, Point, most_weight, IsNode, cells_of_line, line_len_of, Listed, Layout, FullMatrix, UpperRow, LowerRow, UpperDiagRow, LowerDiagRow, UpperCol, LowerCol, UpperDiagCol, LowerDiagCol, subset_rows_of, steps_of}
 use Rattle.std.specs.Global.{Vec}
 use Rattle.std.specs.Prelude.{◌+◌, ◌≡◌, ◌≢◌, ◌-◌, ◌*◌, ◌<◌, ◌≤◌}
 use Rattle.tsp_file.specs.Cost.{cost, listed_cost}
@@ -146,5 +146,7 @@ fields_of d = record {
   column_potentials = option_map (λ v. v.items) d.column_potentials;
   fixed_potentials = option_map (λ v. v.items) d.fixed_potentials;
   families = option_map (λ v. families_of v.items) d.families;
+  memories = option_map (λ v. map (λ list. list.items) v.items) d.memories;
+  subset_rows = option_map (λ v. subset_rows_of v.items) d.subset_rows;
   branches = option_map (λ v. steps_of v.items) d.branches;
 }

@@ -1,9 +1,10 @@
--- The steps of a tree of cases where code has them as vectors: `TreeStep` (src/steps.rt), as the definitions of
+-- The steps of a tree of cases and subset rows where code has them as vectors: `TreeStep` and `RowSets` (src/steps.rt), as the definitions of
 -- Steps.antt. Seven crates above import it too.
 use Rattle.std.specs.Prelude.{List, map}
+use Rattle.tsp_format.specs.declared.steps.RowSets.{RowSets}
 use Rattle.tsp_format.specs.declared.steps.TreeStep.{TreeStep}
 use Rattle.tsp_format.specs.declared.steps.TreeStep.TheVariants as listed
-use Rattle.tsp_format.specs.Steps.{Step, Branch, Leaf}
+use Rattle.tsp_format.specs.Steps.{Step, Branch, Leaf, SubsetRow}
 
 -- one step
 abbrev pub step_of : TreeStep → Step
@@ -13,3 +14,11 @@ step_of (listed.Leaf changes) = Leaf changes.items
 -- all steps of a tree
 abbrev pub steps_of : List TreeStep → List Step
 steps_of steps = map step_of steps
+
+-- one row
+abbrev pub subset_row_of : RowSets → SubsetRow
+subset_row_of row = record { set = row.set.items; further = row.further.items }
+
+-- all rows
+abbrev pub subset_rows_of : List RowSets → List SubsetRow
+subset_rows_of rows = map subset_row_of rows

@@ -1,13 +1,15 @@
 -- That the part of an open section has the words of the section so far, for each shape.
-use Rattle.tsp_read.specs.Prelude.{ℕ, ℤ, Bool, cond, List, length, map, false, is_some, [], Ok, most_families, points_of, families_of, place_by, FamiliesSoFar, families_after, TreeSoFar, tree_after}
+use Rattle.tsp_read.specs.Prelude.{ℕ, ℤ, Bool, cond, List, length, map, false, is_some, [], Ok, most_families, most_rows, points_of, families_of, subset_rows_of, place_by, FamiliesSoFar, families_after, MemoriesSoFar, memories_after, RowsSoFar, rows_after, TreeSoFar, tree_after}
 use Rattle.std.specs.Prelude.{◌≡◌, ◌+◌, ◌≤◌, ◌∷◌, ◌++◌}
 use Rattle.tsp_format.specs.declared.keyword.Shape.{Shape}
-use Rattle.tsp_format.specs.declared.keyword.Shape.TheVariants.{Numbers, Points, SpacePoints, Depots, Pairs, Weights, Tours, Triples, Families, Steps}
+use Rattle.tsp_format.specs.declared.keyword.Shape.TheVariants.{Numbers, Points, SpacePoints, Depots, Pairs, Weights, Tours, Triples, Families, Memories, SubsetRows, Steps}
 use Rattle.tsp_format.specs.states.TreeSteps.{steps_of}
 use Rattle.tsp_read.specs.declared.by_node.NumberList.{NumberList}
 use Rattle.tsp_read.specs.declared.by_node.PointList.{PointList}
 use Rattle.tsp_read.specs.declared.lists.DepotList.{DepotList}
 use Rattle.tsp_read.specs.declared.lists.FixedList.{FixedList}
+use Rattle.tsp_read.specs.declared.memory_lists.MemoryList.{MemoryList}
+use Rattle.tsp_read.specs.declared.memory_lists.RowList.{RowList}
 use Rattle.tsp_read.specs.declared.section_builder.SectionBuilder.{SectionBuilder}
 use Rattle.tsp_read.specs.declared.section_builder.SectionBuilder.TheVariants as parts
 use Rattle.tsp_read.specs.declared.section_builder.TripleList.{TripleList}
@@ -70,6 +72,35 @@ pub record HoldsFamilies (part : FamilyList) (n : ℕ) (words : List (List ℕ))
   pub nodes : part.n ≡ n
   pub read : families_held part ≡ families_after n words
 
+-- the contents of a part for MEMORY_SECTION, as MemoryWords.antt of tsp_text has them
+abbrev pub memories_held : MemoryList → MemoriesSoFar
+memories_held part = record {
+  lists = map (λ list. list.items) part.lists.items;
+  nodes = part.nodes.items;
+  count = part.count;
+  ended = part.ended;
+}
+
+-- MEMORY_SECTION
+pub record HoldsMemories (part : MemoryList) (n : ℕ) (words : List (List ℕ)) : Type 0 where
+  pub nodes : part.n ≡ n
+  pub read : memories_held part ≡ memories_after n words
+
+-- the contents of a part for SUBSET_ROW_SECTION, as MemoryWords.antt of tsp_text has them
+abbrev pub rows_held : RowList → RowsSoFar
+rows_held part = record {
+  rows = subset_rows_of part.rows.items;
+  set = part.set.items;
+  nodes = part.nodes.items;
+  count = part.count;
+  ended = part.ended;
+}
+
+-- SUBSET_ROW_SECTION
+pub record HoldsSubsetRows (part : RowList) (n : ℕ) (words : List (List ℕ)) : Type 0 where
+  pub nodes : part.n ≡ n
+  pub read : rows_held part ≡ rows_after n words
+
 -- the contents of a part for BRANCH_SECTION, as SectionWords.antt of tsp_text has them
 abbrev pub tree_held : TreeList → TreeSoFar
 tree_held part = record {
@@ -85,7 +116,8 @@ tree_held part = record {
 -- BRANCH_SECTION; no more trees are to come than this many steps can ask for
 pub record HoldsTree (part : TreeList) (n : ℕ) (words : List (List ℕ)) : Type 0 where
   pub nodes : part.n ≡ n
-  pub indices : part.last_index ≡ n + most_families
+  pub families : part.last_family ≡ n + most_families
+  pub indices : part.last_index ≡ n + most_families + most_rows
   pub read : tree_held part ≡ tree_after n words
   pub few : part.to_come ≤ length part.steps.items + 1
 
@@ -105,6 +137,8 @@ shape_by (parts.Weights list) = Weights
 shape_by (parts.Tours list) = Tours
 shape_by (parts.Triples list) = Triples
 shape_by (parts.Families list) = Families
+shape_by (parts.Memories list) = Memories
+shape_by (parts.SubsetRows list) = SubsetRows
 shape_by (parts.Steps list) = Steps
 
 -- the part has these words of its section, which has n nodes
@@ -117,6 +151,8 @@ HoldsPart (parts.Weights list) n words = HoldsWeights list n words
 HoldsPart (parts.Tours list) n words = HoldsTours list words
 HoldsPart (parts.Triples list) n words = HoldsTriples list n words
 HoldsPart (parts.Families list) n words = HoldsFamilies list n words
+HoldsPart (parts.Memories list) n words = HoldsMemories list n words
+HoldsPart (parts.SubsetRows list) n words = HoldsSubsetRows list n words
 HoldsPart (parts.Steps list) n words = HoldsTree list n words
 
 -- the same, and the section has this shape

@@ -1,6 +1,6 @@
 -- The reader's state after some items of a text: its fields, its open section, and what a line that opens or closes a
 -- section does to them.
-use Rattle.tsp_read.specs.Prelude.{find, option_map, option_map_or, ℕ, Bool, List, Some, false, not, [], Option, None, is_some, Result, Ok, Err, nat_lt, ℤ, true, is_none, unwrap_or, length, nat_le, whole_of, shape_of, most_line_bytes, most_comments, most_others, Fields, with_numbers, with_points, fields_of, has_line, open_section, is_open, words_of, spatial_after, dimension_in, named, is_left_out, same_field, row_of, when, first_row, is_too_long_to_keep, numbers_by_node, points_by_node, space_points_by_node, depots_in, fixed_in, fixed_triples_in, whole_families, WordLine, Item, Line, AreCut, is_not_empty, first_word, tours_in, whole_steps, weights_in, IsClean, fields_by, is_incomplete, sections_in_order, first_incomplete, opening_rows, spelled, fault_at_end}
+use Rattle.tsp_read.specs.Prelude.{find, option_map, option_map_or, ℕ, Bool, List, Some, false, not, [], Option, None, is_some, Result, Ok, Err, nat_lt, ℤ, true, is_none, unwrap_or, length, nat_le, whole_of, shape_of, most_line_bytes, most_comments, most_others, Fields, with_numbers, with_points, fields_of, has_line, open_section, is_open, words_of, spatial_after, dimension_in, named, is_left_out, same_field, row_of, when, first_row, is_too_long_to_keep, numbers_by_node, points_by_node, space_points_by_node, depots_in, fixed_in, fixed_triples_in, whole_families, whole_memories, whole_rows, WordLine, Item, Line, AreCut, is_not_empty, first_word, tours_in, whole_steps, weights_in, IsClean, fields_by, is_incomplete, sections_in_order, first_incomplete, opening_rows, spelled, fault_at_end}
 use Rattle.std.specs.Prelude.{◌≡◌, ◌&&◌, ◌∷◌, ◌≤ℤ◌, ◌++◌, ◌||◌}
 use Rattle.std.specs.Result.{result_err}
 use Rattle.tsp_number.specs.declared.word.NumberFault.{NumberFault}
@@ -8,7 +8,7 @@ use Rattle.tsp_format.specs.declared.keyword.Field.{Field}
 use Rattle.tsp_format.specs.declared.keyword.Field.TheVariants.{NameKey, TypeKey, DimensionKey, CapacityKey, ScaleKey, LoadUnitKey, EdgeWeightTypeKey, EdgeWeightFormatKey, NodeCoordTypeKey, DisplayDataTypeKey}
 use Rattle.tsp_format.specs.declared.keyword.Keyword.TheVariants.{Known, Unknown}
 use Rattle.tsp_format.specs.declared.keyword.Shape.{Shape}
-use Rattle.tsp_format.specs.declared.keyword.Shape.TheVariants.{Numbers, Points, SpacePoints, Depots, Pairs, Weights, Tours, Triples, Families, Steps}
+use Rattle.tsp_format.specs.declared.keyword.Shape.TheVariants.{Numbers, Points, SpacePoints, Depots, Pairs, Weights, Tours, Triples, Families, Memories, SubsetRows, Steps}
 use Rattle.tsp_file.specs.Rules.{standing_of, end_fault}
 use Rattle.tsp_file.specs.declared.rules.EndFault.{EndFault}
 use Rattle.tsp_text.specs.declared.fault.LineFault.{LineFault}
@@ -220,6 +220,8 @@ with_words Weights field n words fields = record fields { weights = Some (weight
 with_words Tours field n words fields = record fields { tours = Some (tours_in words) }
 with_words Triples field n words fields = record fields { fixed_potentials = Some (fixed_triples_in n words) }
 with_words Families field n words fields = record fields { families = Some (whole_families n words) }
+with_words Memories field n words fields = record fields { memories = Some (whole_memories n words) }
+with_words SubsetRows field n words fields = record fields { subset_rows = Some (whole_rows n words) }
 with_words Steps field n words fields = record fields { branches = Some (whole_steps n words) }
 
 -- the same for a section, in a spatial file or another

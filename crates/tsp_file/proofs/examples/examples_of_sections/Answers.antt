@@ -51,6 +51,14 @@ pub returns-clause-families : goal.returns-clause-families
 unfolding digits decimals nodes_to cells_of_line
 returns-clause-families c = search rules
 
+pub returns-clause-memories : goal.returns-clause-memories
+unfolding digits decimals nodes_to cells_of_line
+returns-clause-memories c = search rules
+
+pub returns-clause-subset_rows : goal.returns-clause-subset_rows
+unfolding digits decimals nodes_to cells_of_line
+returns-clause-subset_rows c = search rules
+
 pub returns-clause-branches : goal.returns-clause-branches
 unfolding digits decimals nodes_to cells_of_line
 returns-clause-branches c = search rules
@@ -58,6 +66,14 @@ returns-clause-branches c = search rules
 pub returns-clause-no_families : goal.returns-clause-no_families
 unfolding digits decimals nodes_to cells_of_line
 returns-clause-no_families c = search rules
+
+pub returns-clause-no_memories : goal.returns-clause-no_memories
+unfolding digits decimals nodes_to cells_of_line
+returns-clause-no_memories c = search rules
+
+pub returns-clause-no_rows : goal.returns-clause-no_rows
+unfolding digits decimals nodes_to cells_of_line
+returns-clause-no_rows c = search rules
 
 pub returns-clause-in_space : goal.returns-clause-in_space
 unfolding digits decimals nodes_to cells_of_line

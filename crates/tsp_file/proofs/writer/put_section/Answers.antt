@@ -30,5 +30,11 @@ returns-in-Triples g c = rw c.in-Triples.is c.put_triple_section.ensures
 pub returns-in-Families : goal.returns-in-Families
 returns-in-Families g c = rw c.in-Families.is c.put_family_section.ensures
 
+pub returns-in-Memories : goal.returns-in-Memories
+returns-in-Memories g c = rw c.in-Memories.is c.put_memory_section.ensures
+
+pub returns-in-SubsetRows : goal.returns-in-SubsetRows
+returns-in-SubsetRows g c = rw c.in-SubsetRows.is c.put_row_section.ensures
+
 pub returns-in-Steps : goal.returns-in-Steps
 returns-in-Steps g c = rw c.in-Steps.is c.put_step_section.ensures

@@ -1,5 +1,5 @@
 -- The goals of `store` in src/reading.rt, which puts the list of a section into the draft: what it ensures.
-use Rattle.tsp_read.proofs.Prelude.{refl, points_of, families_of, fields_of}
+use Rattle.tsp_read.proofs.Prelude.{refl, map, points_of, families_of, subset_rows_of, fields_of}
 use Rattle.tsp_format.specs.states.TreeSteps.{steps_of}
 use Rattle.tsp_read.proofs.SectionSteps as steps
 use Rattle.tsp_read.proofs.reading.store.Goals as goal
@@ -29,6 +29,16 @@ pub returns-in-Families : goal.returns-in-Families
 returns-in-Families c =
     steps.families_stored c.args.section c.in-Families.part (families_of c.finish-families.result.0.items) c.finish-families.result.1 (fields_of c.args.draft.now) _
     c.in-Families.is refl c.finish-families.ensures
+
+pub returns-in-Memories : goal.returns-in-Memories
+returns-in-Memories c =
+    steps.memories_stored c.args.section c.in-Memories.part (map (λ list. list.items) c.finish-lists.result.0.items) c.finish-lists.result.1 (fields_of c.args.draft.now) _
+    c.in-Memories.is refl c.finish-lists.ensures
+
+pub returns-in-SubsetRows : goal.returns-in-SubsetRows
+returns-in-SubsetRows c =
+    steps.rows_stored c.args.section c.in-SubsetRows.part (subset_rows_of c.finish-rows.result.0.items) c.finish-rows.result.1 (fields_of c.args.draft.now) _
+    c.in-SubsetRows.is refl c.finish-rows.ensures
 
 pub returns-in-Steps : goal.returns-in-Steps
 returns-in-Steps c =

@@ -46,6 +46,26 @@ returns-in-Families-clause-kept c =
     steps.kept_list c.args.self.now (parts.Families c.in-Families.part) (parts.Families c.push-in-Families.new.self)
     c.push-in-Families.result c.in-Families.is refl c.push-in-Families.ensures.kept
 
+pub returns-in-Memories-clause-takes : goal.returns-in-Memories-clause-takes
+returns-in-Memories-clause-takes c = λ n words h.
+    steps.as_list c.args.self.now (parts.Memories c.in-Memories.part) (parts.Memories c.push-in-Memories.new.self) n words
+    c.args.word.now c.push-in-Memories.result c.in-Memories.is refl (c.push-in-Memories.ensures.takes n words) h
+
+pub returns-in-Memories-clause-kept : goal.returns-in-Memories-clause-kept
+returns-in-Memories-clause-kept c =
+    steps.kept_list c.args.self.now (parts.Memories c.in-Memories.part) (parts.Memories c.push-in-Memories.new.self)
+    c.push-in-Memories.result c.in-Memories.is refl c.push-in-Memories.ensures.kept
+
+pub returns-in-SubsetRows-clause-takes : goal.returns-in-SubsetRows-clause-takes
+returns-in-SubsetRows-clause-takes c = λ n words h.
+    steps.as_list c.args.self.now (parts.SubsetRows c.in-SubsetRows.part) (parts.SubsetRows c.push-in-SubsetRows.new.self) n words
+    c.args.word.now c.push-in-SubsetRows.result c.in-SubsetRows.is refl (c.push-in-SubsetRows.ensures.takes n words) h
+
+pub returns-in-SubsetRows-clause-kept : goal.returns-in-SubsetRows-clause-kept
+returns-in-SubsetRows-clause-kept c =
+    steps.kept_list c.args.self.now (parts.SubsetRows c.in-SubsetRows.part) (parts.SubsetRows c.push-in-SubsetRows.new.self)
+    c.push-in-SubsetRows.result c.in-SubsetRows.is refl c.push-in-SubsetRows.ensures.kept
+
 pub returns-in-Steps-clause-takes : goal.returns-in-Steps-clause-takes
 returns-in-Steps-clause-takes c = λ n words h.
     steps.as_list c.args.self.now (parts.Steps c.in-Steps.part) (parts.Steps c.push-in-Steps.new.self) n words
