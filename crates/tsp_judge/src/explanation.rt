@@ -118,7 +118,7 @@ pub fn explain_solution<'a>(
 }
 
 /// Appends what explains a fault. `again` is the file that has it, to be read once more, where it
-/// can be; `error` is what the system said of a write that failed.
+/// can be: the first one if that is of the wrong kind; `error` is what the system said of a write that failed.
 ///
 /// # Errors
 ///
@@ -140,7 +140,7 @@ pub fn explain_fault<R: Read + Drop>(
         }
         RunFault::WrongKind => {
             let (_, name) = named(names, 1);
-            explain_wrong_kind(alloc, text, name, is_bound(names))
+            explain_wrong_kind(alloc, text, name, is_bound(names), again)
         }
         RunFault::Write(fault) => explain_write(alloc, text, fault, error),
         RunFault::OutOfMemory => {
