@@ -13,7 +13,7 @@ ghost use Rattle.tsp_cli.specs.declared.job.Job.{Job};
 ghost use Rattle.tsp_cli.specs.declared.job.JobFault.{JobFault};
 ghost use Rattle.tsp_cli.specs.Grammar.{GivesJob};
 ghost use Rattle.tsp_cli.specs.declared.ends.RunEnd.TheVariants as run_ends;
-ghost use Rattle.tsp_judge.specs.declared.perform.Outcome.{Outcome};
+ghost use Rattle.tsp_judge.specs.declared.task_run.Outcome.{Outcome};
 ghost use Rattle.tsp_cli.specs.RunEnd.{is_one_line, IsWritten, WritesLine};
 ghost use Rattle.tsp_cli.specs.ProgramRun.{EndsProgram};
 

@@ -12,8 +12,8 @@ use Rattle.tsp_report.specs.declared.task.FileTask.TheVariants.{Show, Convert, C
 use Rattle.tsp_judge.specs.BoundRun.{IsBoundRunOf}
 use Rattle.tsp_judge.specs.CompareRun.{IsCompareRun}
 use Rattle.tsp_judge.specs.declared.compared.Compared.{Compared}
-use Rattle.tsp_judge.specs.declared.perform.Outcome.{Outcome}
-use Rattle.tsp_judge.specs.declared.perform.Outcome.TheVariants as outcomes
+use Rattle.tsp_judge.specs.declared.task_run.Outcome.{Outcome}
+use Rattle.tsp_judge.specs.declared.task_run.Outcome.TheVariants as outcomes
 use Rattle.tsp_judge.specs.CheckRun.{TakesNamed, IsNamedReadOn, IsRunOf}
 use Rattle.tsp_judge.specs.ConvertRun.{IsShowRun, IsConvertRun}
 

@@ -32,8 +32,8 @@ ghost use Rattle.tsp_judge.specs.declared.compared.ComparisonContext.{Comparison
 ghost use Rattle.tsp_judge.specs.declared.run_status.RunFault.{RunFault};
 ghost use Rattle.tsp_judge.specs.declared.run_status.RunFault.TheVariants as run_faults;
 ghost use Rattle.tsp_judge.specs.declared.run_status.Status.TheVariants as statuses;
-ghost use Rattle.tsp_judge.specs.declared.perform.Outcome.{Outcome};
-ghost use Rattle.tsp_judge.specs.declared.perform.Outcome.TheVariants as outcomes;
+ghost use Rattle.tsp_judge.specs.declared.task_run.Outcome.{Outcome};
+ghost use Rattle.tsp_judge.specs.declared.task_run.Outcome.TheVariants as outcomes;
 
 use std::io::Read;
 use tsp_io::Gives;

@@ -3,8 +3,8 @@
 ghost use Rattle.std.specs.Io.{StartsWith};
 
 use crate::compared::ComparisonContext;
-use crate::perform::Outcome;
 use crate::run_status::RunFault;
+use crate::task_run::Outcome;
 use std::alloc::{AllocError, Global};
 use std::io::{self, Read};
 use tsp_explain::{

@@ -23,8 +23,8 @@ mod examples;
 mod explanation;
 mod laws;
 mod opened;
-mod perform;
 mod run_status;
+mod task_run;
 
 pub use api::{run_bound_check, run_branch_check, run_check, run_convert, run_show};
 pub use bound_run::{Bounded, run_bound};
@@ -49,8 +49,8 @@ pub use laws::{
     verdicts_mean_reports,
 };
 pub use opened::{Opened, read_text};
-pub use perform::{Outcome, compare, is_yes_outcome, perform};
 pub use run_status::{RunError, RunFault, Status, status_of};
+pub use task_run::{Outcome, compare, is_yes_outcome, perform};
 pub use tsp_file::{EndFault, RelayoutFault};
 pub use tsp_format::Layout;
 pub use tsp_io::{Watched, WriteFault};

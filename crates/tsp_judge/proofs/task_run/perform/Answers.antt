@@ -1,9 +1,9 @@
--- The goals of `perform` in src/perform.rt, which does a task and returns its outcome: what it ensures.
+-- The goals of `perform` in src/task_run.rt, which does a task and returns its outcome: what it ensures.
 use Rattle.tsp_judge.proofs.Prelude.{sym, subst, sink_of}
 use Rattle.tsp_judge.specs.TaskRun.{AreReadOn, IsDone}
 use Rattle.tsp_report.specs.declared.task.FileTask.TheVariants.{Check, Bound}
 use Rattle.tsp_judge.proofs.NamedReaders.{named_by}
-use Rattle.tsp_judge.proofs.perform.perform.Goals as goal
+use Rattle.tsp_judge.proofs.task_run.perform.Goals as goal
 
 -- plan: by the task: what the call of its verb gives is what the task comes to (`named_by`)
 pub returns-in-Check-clause-done : goal.returns-in-Check-clause-done
