@@ -7,9 +7,8 @@ use Rattle.tsp_file.specs.Fields.{Fields}
 use Rattle.tsp_text.specs.ParsesTo.{ParsesTo}
 use Rattle.tsp_read.specs.Reads.{IsFile}
 use Rattle.tsp_report.specs.declared.task.CertificateKind.{CertificateKind}
-use Rattle.tsp_judge.specs.CheckRun.{IsFileIn}
+use Rattle.tsp_judge.specs.CheckRun.{IsFileIn, SaysYes}
 use Rattle.tsp_judge.specs.Accepted.{IsAccepted, IsAcceptedTour, AreAcceptedRoutes}
-use Rattle.tsp_judge.specs.ConvertRun.{SaysYes}
 use Rattle.example_check.specs.Texts.{IsAcceptedOnTexts}
 
 -- the file of a reader whose bytes are known is that of its text

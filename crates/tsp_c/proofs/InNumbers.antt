@@ -1,5 +1,5 @@
 -- The numbers that C gets of a run on texts: each fits, and they say the verdict or the fault on these texts.
-use Rattle.tsp_c.proofs.Prelude.{◌≡◌, ◌≢◌, ℕ, ◌≤◌, List, Bool, true, false, Result, Ok, Err, inl, inr, sym, subst, ◌∙◌, arith, Option, Some, ℤ, IfOk, ReadTrace, Sink, Fields, CertificateKind, Verdict, is_yes, is_bound_yes, RunFault, status_of_fault, Given, given_by, EndsWithout, IsRun, acceptance, EndsUnbounded, IsBoundRun}
+use Rattle.tsp_c.proofs.Prelude.{◌≡◌, ◌≢◌, ℕ, ◌≤◌, List, Bool, true, false, Result, Ok, Err, inl, inr, sym, subst, ◌∙◌, arith, Option, Some, ℤ, IfOk, ReadTrace, Sink, Fields, CertificateKind, Verdict, is_yes, is_bound_yes, RunFault, status_of_fault, Given, EndsWithout, IsRun, acceptance, EndsUnbounded, IsBoundRun}
 use Rattle.tsp_report.specs.declared.verdict.BoundVerdict.{BoundVerdict}
 use Rattle.tsp_report.specs.declared.verdict.BoundVerdict.TheVariants as bounds
 use Rattle.tsp_report.specs.Report.{IsSized}
@@ -12,6 +12,7 @@ use Rattle.tsp_c.specs.declared.call_result.CallResult.{CallResult}
 use Rattle.tsp_c.specs.NumberCalls.{without_devices, bound_answer, EndsOnTexts}
 use Rattle.tsp_c.specs.Texts.{with_certificate}
 use Rattle.tsp_c.specs.CallResult.{IsSizedBound, blank_result, result_of_run, result_of_bound_run, TellsTexts, TellsBound}
+use Rattle.tsp_c.proofs.NamedTexts.{given_by}
 use Rattle.tsp_c.proofs.PickedRuns.{fault_status, Reads2, Reads3, are_spelled, unchecked, no_relayout, unbounded, not_relaid, spelled}
 use Rattle.tsp_c.proofs.HandleCalls.{not_two}
 use Rattle.tsp_report.specs.declared.verdict.Verdict.TheVariants as verdicts

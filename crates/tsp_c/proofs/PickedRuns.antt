@@ -1,5 +1,5 @@
 -- Runs on readers over texts in memory, as statements on these texts, and the status that C gets.
-use Rattle.tsp_c.proofs.Prelude.{◌≡◌, ℕ, ◌≤◌, List, [], Bool, true, false, Result, Ok, Err, inl, inr, refl, sym, subst, arith, IsErr, Option, None, Some, IfSome, ℤ, ReadTrace, Sink, HasWritten, Fields, is_yes, is_bound_yes, CertificateKind, Verdict, status_of_fault, given_by, IsSomeFile, IsFileIn, AreRead, JudgesFiles, IsFaultOfRun, EndsWithout, BoundsFiles, EndsUnbounded, SaysBound, IsBoundRunOf, IsTextFault, RunFault, File, WrongKind, Write, OutOfMemory, Relayout}
+use Rattle.tsp_c.proofs.Prelude.{◌≡◌, ℕ, ◌≤◌, List, [], Bool, true, false, Result, Ok, Err, inl, inr, refl, sym, subst, arith, IsErr, Option, None, Some, IfSome, ℤ, ReadTrace, Sink, HasWritten, Fields, is_yes, is_bound_yes, CertificateKind, Verdict, status_of_fault, IsSomeFile, IsFileIn, AreRead, JudgesFiles, IsFaultOfRun, EndsWithout, BoundsFiles, EndsUnbounded, SaysBound, IsBoundRunOf, IsTextFault, RunFault, File, WrongKind, Write, OutOfMemory, Relayout}
 use Rattle.std.proofs.lemmas.Bool.{false≢true}
 use Rattle.std.specs.Io.KnownBytes.{Appends}
 use Rattle.tsp_io.specs.declared.piece.WriteFault.TheVariants as write_faults
@@ -14,10 +14,12 @@ use Rattle.tsp_report.specs.declared.verdict.BoundVerdict.{BoundVerdict}
 use Rattle.tsp_report.specs.declared.verdict.BoundVerdict.TheVariants as bounds
 use Rattle.tsp_report.specs.declared.verdict.Verdict.TheVariants.{Tour, Routes, No}
 use Rattle.tsp_judge.specs.Accepted.{IsAccepted, IsAcceptedAlone}
-use Rattle.tsp_judge.specs.ConvertRun.{SaysYes, IsCheckOf, IsShowRun, IsConverted, IsConvertRun}
+use Rattle.tsp_judge.specs.CheckRun.{SaysYes, IsCheckOf}
+use Rattle.tsp_judge.specs.ConvertRun.{IsShowRun, IsConverted, IsConvertRun}
 use Rattle.tsp_judge.specs.declared.bound_run.Bounded.{Bounded}
 use Rattle.tsp_c.specs.NumberCalls.{without_devices, IsPrinted, EndsOnTexts, EndsWithText, done, bound_answer}
 use Rattle.tsp_c.specs.Texts.{IsFileText, StopsShowing, ShowsText, BecomesFile, StopsConverting, ConvertsText, with_certificate, ParsesToGiven, AreSpelled, IsAcceptedText, IsRejected, IsUnchecked, IsReached, StopsCheck, ChecksTexts, IsBoundText, IsUnbounded, StopsBound, BoundsTexts}
+use Rattle.tsp_c.proofs.NamedTexts.{given_by}
 
 -- the status of a fault in memory: 2, 3, or 1 where weights can't go into a layout
 pub record FaultStatus (fault : RunFault) (status : ℕ) : Type 0 where

@@ -9,7 +9,9 @@ unfoldable pub use Rattle.tsp_file.specs.Cost.{cost, distance}
 pub use Rattle.tsp_file.specs.Fields.{Fields, nodes_of}
 pub use Rattle.tsp_io.specs.Streams.{HasWritten, ReadTrace, Sink}
 pub use Rattle.tsp_io.specs.states.Watched.{read_trace_of, sink_of, watched}
-pub use Rattle.tsp_judge.specs.CheckRun.{AreRead, BoundsFiles, EndsUnbounded, EndsWithout, Given, IsBoundRun, IsBoundRunOf, IsFaultOfRun, IsFileIn, IsRun, IsSomeFile, JudgesFiles, SaysBound, acceptance, given_by, status_of, status_of_fault}
+pub use Rattle.tsp_judge.specs.CheckRun.{AreRead, EndsWithout, Given, IsFaultOfRun, IsFileIn, IsRun, IsSomeFile, JudgesFiles, acceptance}
+pub use Rattle.tsp_judge.specs.BoundRun.{BoundsFiles, EndsUnbounded, IsBoundRun, IsBoundRunOf, SaysBound}
+pub use Rattle.tsp_judge.specs.RunStatus.{status_of, status_of_fault}
 pub use Rattle.tsp_judge.specs.Open.{IsHeldVerdict, IsNotJudged, IsTextFault, Open}
 pub use Rattle.tsp_judge.specs.declared.run_status.RunFault.{RunFault}
 pub use Rattle.tsp_judge.specs.declared.run_status.RunFault.TheVariants.{File, OutOfMemory, Relayout, Write, WrongKind}

@@ -3,7 +3,7 @@ pub use Rattle.std.specs.Prelude.{Bool, Err, IfOk, IsTrue, List, MatchResult, No
 pub use Rattle.tsp_file.specs.Cost.{origin, point_of}
 unfoldable pub use Rattle.tsp_file.specs.Cost.{cost, distance}
 pub use Rattle.tsp_file.specs.Fields.{Fields, blank_fields, nodes_of}
-pub use Rattle.tsp_judge.specs.CheckRun.{run_fault_text, status_of, status_of_fault}
+pub use Rattle.tsp_judge.specs.RunStatus.{run_fault_text, status_of, status_of_fault}
 pub use Rattle.tsp_judge.specs.Open.{IsBoundTo, IsHeldVerdict, IsNotJudged, IsOpened, IsTextFault, IsUnbound, IsUnopened, Open}
 pub use Rattle.tsp_judge.specs.declared.run_status.RunFault.{RunFault}
 pub use Rattle.tsp_judge.specs.declared.run_status.RunFault.TheVariants.{File, OutOfMemory, Relayout, Write, WrongKind}

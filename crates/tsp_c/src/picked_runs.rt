@@ -1,7 +1,8 @@
 //! Show, convert, check and bound on texts in memory, with the certificate or the layout that a number
 //! picks, and the numbers that are refused.
 
-ghost use Rattle.std.specs.Prelude.{◌≡◌, ◌≤◌};
+ghost use Rattle.std.specs.Prelude.{◌≡◌, ◌≤◌, MatchOption, None, Some};
+ghost use Rattle.tsp_io.specs.states.Watched.{watched};
 ghost use Rattle.tsp_format.specs.Words.{layouts};
 ghost use Rattle.tsp_judge.specs.CheckRun.{acceptance};
 ghost use Rattle.tsp_c.specs.CallResult.{TellsBoundBy, TellsBy, TellsBound, TellsTexts};
@@ -179,14 +180,13 @@ fn checked(
     verdicts_mean_reports();
     let mut first = Watched::new(instance);
     let mut second = Watched::new(solution);
-    let mut third = Watched::new(certificate);
+    let mut named = named_reader(by, certificate);
     let mut report = Watched::new(Vec::new(alloc));
     let judged = run(
         alloc,
         &mut first,
         &mut second,
-        by,
-        &mut third,
+        &mut named,
         claimed,
         strict,
         &mut report,
@@ -195,6 +195,19 @@ fn checked(
     let answer = ended(acceptance(judged), report);
     let call_result = answer.numbers(numbers);
     (answer, call_result)
+}
+
+/// A reader of the certificate's text, with the kind of the certificate, if one is asked for.
+fn named_reader(
+    by: Option<CertificateKind>,
+    certificate: &[u8],
+) -> Option<(CertificateKind, Watched<&[u8]>)>
+    ensures { MatchOption result (by ≡ None) (λ named. (by ≡ Some named.0) × ((watched named.1).now ≡ certificate.now)) }
+{
+    match by {
+        None => None,
+        Some(by) => Some((by, Watched::new(certificate))),
+    }
 }
 
 /// The bound of the tours of the instance that a text is, by the certificate that another one is,

@@ -17,7 +17,7 @@ use Rattle.tsp_format.specs.declared.keyword.Field.TheVariants as fields
 use Rattle.tsp_file.specs.Relayout.{relayout_fault_text}
 use Rattle.tsp_file.specs.Rules.{end_fault_text}
 use Rattle.tsp_text.specs.ParsesTo.{line_fault_text, read_fault_text}
-use Rattle.tsp_judge.specs.CheckRun.{run_fault_text}
+use Rattle.tsp_judge.specs.RunStatus.{run_fault_text}
 use Rattle.tsp_judge.specs.declared.EndFault.{EndFault}
 use Rattle.tsp_judge.specs.declared.EndFault.TheVariants as ends
 use Rattle.tsp_judge.specs.declared.LineFault.{LineFault}

@@ -13,11 +13,11 @@ use Rattle.tsp_report.specs.Tasks.{IsMappedComparison, IsMapped}
 use Rattle.tsp_report.specs.declared.task.Comparison.{Comparison}
 use Rattle.tsp_report.specs.declared.task.FileTask.{FileTask}
 use Rattle.tsp_report.specs.declared.task.Task.TheVariants as tasks
-use Rattle.tsp_judge.specs.ConvertRun.{AreComparedOn, IsCompared, AreReadOn, IsDone}
+use Rattle.tsp_judge.specs.TaskRun.{AreComparedOn, IsCompared, AreReadOn, IsDone}
 use Rattle.tsp_judge.specs.declared.Watched.{Watched}
 use Rattle.tsp_judge.specs.declared.compared.Compared.{Compared}
 use Rattle.tsp_judge.specs.declared.run_status.RunFault.{RunFault}
-use Rattle.tsp_judge.specs.declared.explanation.Outcome.{Outcome}
+use Rattle.tsp_judge.specs.declared.task_run.Outcome.{Outcome}
 use Rattle.clap.specs.Words.{Text, kind_of}
 use Rattle.clap.specs.declared.error.Error.{Error as Refusal}
 use Rattle.clap.specs.declared.error.kind.ErrorKind.TheVariants as kinds

@@ -5,8 +5,8 @@ use Rattle.std.specs.Prelude.{◌≡◌, ◌⊎◌, ◌++◌, List, ℕ, Result,
 use Rattle.tsp_io.specs.Streams.{Sink, IsUnwritten, Writes}
 use Rattle.tsp_io.specs.declared.piece.WriteFault.{WriteFault}
 use Rattle.tsp_io.specs.declared.piece.WriteFault.TheVariants.{OutOfMemory}
-use Rattle.tsp_judge.specs.CheckRun.{run_fault_text, status_of}
-use Rattle.tsp_judge.specs.ConvertRun.{is_yes_outcome}
+use Rattle.tsp_judge.specs.RunStatus.{run_fault_text, status_of}
+use Rattle.tsp_judge.specs.TaskRun.{is_yes_outcome}
 use Rattle.tsp_judge.specs.declared.run_status.RunFault.TheVariants.{Write}
 use Rattle.tsp_cli.specs.declared.ends.ErrorLine.{ErrorLine}
 use Rattle.tsp_cli.specs.declared.ends.ErrorLine.TheVariants as error_lines

@@ -2,7 +2,7 @@
 
 ghost use Rattle.std.specs.Prelude.{◌≡◌, ◌++◌, ◌∷◌, [], OnOk};
 ghost use Rattle.std.specs.Io.KnownBytes.{Appends};
-ghost use Rattle.tsp_judge.specs.CheckRun.{run_fault_text, status_of};
+ghost use Rattle.tsp_judge.specs.RunStatus.{run_fault_text, status_of};
 ghost use Rattle.tsp_cli.specs.RunEnd.{IsLineOf, Tells, status_of_run_end};
 
 use crate::job::{JobFault, TaskFault};

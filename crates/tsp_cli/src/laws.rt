@@ -4,7 +4,7 @@
 ghost use Rattle.std.specs.Prelude.{◌≡◌, ℕ, Bool, List, true, false, Option, Some, Ok, drop, Result};
 ghost use Rattle.clap.specs.Words.{Text};
 ghost use Rattle.tsp_io.specs.Streams.{Sink};
-ghost use Rattle.tsp_judge.specs.CheckRun.{run_fault_text};
+ghost use Rattle.tsp_judge.specs.RunStatus.{run_fault_text};
 ghost use Rattle.tsp_judge.specs.declared.run_status.RunFault.{RunFault};
 ghost use Rattle.tsp_judge.specs.declared.compared.Compared.{Compared};
 ghost use Rattle.tsp_cli.specs.declared.ends.ErrorLine.TheVariants as error_lines;
@@ -13,7 +13,7 @@ ghost use Rattle.tsp_cli.specs.declared.job.Job.{Job};
 ghost use Rattle.tsp_cli.specs.declared.job.JobFault.{JobFault};
 ghost use Rattle.tsp_cli.specs.Grammar.{GivesJob};
 ghost use Rattle.tsp_cli.specs.declared.ends.RunEnd.TheVariants as run_ends;
-ghost use Rattle.tsp_judge.specs.declared.explanation.Outcome.{Outcome};
+ghost use Rattle.tsp_judge.specs.declared.task_run.Outcome.{Outcome};
 ghost use Rattle.tsp_cli.specs.RunEnd.{is_one_line, IsWritten, WritesLine};
 ghost use Rattle.tsp_cli.specs.ProgramRun.{EndsProgram};
 

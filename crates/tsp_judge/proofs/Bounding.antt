@@ -14,7 +14,8 @@ use Rattle.tsp_report.specs.declared.verdict.Reason.{Reason}
 use Rattle.tsp_report.specs.declared.verdict.Reason.TheVariants.{DepotCount}
 use Rattle.tsp_judge.proofs.Yeses.{one_value, IsBoundedType, of_type, types_bounded, one_depot, none_unknown}
 use Rattle.tsp_judge.specs.Accepted.{BoundsAll, HasNone, IsAcceptedAlone}
-use Rattle.tsp_judge.specs.CheckRun.{BoundsFiles, EndsUnbounded, IsBoundRun, SaysBound, IsBoundRunOf, ReadsFile}
+use Rattle.tsp_judge.specs.BoundRun.{BoundsFiles, EndsUnbounded, IsBoundRun, SaysBound, IsBoundRunOf}
+use Rattle.tsp_judge.specs.CheckRun.{ReadsFile}
 use Rattle.tsp_judge.specs.ConvertRun.{Becomes, IsConverted, IsConvertRun, IsShowRun}
 use Rattle.tsp_judge.specs.Open.{Open, ReadsText, IsUnopened, IsUnbound, IsNotJudged}
 use Rattle.tsp_judge.specs.declared.bound_run.Bounded.{Bounded}

@@ -2,4 +2,5 @@
 mod Prelude
 pub mod Bounding
 pub mod Comparing
+pub mod NamedReaders
 pub mod Yeses

@@ -15,8 +15,7 @@ use Rattle.tsp_report.specs.declared.verdict.Verdict.{Verdict}
 use Rattle.tsp_report.specs.declared.verdict.Verdict.TheVariants as verdicts
 use Rattle.tsp_verdict.specs.Solutions.{tours_of, AppliesToRoutes, IsPlanned, IsRoutesVerdict, IsTourVerdict}
 use Rattle.tsp_judge.specs.Accepted.{IsAcceptedTour, AreOnlyRoutes, AreAcceptedRoutes, IsTourWithBound, AreRoutesWithBound, IsAccepted}
-use Rattle.tsp_judge.specs.CheckRun.{ReadsFile, Given, given_by, IsUnreadIn, IsFileIn, ReadsGiven, AreRead, JudgesFiles, EndsWithout, IsRun, acceptance}
-use Rattle.tsp_judge.specs.ConvertRun.{SaysYes, IsRunOf}
+use Rattle.tsp_judge.specs.CheckRun.{ReadsFile, Given, IsUnreadIn, IsFileIn, ReadsGiven, AreRead, JudgesFiles, EndsWithout, IsRun, acceptance, SaysYes, IsRunOf}
 use Rattle.tsp_judge.specs.declared.check.Judged.{Judged}
 use Rattle.tsp_judge.specs.declared.run_status.RunFault.{RunFault}
 use Rattle.tsp_judge.specs.declared.run_status.RunFault.TheVariants.{File, WrongKind, Write, OutOfMemory, Relayout}
@@ -156,15 +155,6 @@ ends_without strict given claimed first second instance solution certificate sin
 ends_without strict given claimed first second instance solution certificate sink (Write fault) read judges = (instance, solution, certificate, read, judges)
 ends_without strict given claimed first second instance solution certificate sink OutOfMemory read judges = (instance, solution, certificate, read, judges)
 ends_without strict given claimed first second instance solution certificate sink (Relayout fault) read judges = (instance, solution, certificate, read, judges)
-
--- ---- the third reader
-
-pub unread_in : (by : Option CertificateKind) (third : ReadTrace) → IsUnread third → IsUnreadIn (given_by by third)
-unread_in None third unread = tt
-unread_in (Some by) third unread = unread
-
-pub not_none : {A : Type 0} {x : A} {P : Type 0} → Some x ≡ None → P
-not_none e = absurd cc
 
 -- ---- what the line `yes` of a check means
 

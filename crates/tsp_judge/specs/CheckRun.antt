@@ -1,65 +1,15 @@
 -- Circle 2 of docs/trust.md.
--- Runs of `tsp check` and `tsp bound`: the files that are read, the verdict, the report and the exit status.
-use Rattle.tsp_judge.specs.Prelude.{ℕ, List, codes, decimal, Bool, true, false, Result, Ok, Err, Option, None, Some, IsTrue, ℤ, [], write_fault_text, ReadTrace, IsUnread, Sink, IsUnwritten, HasWritten, HasStopped, Fields, IsFile, StopsAt, report_of, bound_report_of, is_yes, is_bound_yes, CertificateKind, Verdict, NoneAgainstInstance, is_bounded, NoneWithoutMemory, is_judged, NoneBeforeRepeatsOn, IsVerdictAsked, IsBoundAsked}
-use Rattle.std.specs.Prelude.{◌++◌, ◌≡◌, ◌⊎◌}
+-- A run of `tsp check`: the files that are read, the verdict, the report, and the meaning of its line `yes`.
+use Rattle.tsp_judge.specs.Prelude.{ℕ, List, Bool, true, false, Result, Ok, Err, Option, None, Some, IsTrue, ℤ, [], ReadTrace, IsUnread, Sink, IsUnwritten, HasWritten, HasStopped, Fields, IsFile, StopsAt, report_of, is_yes, CertificateKind, Verdict, is_judged, NoneBeforeRepeatsOn, IsVerdictAsked, TakesAtMost, read_trace_of, most_taken, IsReadOn}
+use Rattle.std.specs.Prelude.{◌≡◌, ◌⊎◌}
 use Rattle.tsp_io.specs.declared.piece.WriteFault.TheVariants as write_faults
-use Rattle.tsp_file.specs.Relayout.{relayout_fault_text}
-use Rattle.tsp_file.specs.declared.relayout.RelayoutFault.TheVariants as relayout_faults
-use Rattle.tsp_text.specs.ParsesTo.{read_fault_text}
 use Rattle.tsp_read.specs.declared.ReadFault.{ReadFault}
-use Rattle.tsp_read.specs.declared.ReadFault.TheVariants as read_faults
-use Rattle.tsp_report.specs.declared.verdict.BoundVerdict.{BoundVerdict}
-use Rattle.tsp_judge.specs.Accepted.{IsAcceptedAlone}
-use Rattle.tsp_judge.specs.declared.bound_run.Bounded.{Bounded}
 use Rattle.tsp_judge.specs.declared.check.Judged.{Judged}
 use Rattle.tsp_judge.specs.declared.run_status.RunFault.{RunFault}
-use Rattle.tsp_judge.specs.declared.run_status.RunFault.TheVariants.{File, WrongKind, Write, OutOfMemory, Relayout}
-use Rattle.tsp_judge.specs.declared.run_status.RunFault.TheVariants as run_faults
-use Rattle.tsp_judge.specs.declared.run_status.Status.{Status}
-use Rattle.tsp_judge.specs.declared.run_status.Status.TheVariants as statuses
-
--- the file's number with its own fault, or what else failed
-abbrev pub run_fault_text : RunFault → List ℕ
-run_fault_text (File file fault) = codes "file " ++ (decimal file ++ (codes ": " ++ read_fault_text fault))
-run_fault_text WrongKind = codes "file 1: wrong kind"
-run_fault_text (Write fault) = codes "output: " ++ write_fault_text fault
-run_fault_text OutOfMemory = codes "out of memory"
-run_fault_text (Relayout fault) = codes "relayout: " ++ relayout_fault_text fault
-
--- ---- the exit status of a run, by its result
-
--- the number of a status
-abbrev pub status_number : Status → ℕ
-status_number statuses.Yes = 0
-status_number statuses.No = 1
-status_number statuses.NotJudged = 2
-status_number statuses.OutOfMemory = 3
-status_number statuses.Refused = 4
-status_number statuses.Device = 5
-status_number statuses.TooSmall = 6
-
--- the status of a fault: 1 the weights can't have the layout, 2 a file isn't valid or is of the wrong kind, 3 out of
--- memory, 5 a device failed
-abbrev pub status_of_fault : RunFault → ℕ
-status_of_fault (File file (read_faults.Line line word fault)) = 2
-status_of_fault (File file (read_faults.End fault)) = 2
-status_of_fault (File file read_faults.TooLong) = 2
-status_of_fault (File file read_faults.OutOfMemory) = 3
-status_of_fault (File file read_faults.Device) = 5
-status_of_fault WrongKind = 2
-status_of_fault run_faults.OutOfMemory = 3
-status_of_fault (Write write_faults.OutOfMemory) = 3
-status_of_fault (Write write_faults.Device) = 5
-status_of_fault (Relayout relayout_faults.OutOfMemory) = 3
-status_of_fault (Relayout fault) = 1
-
--- 0 means accepted or done, 1 rejected
-abbrev pub status_of : Result Bool RunFault → ℕ
-status_of (Ok true) = 0
-status_of (Ok false) = 1
-status_of (Err fault) = status_of_fault fault
-
--- ---- a run of `tsp check`
+use Rattle.tsp_judge.specs.declared.run_status.RunFault.TheVariants.{File, WrongKind, Write, OutOfMemory}
+use Rattle.std.specs.declared.io.Error.{Error}
+use Rattle.tsp_io.specs.declared.watched.Watched.{Watched}
+use Rattle.tsp_judge.specs.Accepted.{IsAccepted}
 
 -- ---- the files
 
@@ -77,10 +27,20 @@ ReadsFile number read_trace (Err other) = ⊥
 abbrev pub Given : Type 0
 Given = Option (CertificateKind × ReadTrace)
 
--- the certificate of the third reader, or none
-abbrev pub given_by : Option CertificateKind → ReadTrace → Given
-given_by None third = None
-given_by (Some by) third = Some (by, third)
+-- Q of the certificate that is named and the turn of its reader, or of none
+abbrev pub TakesNamed : {R : Type 0} → (R → Option (List ℕ)) → Option (CertificateKind × Watched R) → Option (CertificateKind × Watched R)
+    → (Given → Type 0) → Type 0
+TakesNamed remaining None None Q = Q None
+TakesNamed remaining (Some named) (Some left) Q = TakesAtMost most_taken (read_trace_of remaining named.1 left.1)
+    (λ read_trace. Q (Some (named.0, read_trace)))
+TakesNamed remaining _ _ Q = ⊥
+
+-- Where a certificate is named, some reads were asked of its reader, which has failed where the last read has.
+abbrev pub IsNamedReadOn : {R : Type 0} → (R → List ℕ → Result ℕ Error → List ℕ → R → Type 0) → Option (CertificateKind × Watched R)
+    → Option (CertificateKind × Watched R) → Type 0
+IsNamedReadOn gives None None = Unit {0}
+IsNamedReadOn gives (Some named) (Some left) = IsReadOn gives named.1 left.1
+IsNamedReadOn gives _ _ = ⊥
 
 -- the certificate's reader isn't asked
 abbrev pub IsUnreadIn : Given → Type 0
@@ -168,52 +128,34 @@ abbrev pub acceptance : Result Judged RunFault → Result Bool RunFault
 acceptance (Ok judged) = Ok (is_yes judged.verdict)
 acceptance (Err fault) = Err fault
 
--- ---- a run of `tsp bound`
+-- ---- the meaning of the line `yes`
 
--- The result for an instance and a certificate that were read. Ok: this is the bound, or the first reason against them,
--- and the whole report was written. WrongKind: tours of the instance have no bound by such a certificate. OutOfMemory:
--- no reason applies to the instance, nor one to the certificate that is found without memory. Of both nothing is
--- written. Where the writer fails, a prefix of the report was written.
-abbrev pub BoundsFiles : CertificateKind → Bool → Fields → Fields → Sink → Result BoundVerdict RunFault → Type 0
-BoundsFiles by strict instance certificate sink (Ok found) = IsTrue (is_bounded by instance.kind)
-    × IsBoundAsked strict by instance certificate found
-    × HasWritten sink (bound_report_of instance found)
-BoundsFiles by strict instance certificate sink (Err WrongKind) = (is_bounded by instance.kind ≡ false) × IsUnwritten sink
-BoundsFiles by strict instance certificate sink (Err OutOfMemory) = IsTrue (is_bounded by instance.kind) × NoneAgainstInstance instance
-    × NoneWithoutMemory by instance certificate × IsUnwritten sink
-BoundsFiles by strict instance certificate sink (Err (Write write_faults.Device)) = IsTrue (is_bounded by instance.kind)
-    × ((found : BoundVerdict) × IsBoundAsked strict by instance certificate found
-    × HasStopped sink (bound_report_of instance found))
-BoundsFiles by strict instance certificate sink (Err other) = ⊥
-
--- Why a run has no bound and no reason. The first file that isn't valid decides, in order, and nothing is written then.
-abbrev pub EndsUnbounded : CertificateKind → Bool → ReadTrace → ReadTrace → Sink → RunFault → Type 0
-EndsUnbounded by strict first second sink (File file fault) = IsUnwritten sink
-    × (((file ≡ 1) × StopsAt fault first × IsUnread second)
-    ⊎ ((file ≡ 2) × IsSomeFile first × StopsAt fault second))
-EndsUnbounded by strict first second sink fault = (instance certificate : Fields) × IsFile first instance × IsFile second certificate
-    × BoundsFiles by strict instance certificate sink (Err fault)
-
--- The result of a run: the files that were read, and the bound, or the first reason against them.
-abbrev pub IsBoundRun : CertificateKind → Bool → ReadTrace → ReadTrace → Sink → Result Bounded RunFault → Type 0
-IsBoundRun by strict first second sink (Ok bounded) = IsFile first bounded.instance × IsFile second bounded.certificate
-    × BoundsFiles by strict bounded.instance bounded.certificate sink (Ok bounded.found)
-IsBoundRun by strict first second sink (Err fault) = EndsUnbounded by strict first second sink fault
-
--- At `yes` the bytes that were read parse to these files, the whole report was written, and it means that the bound is
--- one. Where unknown keywords are a reason, the instance has none.
-pub record SaysBound (by : CertificateKind) (strict : Bool) (first second : ReadTrace) (sink : Sink) (found : BoundVerdict) : Type 0 where
+-- At `yes` the bytes that were read parse to these files, the whole report was written, and it means that the solution
+-- is accepted. Where unknown keywords are a reason, the instance has none.
+pub record SaysYes (given : Given) (claimed : Option ℤ) (strict : Bool) (first second : ReadTrace) (sink : Sink) : Type 0 where
   pub instance : Fields
-  pub certificate : Fields
+  pub solution : Fields
+  pub certificate : Option (CertificateKind × Fields)
   pub report : List ℕ
-  pub first_file : IsFile first instance
-  pub second_file : IsFile second certificate
+  pub read : AreRead given first second instance solution certificate
   pub written : HasWritten sink report
-  pub meaning : IsAcceptedAlone by instance certificate found report
+  pub meaning : IsAccepted certificate claimed instance solution report
   pub all_judged : strict ≡ true → instance.others ≡ []
 
--- the result of the run, and what its line `yes` means
-abbrev pub IsBoundRunOf : CertificateKind → Bool → ReadTrace → ReadTrace → Sink → Result Bounded RunFault → Type 0
-IsBoundRunOf by strict first second sink result = IsBoundRun by strict first second sink result
-    × ((bounded : Bounded) → result ≡ Ok bounded → is_bound_yes bounded.found ≡ true
-    → SaysBound by strict first second sink bounded.found)
+-- the result of a check, which is whether the solution is accepted, and what its line `yes` means
+abbrev pub IsCheckOf : Given → Option ℤ → Bool → ReadTrace → ReadTrace → Sink → Result Bool RunFault → Type 0
+IsCheckOf given claimed strict first second sink result = IsCheckAnswer given claimed strict first second sink result
+    × (result ≡ Ok true → SaysYes given claimed strict first second sink)
+
+-- a check without a certificate
+abbrev pub IsCheck : ReadTrace → ReadTrace → Sink → Result Bool RunFault → Type 0
+IsCheck first second sink result = IsCheckOf None None false first second sink result
+
+-- a check with a certificate, whose file is the third one
+abbrev pub IsCheckBy : CertificateKind → ReadTrace → ReadTrace → ReadTrace → Sink → Result Bool RunFault → Type 0
+IsCheckBy by first second third sink result = IsCheckOf (Some (by, third)) None false first second sink result
+
+-- the same with the files and the verdict as the result
+abbrev pub IsRunOf : Given → Option ℤ → Bool → ReadTrace → ReadTrace → Sink → Result Judged RunFault → Type 0
+IsRunOf given claimed strict first second sink result = IsRun given claimed strict first second sink result
+    × IsCheckOf given claimed strict first second sink (acceptance result)

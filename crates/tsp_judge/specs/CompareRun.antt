@@ -7,7 +7,8 @@ use Rattle.tsp_io.specs.declared.piece.WriteFault.TheVariants as write_faults
 use Rattle.tsp_read.specs.declared.ReadFault.{ReadFault}
 use Rattle.tsp_read.specs.declared.ReadFault.TheVariants as read_faults
 use Rattle.tsp_judge.specs.Accepted.{IsAccepted}
-use Rattle.tsp_judge.specs.CheckRun.{Given, IsUnreadIn, IsFileIn, IsSomeFile, status_of}
+use Rattle.tsp_judge.specs.CheckRun.{Given, IsUnreadIn, IsFileIn, IsSomeFile}
+use Rattle.tsp_judge.specs.RunStatus.{status_of}
 use Rattle.tsp_judge.specs.declared.compared.ComparisonContext.{ComparisonContext}
 use Rattle.tsp_judge.specs.declared.compared.Compared.{Compared}
 use Rattle.tsp_judge.specs.declared.compared.Found.{Found}

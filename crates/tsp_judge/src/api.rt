@@ -1,16 +1,14 @@
 //! Public calls that check, show or convert, as example_check does. Each is a case of the run of a
 //! verb, such as `run` in `src/check.rt`, and returns its fault without the token of a refusal.
 
-ghost use Rattle.tsp_judge.specs.Prelude.{None, length, TakesAtMost, sink_of, read_trace_of, IsReadOn, most_taken};
+ghost use Rattle.tsp_judge.specs.Prelude.{None, Some, false, TakesAtMost, sink_of, read_trace_of, IsReadOn, most_taken};
 ghost use Rattle.std.specs.Prelude.{◌≡◌};
 ghost use Rattle.tsp_report.specs.declared.task.CertificateKind.TheVariants as certificates;
-ghost use Rattle.tsp_judge.specs.CheckRun.{acceptance};
-ghost use Rattle.tsp_judge.specs.CompareRun.{IsCompareRun, IsFollowed};
-ghost use Rattle.tsp_judge.specs.ConvertRun.{IsConvertRun, IsShowRun, IsCheck, IsCheckBy, IsRunOf};
+ghost use Rattle.tsp_judge.specs.CheckRun.{acceptance, IsCheck, IsCheckBy, IsRunOf};
+ghost use Rattle.tsp_judge.specs.ConvertRun.{IsConvertRun, IsShowRun};
 
-use crate::bound_run::{convert_file, show_file};
 use crate::check::{Judged, judge_read, read_file, run};
-use crate::compared::{Compared, Follow, Solutions, compare_read};
+use crate::convert_run::{convert_file, show_file};
 use crate::run_status::{RunError, RunFault};
 use std::alloc::Global;
 use std::io::Write;
@@ -42,7 +40,8 @@ pub fn run_check<I: Gives, S: Gives, W: Write>(
         IsCheck first second (sink_of W.contents out.old out.new) result)) }
     ensures asked { IsReadOn I.gives inst.old inst.new × IsReadOn S.gives sol.old sol.new }
 {
-    acceptance(run_uncertified(alloc, inst, sol, None, false, out))
+    let mut none: Option<(CertificateKind, Watched<&[u8]>)> = None;
+    acceptance(run(alloc, inst, sol, &mut none, None, false, out))
 }
 
 /// Judges a tour of an instance of TYPE TSP or ATSP with a certificate of a bound, and writes the
@@ -79,8 +78,8 @@ pub fn run_bound_check<I: Gives, S: Gives, P: Gives, W: Write>(
     ensures asked { IsReadOn I.gives inst.old inst.new × IsReadOn S.gives sol.old sol.new
         × IsReadOn P.gives pot.old pot.new }
 {
-    let by = Some(CertificateKind::Potentials);
-    acceptance(run(alloc, inst, sol, by, pot, None, false, out))
+    let by = CertificateKind::Potentials;
+    acceptance(run_by(alloc, inst, sol, by, pot, out))
 }
 
 /// Judges a tour of an instance of TYPE TSP or ATSP with a tree of cases, and writes the report.
@@ -117,8 +116,8 @@ pub fn run_branch_check<I: Gives, S: Gives, B: Gives, W: Write>(
     ensures asked { IsReadOn I.gives inst.old inst.new × IsReadOn S.gives sol.old sol.new
         × IsReadOn B.gives tree.old tree.new }
 {
-    let by = Some(CertificateKind::Branches);
-    acceptance(run(alloc, inst, sol, by, tree, None, false, out))
+    let by = CertificateKind::Branches;
+    acceptance(run_by(alloc, inst, sol, by, tree, out))
 }
 
 /// Writes what a file is: its name, its TYPE and number of nodes, of an instance the weight type,
@@ -178,52 +177,29 @@ fn acceptance(ended: Result<Judged, RunError>) -> Result<bool, RunFault>
     Ok(answer)
 }
 
-// ---- the runs of `tsp check` and `tsp compare` that have no reader for a certificate
-
-/// Judges a solution of an instance, writes the report, and returns the verdict, with the files
-/// that were read: `run` without a certificate.
+/// Judges a solution of an instance with a certificate whose reader is lent: `run` with it, without
+/// a claim.
 ///
 /// # Errors
 ///
 /// Those of `run`.
-pub fn run_uncertified<I: Gives, S: Gives, W: Write>(
+fn run_by<I: Gives, S: Gives, C: Gives, W: Write>(
     alloc: Global,
     inst: &mut Watched<I>,
     sol: &mut Watched<S>,
-    claimed: Option<i64>,
-    strict: bool,
+    by: CertificateKind,
+    cert: &mut Watched<C>,
     out: &mut Watched<W>,
 ) -> Result<Judged, RunError>
     ensures answer { TakesAtMost most_taken (read_trace_of I.remaining inst.old inst.new) (λ first.
         TakesAtMost most_taken (read_trace_of S.remaining sol.old sol.new) (λ second.
-        IsRunOf None claimed strict first second (sink_of W.contents out.old out.new) result)) }
-    ensures asked { IsReadOn I.gives inst.old inst.new × IsReadOn S.gives sol.old sol.new }
+        TakesAtMost most_taken (read_trace_of C.remaining cert.old cert.new) (λ third.
+        IsRunOf (Some (by, third)) None false first second (sink_of W.contents out.old out.new) result))) }
+    ensures asked { IsReadOn I.gives inst.old inst.new × IsReadOn S.gives sol.old sol.new
+        × IsReadOn C.gives cert.old cert.new }
 {
     let instance = read_file(alloc, 1, inst)?;
     let solution = read_file(alloc, 2, sol)?;
-    judge_read(alloc, instance, solution, None, claimed, strict, out)
-}
-
-/// Judges solutions of an instance, writes a line for each, and returns the largest of their
-/// statuses: `run_compare` without a certificate.
-///
-/// # Errors
-///
-/// Those of `run_compare`.
-pub fn run_compare_uncertified<I: Gives, R: Gives + Drop, E, S: Solutions<R> + Follow<E>, W: Write>(
-    alloc: Global,
-    inst: &mut Watched<I>,
-    solutions: &S,
-    strict: bool,
-    out: &mut Watched<W>,
-    to: &mut E,
-) -> Result<Compared, RunError>
-    ensures text { TakesAtMost most_taken (read_trace_of I.remaining inst.old inst.new) (λ first.
-        IsCompareRun strict R.remaining R.gives (S.opens solutions.now) (S.names solutions.now) None first
-        (sink_of W.contents out.old out.new) result) }
-    ensures asked { IsReadOn I.gives inst.old inst.new }
-    ensures reported { IsFollowed (S.tells solutions.now) (length (S.names solutions.now)) to.old to.new result }
-{
-    let instance = read_file(alloc, 1, inst)?;
-    compare_read(alloc, instance, None, solutions, strict, out, to)
+    let certificate = Some((by, read_file(alloc, 3, cert)?));
+    judge_read(alloc, instance, solution, certificate, None, false, out)
 }

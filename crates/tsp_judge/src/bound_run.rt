@@ -1,18 +1,16 @@
-//! The runs of `tsp bound`, `tsp show` and `tsp convert`, from the bytes read to the bytes written.
+//! The run of `tsp bound`, from the bytes read to the bytes written.
 
 ghost use Rattle.tsp_judge.specs.Prelude.{ReadTrace, TakesAtMost, sink_of, read_trace_of, IsReadOn, IsFile, most_taken};
-ghost use Rattle.tsp_judge.specs.CheckRun.{BoundsFiles, IsBoundRunOf};
-ghost use Rattle.tsp_judge.specs.ConvertRun.{Becomes, IsConvertRun, IsShowRun};
+ghost use Rattle.tsp_judge.specs.BoundRun.{BoundsFiles, IsBoundRunOf};
 
 use crate::check::read_file;
 use crate::run_status::RunError;
 use std::alloc::Global;
 use std::io::Write;
 use tsp_cost::Instance;
-use tsp_file::{File, RelayoutFault, write_file};
-use tsp_format::Layout;
+use tsp_file::File;
 use tsp_io::{Gives, Watched};
-use tsp_report::{write_bound, write_shown};
+use tsp_report::write_bound;
 use tsp_verdict::{BoundVerdict, CertificateKind, is_bounded, judge_bound, strict_bound};
 
 /// The files that a run has read, and the bound that it found.
@@ -109,74 +107,5 @@ fn bound_files<W: Write>(
     match write_bound(instance.file(), found, out) {
         Ok(()) => Ok(found),
         Err(fault) => Err(RunError::unwritten(fault)),
-    }
-}
-
-// ---- the run of `tsp show`, from the bytes read to the bytes written
-
-/// Shows a file, as `run_show` says.
-///
-/// # Errors
-///
-/// Those of `run_show`.
-pub fn show_file<R: Gives, W: Write>(
-    alloc: Global,
-    r: &mut Watched<R>,
-    out: &mut Watched<W>,
-) -> Result<(), RunError>
-    ensures answer { TakesAtMost most_taken (read_trace_of R.remaining r.old r.new) (λ read_trace.
-        IsShowRun read_trace (sink_of W.contents out.old out.new) result) }
-    ensures asked { IsReadOn R.gives r.old r.new }
-{
-    let file = read_file(alloc, 1, r)?;
-    match write_shown(file, out) {
-        Err(fault) => Err(RunError::unwritten(fault)),
-        Ok(()) => Ok(()),
-    }
-}
-
-// ---- the run of `tsp convert`, from the bytes read to the bytes written
-
-/// Converts a file, as `run_convert` says.
-///
-/// # Errors
-///
-/// Those of `run_convert`.
-pub fn convert_file<R: Gives, W: Write>(
-    alloc: Global,
-    r: &mut Watched<R>,
-    to: Option<Layout>,
-    out: &mut Watched<W>,
-) -> Result<(), RunError>
-    ensures answer { TakesAtMost most_taken (read_trace_of R.remaining r.old r.new) (λ read_trace.
-        IsConvertRun to read_trace (sink_of W.contents out.old out.new) result) }
-    ensures asked { IsReadOn R.gives r.old r.new }
-{
-    let file = read_file(alloc, 1, r)?;
-    let converted = match in_layout(alloc, file, to) {
-        Err(fault) => return Err(RunError::not_relaid(fault)),
-        Ok(converted) => converted,
-    };
-    let written = write_file(alloc, &converted, out);
-    drop(converted);
-    match written {
-        Err(fault) => Err(RunError::unwritten(fault)),
-        Ok(()) => Ok(()),
-    }
-}
-
-/// The file with its weights in a layout, or as it is where none is given.
-fn in_layout(alloc: Global, file: File, to: Option<Layout>) -> Result<File, RelayoutFault>
-    ensures { Becomes to file result }
-{
-    let Some(to) = to else {
-        return Ok(file);
-    };
-    match file.relayout(alloc, to) {
-        Err((fault, file)) => {
-            drop(file);
-            Err(fault)
-        }
-        Ok(relaid) => Ok(relaid),
     }
 }

@@ -1,10 +1,9 @@
 //! The run of `tsp check`, from the bytes read to the bytes written: the files are read, then
 //! judged.
 
-ghost use Rattle.tsp_judge.specs.Prelude.{None, option_map, ReadTrace, IsUnread, TakesAtMost, sink_of, read_trace_of, IsReadOn, IsFile, most_taken, is_judged, report_of, IsSized};
+ghost use Rattle.tsp_judge.specs.Prelude.{option_map, ReadTrace, TakesAtMost, sink_of, read_trace_of, IsReadOn, IsFile, most_taken, is_judged, report_of, IsSized};
 ghost use Rattle.std.specs.Prelude.{◌≡◌};
-ghost use Rattle.tsp_judge.specs.CheckRun.{Given, given_by, IsFileIn, ReadsGiven, JudgesFiles, ReadsFile, WritesReport};
-ghost use Rattle.tsp_judge.specs.ConvertRun.{IsRunOf};
+ghost use Rattle.tsp_judge.specs.CheckRun.{Given, IsFileIn, ReadsGiven, JudgesFiles, ReadsFile, WritesReport, IsRunOf, TakesNamed, IsNamedReadOn};
 
 use crate::run_status::RunError;
 use std::alloc::Global;
@@ -19,11 +18,11 @@ use tsp_verdict::{CertificateKind, Verdict, is_bounded, judge, strict_verdict};
 /// Judges a solution of an instance, writes the report, and returns the verdict, with the files
 /// that were read.
 ///
-/// Where a certificate of a bound is asked for, it is the file of the third reader, and no tour of
-/// the instance is shorter than the bound of an accepted tour. Where it isn't, that reader isn't
-/// read. Where a length is claimed, a solution of another length is rejected with `LengthClaimed`:
-/// after all other reasons against the solution, and before those against the certificate. With
-/// `strict`, an instance with an unknown keyword is rejected with `NotJudged`, after all reasons.
+/// If a certificate is named, no tour of the instance, and no plan of routes, is shorter than the
+/// bound of an accepted solution. If a length is claimed, a solution of another length is rejected
+/// with `LengthClaimed`: after all other reasons against the solution, and before those against the
+/// certificate. With `strict`, an instance with an unknown keyword is rejected with `NotJudged`,
+/// after all reasons.
 ///
 /// Each file is read whole before the next, and the first file that is none decides. Nothing is
 /// written before the verdict exists.
@@ -39,42 +38,38 @@ pub fn run<I: Gives, S: Gives, C: Gives, W: Write>(
     alloc: Global,
     inst: &mut Watched<I>,
     sol: &mut Watched<S>,
-    by: Option<CertificateKind>,
-    cert: &mut Watched<C>,
+    certificate: &mut Option<(CertificateKind, Watched<C>)>,
     claimed: Option<i64>,
     strict: bool,
     out: &mut Watched<W>,
 ) -> Result<Judged, RunError>
     ensures answer { TakesAtMost most_taken (read_trace_of I.remaining inst.old inst.new) (λ first.
         TakesAtMost most_taken (read_trace_of S.remaining sol.old sol.new) (λ second.
-        TakesAtMost most_taken (read_trace_of C.remaining cert.old cert.new) (λ third.
-        (by ≡ None → IsUnread third)
-        × IsRunOf (given_by by third) claimed strict first second (sink_of W.contents out.old out.new) result))) }
+        TakesNamed C.remaining certificate.old certificate.new (λ given.
+        IsRunOf given claimed strict first second (sink_of W.contents out.old out.new) result))) }
     ensures asked { IsReadOn I.gives inst.old inst.new × IsReadOn S.gives sol.old sol.new
-        × IsReadOn C.gives cert.old cert.new }
+        × IsNamedReadOn C.gives certificate.old certificate.new }
 {
     let instance = read_file(alloc, 1, inst)?;
     let solution = read_file(alloc, 2, sol)?;
-    let certificate = read_certificate(alloc, 3, by, cert)?;
+    let certificate = read_certificate(alloc, 3, certificate)?;
     judge_read(alloc, instance, solution, certificate, claimed, strict, out)
 }
 
-/// Reads the file of the certificate that is asked for, where one is, which has this number.
+/// Reads the file of the certificate, which has this number, if one is named.
 pub(crate) fn read_certificate<C: Gives>(
     alloc: Global,
     number: u32,
-    by: Option<CertificateKind>,
-    cert: &mut Watched<C>,
+    named: &mut Option<(CertificateKind, Watched<C>)>,
 ) -> Result<Option<(CertificateKind, File)>, RunError>
-    ensures answer { TakesAtMost most_taken (read_trace_of C.remaining cert.old cert.new) (λ third.
-        (by ≡ None → IsUnread third) × ReadsGiven number (given_by by third) result) }
-    ensures asked { IsReadOn C.gives cert.old cert.new }
+    ensures answer { TakesNamed C.remaining named.old named.new (λ given. ReadsGiven number given result) }
+    ensures asked { IsNamedReadOn C.gives named.old named.new }
 {
-    let Some(by) = by else {
+    let Some((by, reader)) = named else {
         return Ok(None);
     };
-    let file = read_file(alloc, number, cert)?;
-    Ok(Some((by, file)))
+    let file = read_file(alloc, number, reader)?;
+    Ok(Some((*by, file)))
 }
 
 /// The run on these files, or the fault of the first that is none, whatever readers they came from.

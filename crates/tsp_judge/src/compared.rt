@@ -1,9 +1,9 @@
 //! The run of `tsp compare`, from the bytes read to the bytes written: each solution is read,
 //! judged, and dropped.
 
-ghost use Rattle.tsp_judge.specs.Prelude.{max, false, true, [], length, None, MatchResult, ℕ, List, slice_index_or, ReadTrace, IsUnread, TakesAtMost, has_failed, sink_of, read_trace_of, IsReadOn, IsFile, most_taken, IsProblem, IsKnownBound, IsKnownBoundAsked, is_clear};
+ghost use Rattle.tsp_judge.specs.Prelude.{max, false, true, [], length, MatchResult, ℕ, List, slice_index_or, ReadTrace, TakesAtMost, has_failed, sink_of, read_trace_of, IsReadOn, IsFile, most_taken, IsProblem, IsKnownBound, IsKnownBoundAsked, is_clear};
 ghost use Rattle.std.specs.Prelude.{◌≡◌, ◌<◌};
-ghost use Rattle.tsp_judge.specs.CheckRun.{Given, given_by, IsFileIn};
+ghost use Rattle.tsp_judge.specs.CheckRun.{Given, IsFileIn, TakesNamed, IsNamedReadOn};
 ghost use Rattle.tsp_judge.specs.CompareRun.{IsReadTraceAt, ComparesOne, ComparesAll, ComparesBy, IsCompareRun, LacksKnownBound, Finds, result_of, status_of_found, IsFollowedBy, IsFollowed};
 
 use crate::check::{is_judged, lent, read_certificate, read_file};
@@ -31,9 +31,9 @@ pub struct Compared {
 /// Judges solutions of an instance, writes a line for each, and returns the largest of their
 /// statuses.
 ///
-/// The instance and the certificate, where one is asked for, are read and judged once. The head of
-/// the text says what they are. Where a reason applies to one of them, it ends the text, and no
-/// solution is opened. Otherwise each solution in turn is opened, read, and judged as a check of
+/// The instance and the certificate, if one is named, are read and judged once. The head of the
+/// text says what they are. If a reason applies to one of them, it ends the text, and no solution
+/// is opened. Otherwise each solution in turn is opened, read, and judged as a check of
 /// the three files does. Its line is written, the follower tells of it, and it is dropped. A
 /// solution that is no file, or can't be read, has a line with its fault, and the others follow.
 /// Only a read that returns an error makes a line with `device`.
@@ -53,23 +53,21 @@ pub struct Compared {
 pub fn run_compare<I: Gives, C: Gives, R: Gives + Drop, E, S: Solutions<R> + Follow<E>, W: Write>(
     alloc: Global,
     inst: &mut Watched<I>,
-    by: Option<CertificateKind>,
-    cert: &mut Watched<C>,
+    certificate: &mut Option<(CertificateKind, Watched<C>)>,
     solutions: &S,
     strict: bool,
     out: &mut Watched<W>,
     to: &mut E,
 ) -> Result<Compared, RunError>
     ensures text { TakesAtMost most_taken (read_trace_of I.remaining inst.old inst.new) (λ first.
-        TakesAtMost most_taken (read_trace_of C.remaining cert.old cert.new) (λ second.
-        (by ≡ None → IsUnread second)
-        × IsCompareRun strict R.remaining R.gives (S.opens solutions.now) (S.names solutions.now) (given_by by second) first
+        TakesNamed C.remaining certificate.old certificate.new (λ given.
+        IsCompareRun strict R.remaining R.gives (S.opens solutions.now) (S.names solutions.now) given first
         (sink_of W.contents out.old out.new) result)) }
-    ensures asked { IsReadOn I.gives inst.old inst.new × IsReadOn C.gives cert.old cert.new }
+    ensures asked { IsReadOn I.gives inst.old inst.new × IsNamedReadOn C.gives certificate.old certificate.new }
     ensures reported { IsFollowed (S.tells solutions.now) (length (S.names solutions.now)) to.old to.new result }
 {
     let instance = read_file(alloc, 1, inst)?;
-    let certificate = read_certificate(alloc, 2, by, cert)?;
+    let certificate = read_certificate(alloc, 2, certificate)?;
     compare_read(alloc, instance, certificate, solutions, strict, out, to)
 }
 

@@ -19,9 +19,12 @@ ghost use Rattle.tsp_report.specs.declared.verdict.BoundVerdict.TheVariants as b
 ghost use Rattle.tsp_report.specs.declared.verdict.Reason.{Reason};
 ghost use Rattle.tsp_report.specs.declared.verdict.Reason.TheVariants as reasons;
 ghost use Rattle.tsp_report.specs.declared.verdict.Verdict.TheVariants as verdicts;
-ghost use Rattle.tsp_judge.specs.CheckRun.{IsBoundRun, BoundsFiles, IsBoundRunOf, Given, IsUnreadIn, IsSomeFile, IsRun, JudgesFiles, WritesReport, run_fault_text, status_number};
+ghost use Rattle.tsp_judge.specs.BoundRun.{IsBoundRun, BoundsFiles, IsBoundRunOf};
+ghost use Rattle.tsp_judge.specs.CheckRun.{Given, IsUnreadIn, IsSomeFile, IsRun, JudgesFiles, WritesReport, IsRunOf};
+ghost use Rattle.tsp_judge.specs.RunStatus.{run_fault_text, status_number};
 ghost use Rattle.tsp_judge.specs.CompareRun.{ComparesNone, ComparesOn, IsFaultOfCompare, IsReadTraceAt, largest_status, all_solution_lines};
-ghost use Rattle.tsp_judge.specs.ConvertRun.{IsConvertRun, AreComparedOn, AreReadOn, IsCompared, IsDone, is_yes_outcome, outcome_of_bound, outcome_of_check, IsShowRun, IsRunOf};
+ghost use Rattle.tsp_judge.specs.ConvertRun.{IsConvertRun, IsShowRun};
+ghost use Rattle.tsp_judge.specs.TaskRun.{AreComparedOn, AreReadOn, IsCompared, IsDone, is_yes_outcome, outcome_of_bound, outcome_of_check};
 ghost use Rattle.tsp_io.specs.declared.watched.Watched.{Watched};
 ghost use Rattle.tsp_judge.specs.declared.bound_run.Bounded.{Bounded};
 ghost use Rattle.tsp_judge.specs.declared.check.Judged.{Judged};
@@ -29,8 +32,8 @@ ghost use Rattle.tsp_judge.specs.declared.compared.ComparisonContext.{Comparison
 ghost use Rattle.tsp_judge.specs.declared.run_status.RunFault.{RunFault};
 ghost use Rattle.tsp_judge.specs.declared.run_status.RunFault.TheVariants as run_faults;
 ghost use Rattle.tsp_judge.specs.declared.run_status.Status.TheVariants as statuses;
-ghost use Rattle.tsp_judge.specs.declared.explanation.Outcome.{Outcome};
-ghost use Rattle.tsp_judge.specs.declared.explanation.Outcome.TheVariants as outcomes;
+ghost use Rattle.tsp_judge.specs.declared.task_run.Outcome.{Outcome};
+ghost use Rattle.tsp_judge.specs.declared.task_run.Outcome.TheVariants as outcomes;
 
 use std::io::Read;
 use tsp_io::Gives;

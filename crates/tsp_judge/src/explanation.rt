@@ -1,26 +1,19 @@
-//! Does a task by the run of its verb (`perform`), and explains its outcome or its fault to a person,
-//! by the names of its files.
+//! Explains the outcome or the fault of a task to a person, by the names of its files.
 
-ghost use Rattle.tsp_judge.specs.Prelude.{length, IsReadOn, most_taken, TakesAtMost, sink_of, read_trace_of};
 ghost use Rattle.std.specs.Io.{StartsWith};
-ghost use Rattle.std.specs.Prelude.{◌≡◌};
-ghost use Rattle.tsp_judge.specs.CompareRun.{IsFollowed};
-ghost use Rattle.tsp_judge.specs.ConvertRun.{AreComparedOn, AreReadOn, IsCompared, IsDone, IsNamedReadOn, TakesNamed, is_yes_outcome, outcome_of_writing, outcome_of_check, outcome_of_bound, IsRunOf};
 
-use crate::api::{run_compare_uncertified, run_uncertified};
-use crate::bound_run::{Bounded, convert_file, run_bound, show_file};
-use crate::check::{Judged, run};
-use crate::compared::{Compared, ComparisonContext, Follow, Solutions, run_compare};
-use crate::run_status::{RunError, RunFault};
+use crate::compared::ComparisonContext;
+use crate::run_status::RunFault;
+use crate::task_run::Outcome;
 use std::alloc::{AllocError, Global};
-use std::io::{self, Read, Write};
+use std::io::{self, Read};
 use tsp_explain::{
     Files, Names, explain_bound, explain_file, explain_lines, explain_verdict, explain_wrong_kind,
     push_error, relayout_sentence, write_sentence,
 };
 use tsp_file::File;
-use tsp_io::{Gives, Watched, WriteFault};
-use tsp_report::{CertificateKind, Comparison, FileTask, Role, Task};
+use tsp_io::WriteFault;
+use tsp_report::{CertificateKind, FileTask, Role, Task};
 use tsp_verdict::{BoundVerdict, KnownBound, Verdict};
 
 /// Appends what explains the line `no`, from the files that were judged, and after `yes` whether a
@@ -118,7 +111,7 @@ pub fn explain_solution<'a>(
 }
 
 /// Appends what explains a fault. `again` is the file that has it, to be read once more, where it
-/// can be; `error` is what the system said of a write that failed.
+/// can be: the first one if that is of the wrong kind; `error` is what the system said of a write that failed.
 ///
 /// # Errors
 ///
@@ -140,7 +133,7 @@ pub fn explain_fault<R: Read + Drop>(
         }
         RunFault::WrongKind => {
             let (_, name) = named(names, 1);
-            explain_wrong_kind(alloc, text, name, is_bound(names))
+            explain_wrong_kind(alloc, text, name, is_bound(names), again)
         }
         RunFault::Write(fault) => explain_write(alloc, text, fault, error),
         RunFault::OutOfMemory => {
@@ -203,152 +196,4 @@ fn file_of(certificate: &Option<(CertificateKind, File)>) -> Option<&File> {
 /// Whether tours are bounded, and no solution is judged.
 fn is_bound<F>(task: &Task<'_, F>) -> bool {
     matches!(task, Task::Files(FileTask::Bound { .. }))
-}
-
-// ---- does a task by the run of its verb in tsp_judge, and compares solutions
-
-/// The result of a task: a verdict, a bound, or that a file was shown or converted.
-#[derive(Drop)]
-pub enum Outcome {
-    /// A file was shown or converted.
-    Done,
-    /// A solution was judged.
-    Judged(Judged),
-    /// The tours of an instance were bounded, or there is a reason against that.
-    Bounded(Bounded),
-}
-
-/// Whether the outcome is no refusal.
-pub fn is_yes_outcome(outcome: &Outcome) -> bool
-    ensures { result ≡ is_yes_outcome outcome.now }
-{
-    match outcome {
-        Outcome::Done => true,
-        Outcome::Judged(judged) => judged.verdict.is_yes(),
-        Outcome::Bounded(bounded) => bounded.found.is_yes(),
-    }
-}
-
-/// Does a task on files that are read from these readers, and writes what comes of it. The outcome
-/// has the files that were judged.
-///
-/// # Errors
-///
-/// Those of the call of the task's verb.
-pub fn perform<R: Gives, W: Write>(
-    alloc: Global,
-    task: &mut FileTask<Watched<R>>,
-    out: &mut Watched<W>,
-) -> Result<Outcome, RunError>
-    ensures done { IsDone R.remaining task.old task.new (sink_of W.contents out.old out.new) result }
-    ensures asked { AreReadOn R.gives task.old task.new }
-{
-    match task {
-        FileTask::Show { file } => done(show_file(alloc, file, out)),
-        FileTask::Convert { file, layout } => done(convert_file(alloc, file, *layout, out)),
-        FileTask::Check {
-            instance,
-            solution,
-            certificate,
-            claimed,
-            strict,
-        } => {
-            let ended = check(
-                alloc,
-                instance,
-                solution,
-                certificate,
-                *claimed,
-                *strict,
-                out,
-            );
-            judged(ended)
-        }
-        FileTask::Bound {
-            instance,
-            certificate: (by, file),
-            strict,
-        } => bounded(run_bound(alloc, instance, *by, file, *strict, out)),
-    }
-}
-
-/// Judges a solution of an instance, and bounds every tour by the certificate where one is named.
-fn check<R: Gives, W: Write>(
-    alloc: Global,
-    instance: &mut Watched<R>,
-    solution: &mut Watched<R>,
-    certificate: &mut Option<(CertificateKind, Watched<R>)>,
-    claimed: Option<i64>,
-    strict: bool,
-    out: &mut Watched<W>,
-) -> Result<Judged, RunError>
-    ensures answer { TakesAtMost most_taken (read_trace_of R.remaining instance.old instance.new) (λ first.
-        TakesAtMost most_taken (read_trace_of R.remaining solution.old solution.new) (λ second.
-        TakesNamed R.remaining certificate.old certificate.new (λ given.
-        IsRunOf given claimed strict first second (sink_of W.contents out.old out.new) result))) }
-    ensures asked { IsReadOn R.gives instance.old instance.new × IsReadOn R.gives solution.old solution.new
-        × IsNamedReadOn R.gives certificate.old certificate.new }
-{
-    match certificate {
-        None => run_uncertified(alloc, instance, solution, claimed, strict, out),
-        Some((by, file)) => {
-            let by = Some(*by);
-            run(alloc, instance, solution, by, file, claimed, strict, out)
-        }
-    }
-}
-
-/// Compares solutions, each opened when it is to be read, by files that are read from these
-/// readers, and writes a line for each, of which the follower of the solutions tells `to`.
-///
-/// # Errors
-///
-/// Those of `run_compare`.
-pub fn compare<R: Gives + Drop, E, S: Solutions<R> + Follow<E>, W: Write>(
-    alloc: Global,
-    comparison: &mut Comparison<'_, Watched<R>>,
-    solutions: &S,
-    out: &mut Watched<W>,
-    to: &mut E,
-) -> Result<Compared, RunError>
-    ensures text { IsCompared R.remaining R.gives (S.opens solutions.now) (S.names solutions.now)
-        comparison.old comparison.new (sink_of W.contents out.old out.new) result }
-    ensures asked { AreComparedOn R.gives comparison.old comparison.new }
-    ensures reported { IsFollowed (S.tells solutions.now) (length (S.names solutions.now)) to.old to.new result }
-{
-    let Comparison {
-        instance,
-        certificate,
-        solutions: _,
-        strict,
-    } = comparison;
-    match certificate {
-        None => run_compare_uncertified(alloc, instance, solutions, *strict, out, to),
-        Some((by, file)) => {
-            let by = Some(*by);
-            run_compare(alloc, instance, by, file, solutions, *strict, out, to)
-        }
-    }
-}
-
-/// A file was shown or converted.
-fn done(ended: Result<(), RunError>) -> Result<Outcome, RunError>
-    ensures { result ≡ outcome_of_writing ended }
-{
-    ended?;
-    Ok(Outcome::Done)
-}
-
-/// A solution was judged.
-fn judged(ended: Result<Judged, RunError>) -> Result<Outcome, RunError>
-    ensures { result ≡ outcome_of_check ended }
-{
-    Ok(Outcome::Judged(ended?))
-}
-
-/// Tours were bounded.
-fn bounded(ended: Result<Bounded, RunError>) -> Result<Outcome, RunError>
-    ensures { result ≡ outcome_of_bound ended }
-{
-    Ok(Outcome::Bounded(ended?))
 }

@@ -18,19 +18,19 @@ mod api;
 mod bound_run;
 mod check;
 mod compared;
+mod convert_run;
 mod examples;
 mod explanation;
 mod laws;
 mod opened;
 mod run_status;
+mod task_run;
 
-pub use api::{
-    run_bound_check, run_branch_check, run_check, run_compare_uncertified, run_convert, run_show,
-    run_uncertified,
-};
-pub use bound_run::{Bounded, convert_file, run_bound, show_file};
+pub use api::{run_bound_check, run_branch_check, run_check, run_convert, run_show};
+pub use bound_run::{Bounded, run_bound};
 pub use check::{Judged, report_verdict, run};
 pub use compared::{Compared, ComparisonContext, Follow, Found, Solutions, run_compare};
+pub use convert_run::{convert_file, show_file};
 pub use examples::{
     examples_of_answers, examples_of_asked_readers, examples_of_certificates,
     examples_of_done_tasks, examples_of_fault_texts, examples_of_faulty_files,
@@ -41,8 +41,7 @@ pub use examples::{
     examples_of_written_reports, examples_of_wrong_kinds,
 };
 pub use explanation::{
-    Outcome, Solution, compare, explain_fault, explain_known_bound, explain_outcome,
-    explain_solution, is_yes_outcome, perform,
+    Solution, explain_fault, explain_known_bound, explain_outcome, explain_solution,
 };
 pub use laws::{
     lines_of_bounded_routes, lines_of_bounded_tours, lines_of_checks,
@@ -51,6 +50,7 @@ pub use laws::{
 };
 pub use opened::{Opened, read_text};
 pub use run_status::{RunError, RunFault, Status, status_of};
+pub use task_run::{Outcome, compare, is_yes_outcome, perform};
 pub use tsp_file::{EndFault, RelayoutFault};
 pub use tsp_format::Layout;
 pub use tsp_io::{Watched, WriteFault};

@@ -3,7 +3,7 @@
 
 ghost use Rattle.std.specs.Prelude.{◌≡◌};
 ghost use Rattle.tsp_text.specs.declared.fault.ReadFault.TheVariants as read_faults;
-ghost use Rattle.tsp_judge.specs.CheckRun.{status_number, status_of, status_of_fault};
+ghost use Rattle.tsp_judge.specs.RunStatus.{status_number, status_of, status_of_fault};
 ghost use Rattle.tsp_judge.specs.declared.run_status.RunFault.TheVariants.{File, WrongKind, Write, OutOfMemory, Relayout};
 
 use std::fmt;
@@ -32,7 +32,7 @@ pub enum RunFault {
 
 impl fmt::Display for RunFault {
     ghost use Rattle.std.specs.Prelude.{Some};
-    ghost use Rattle.tsp_judge.specs.CheckRun.{run_fault_text};
+    ghost use Rattle.tsp_judge.specs.RunStatus.{run_fault_text};
 
     ghost output = { λ fault. Some (run_fault_text fault) };
 

@@ -77,18 +77,16 @@ impl Follow<Counts> for Four {
 /// (It has no contract, which the proofs of the tests would go through.)
 fn compared(alloc: Global, writer: Drip) -> (Result<u8, RunFault>, Counts, Drip) {
     let mut inst = Watched::new(THREE_NODES.as_bytes());
-    let mut cert = Watched::new(DUALS.as_bytes());
+    let mut certificate = Some((CertificateKind::Potentials, Watched::new(DUALS.as_bytes())));
     let mut out = Watched::new(writer);
     let mut counts = Counts {
         lines: 0,
         others: 0,
     };
-    let by = Some(CertificateKind::Potentials);
     let ended = run_compare(
         alloc,
         &mut inst,
-        by,
-        &mut cert,
+        &mut certificate,
         &Four,
         false,
         &mut out,

@@ -2,7 +2,7 @@
 use Rattle.tsp_cli.proofs.Prelude.{◌≡◌, ◌∙◌, ap, subst, ℕ, List, [], ◌∷◌, ◌++◌, OnOk}
 use Rattle.std.specs.Io.KnownBytes.{Appends}
 use Rattle.std.proofs.lemmas.Fmt.{contents_after_writes}
-use Rattle.tsp_judge.specs.CheckRun.{run_fault_text}
+use Rattle.tsp_judge.specs.RunStatus.{run_fault_text}
 use Rattle.tsp_cli.proofs.ends.tell_fault.Goals as goal
 
 -- plan: the text fits the buffer, which is written with its end

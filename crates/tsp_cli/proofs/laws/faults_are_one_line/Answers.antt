@@ -1,5 +1,5 @@
 -- The goals of `faults_are_one_line` in src/laws.rt: what it ensures.
-use Rattle.tsp_judge.specs.CheckRun.{run_fault_text}
+use Rattle.tsp_judge.specs.RunStatus.{run_fault_text}
 use Rattle.tsp_cli.proofs.Subcommands.{line_of_run}
 use Rattle.tsp_cli.proofs.laws.faults_are_one_line.Goals as goal
 

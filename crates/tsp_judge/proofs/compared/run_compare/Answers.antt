@@ -1,7 +1,7 @@
--- The goals of `run_compare` in src/compared.rt, which compares solutions, with a certificate if one is asked for: what
--- it ensures.
-use Rattle.tsp_judge.proofs.Prelude.{◌≡◌, Err, [], arith, refl, Keeps-refl, read_trace_of, read_none, propagated}
-use Rattle.tsp_judge.proofs.Yeses.{none_taken, unread_in}
+-- The goals of `run_compare` in src/compared.rt, which compares solutions, with a certificate if one is named: what it
+-- ensures.
+use Rattle.tsp_judge.proofs.Prelude.{◌≡◌, Err, arith, refl, Keeps-refl, read_trace_of, propagated}
+use Rattle.tsp_judge.proofs.NamedReaders.{named_by, named_unread, named_unasked}
 use Rattle.tsp_judge.proofs.Comparing.{compare_first_stops, compare_second_stops}
 use Rattle.tsp_judge.proofs.compared.run_compare.Goals as goal
 
@@ -13,33 +13,31 @@ returns-in_err-instance-clause-text g c =
     rw same (
       one.0,
       one.1,
-      (
-        [],
-        none_taken,
-        (
-          λ none. (Keeps-refl _, refl),
-          compare_first_stops c.args.strict _ _ _ (read_trace_of g.I.Read.remaining c.args.inst.now c.read_file.new.reader one.0) _ _ one.2
-              (unread_in c.args.by _ (Keeps-refl _, refl)) (Keeps-refl _, refl),
-        ),
-      ),
+      named_unread g.C.Read.remaining c.args.certificate.now _ (λ given unread.
+          compare_first_stops c.args.strict _ _ given (read_trace_of g.I.Read.remaining c.args.inst.now c.read_file.new.reader one.0) _ _ one.2
+          unread (Keeps-refl _, refl)),
     )
 
 pub returns-in_err-certificate-clause-text : goal.returns-in_err-certificate-clause-text
 returns-in_err-certificate-clause-text g c =
     let same : c.from_residual-in_err-certificate.result ≡ Err c.in_err-certificate.field-0.0 = propagated _ _ c.from_residual-in_err-certificate.ensures.1 in
     let one = c.in_ok-instance.ensures.answer in
-    let two = c.in_err-certificate.ensures.answer in
     rw same (
       one.0,
       one.1,
-      (two.0, two.1, (two.2.0, compare_second_stops c.args.strict _ _ _ _ c.in_ok-instance.instance _ _ one.2 two.2.1 (Keeps-refl _, refl))),
+      named_by g.C.Read.remaining c.args.certificate.now c.read_certificate.new.named _ _ (λ given two.
+          compare_second_stops c.args.strict _ _ given _ c.in_ok-instance.instance _ _ one.2 two (Keeps-refl _, refl))
+          c.in_err-certificate.ensures.answer,
     )
 
 pub returns-clause-text : goal.returns-clause-text
 returns-clause-text g c =
-    let one = c.in_ok-instance.ensures.answer in
-    let two = c.in_ok-certificate.ensures.answer in
-    (one.0, one.1, (two.0, two.1, (two.2.0, c.compare_read.ensures.text _ _ one.2 two.2.1)))
+    let one = c.in_ok-instance.ensures.answer in (
+      one.0,
+      one.1,
+      named_by g.C.Read.remaining c.args.certificate.now c.read_certificate.new.named _ _
+          (λ given two. c.compare_read.ensures.text given _ one.2 two) c.in_ok-certificate.ensures.answer,
+    )
 
 pub returns-in_err-instance-clause-reported : goal.returns-in_err-instance-clause-reported
 returns-in_err-instance-clause-reported g c =
@@ -52,7 +50,7 @@ returns-in_err-certificate-clause-reported g c =
     rw same (0, omega arith, refl)
 
 pub returns-in_err-instance-clause-asked : goal.returns-in_err-instance-clause-asked
-returns-in_err-instance-clause-asked g c = (c.in_err-instance.ensures.asked, read_none g.C.Gives.gives c.args.cert.now)
+returns-in_err-instance-clause-asked g c = (c.in_err-instance.ensures.asked, named_unasked g.C.Gives.gives c.args.certificate.now)
 
 pub returns-in_err-certificate-clause-asked : goal.returns-in_err-certificate-clause-asked
 returns-in_err-certificate-clause-asked g c = (c.in_ok-instance.ensures.asked, c.in_err-certificate.ensures.asked)

@@ -2,9 +2,8 @@
 use Rattle.tsp_judge.proofs.Prelude.{Err, inl, inr, refl, sym, subst, Option, Some, read_trace_of, CertificateKind}
 use Rattle.tsp_io.specs.declared.watched.Watched.{Watched}
 use Rattle.tsp_judge.specs.declared.run_status.RunFault.TheVariants as run_faults
-use Rattle.tsp_judge.specs.CheckRun.{Given}
+use Rattle.tsp_judge.specs.CheckRun.{Given, TakesNamed}
 use Rattle.tsp_judge.specs.CompareRun.{IsCompareRun}
-use Rattle.tsp_judge.specs.ConvertRun.{TakesNamed}
 use Rattle.tsp_judge.proofs.examples.examples_of_readers.Goals as goal
 
 -- plan: each example is what its premises say of the readers and of the writer, one after the other

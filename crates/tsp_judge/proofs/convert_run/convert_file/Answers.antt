@@ -1,7 +1,7 @@
--- The goals of `convert_file` in src/bound_run.rt: what it ensures.
+-- The goals of `convert_file` in src/convert_run.rt: what it ensures.
 use Rattle.tsp_judge.proofs.Prelude.{◌≡◌, Err, refl, Keeps-refl, read_trace_of, sink_of, propagated}
 use Rattle.tsp_judge.proofs.Bounding.{converted, convert_stopped, convert_stops}
-use Rattle.tsp_judge.proofs.bound_run.convert_file.Goals as goal
+use Rattle.tsp_judge.proofs.convert_run.convert_file.Goals as goal
 
 pub returns-in_err-file-clause-answer : goal.returns-in_err-file-clause-answer
 returns-in_err-file-clause-answer g c =

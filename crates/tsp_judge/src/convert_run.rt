@@ -1,0 +1,78 @@
+//! The runs of `tsp show` and `tsp convert`, from the bytes read to the bytes written.
+
+ghost use Rattle.tsp_judge.specs.Prelude.{TakesAtMost, sink_of, read_trace_of, IsReadOn, most_taken};
+ghost use Rattle.tsp_judge.specs.ConvertRun.{Becomes, IsConvertRun, IsShowRun};
+
+use crate::check::read_file;
+use crate::run_status::RunError;
+use std::alloc::Global;
+use std::io::Write;
+use tsp_file::{File, RelayoutFault, write_file};
+use tsp_format::Layout;
+use tsp_io::{Gives, Watched};
+use tsp_report::write_shown;
+
+/// Shows a file, as `run_show` says.
+///
+/// # Errors
+///
+/// Those of `run_show`.
+pub fn show_file<R: Gives, W: Write>(
+    alloc: Global,
+    r: &mut Watched<R>,
+    out: &mut Watched<W>,
+) -> Result<(), RunError>
+    ensures answer { TakesAtMost most_taken (read_trace_of R.remaining r.old r.new) (λ read_trace.
+        IsShowRun read_trace (sink_of W.contents out.old out.new) result) }
+    ensures asked { IsReadOn R.gives r.old r.new }
+{
+    let file = read_file(alloc, 1, r)?;
+    match write_shown(file, out) {
+        Err(fault) => Err(RunError::unwritten(fault)),
+        Ok(()) => Ok(()),
+    }
+}
+
+/// Converts a file, as `run_convert` says.
+///
+/// # Errors
+///
+/// Those of `run_convert`.
+pub fn convert_file<R: Gives, W: Write>(
+    alloc: Global,
+    r: &mut Watched<R>,
+    to: Option<Layout>,
+    out: &mut Watched<W>,
+) -> Result<(), RunError>
+    ensures answer { TakesAtMost most_taken (read_trace_of R.remaining r.old r.new) (λ read_trace.
+        IsConvertRun to read_trace (sink_of W.contents out.old out.new) result) }
+    ensures asked { IsReadOn R.gives r.old r.new }
+{
+    let file = read_file(alloc, 1, r)?;
+    let converted = match in_layout(alloc, file, to) {
+        Err(fault) => return Err(RunError::not_relaid(fault)),
+        Ok(converted) => converted,
+    };
+    let written = write_file(alloc, &converted, out);
+    drop(converted);
+    match written {
+        Err(fault) => Err(RunError::unwritten(fault)),
+        Ok(()) => Ok(()),
+    }
+}
+
+/// The file with its weights in a layout, or as it is where none is given.
+fn in_layout(alloc: Global, file: File, to: Option<Layout>) -> Result<File, RelayoutFault>
+    ensures { Becomes to file result }
+{
+    let Some(to) = to else {
+        return Ok(file);
+    };
+    match file.relayout(alloc, to) {
+        Err((fault, file)) => {
+            drop(file);
+            Err(fault)
+        }
+        Ok(relaid) => Ok(relaid),
+    }
+}

@@ -1,0 +1,131 @@
+//! Does a task by the run of its verb, and compares solutions by the readers of a task.
+
+ghost use Rattle.tsp_judge.specs.Prelude.{length, sink_of};
+ghost use Rattle.std.specs.Prelude.{◌≡◌};
+ghost use Rattle.tsp_judge.specs.CompareRun.{IsFollowed};
+ghost use Rattle.tsp_judge.specs.TaskRun.{AreComparedOn, AreReadOn, IsCompared, IsDone, is_yes_outcome, outcome_of_writing, outcome_of_check, outcome_of_bound};
+
+use crate::bound_run::{Bounded, run_bound};
+use crate::check::{Judged, run};
+use crate::compared::{Compared, Follow, Solutions, run_compare};
+use crate::convert_run::{convert_file, show_file};
+use crate::run_status::RunError;
+use std::alloc::Global;
+use std::io::Write;
+use tsp_io::{Gives, Watched};
+use tsp_report::{Comparison, FileTask};
+
+/// The result of a task: a verdict, a bound, or that a file was shown or converted.
+#[derive(Drop)]
+pub enum Outcome {
+    /// A file was shown or converted.
+    Done,
+    /// A solution was judged.
+    Judged(Judged),
+    /// The tours of an instance were bounded, or there is a reason against that.
+    Bounded(Bounded),
+}
+
+/// Whether the outcome is no refusal.
+pub fn is_yes_outcome(outcome: &Outcome) -> bool
+    ensures { result ≡ is_yes_outcome outcome.now }
+{
+    match outcome {
+        Outcome::Done => true,
+        Outcome::Judged(judged) => judged.verdict.is_yes(),
+        Outcome::Bounded(bounded) => bounded.found.is_yes(),
+    }
+}
+
+/// Does a task on files that are read from these readers, and writes what comes of it. The outcome
+/// has the files that were judged.
+///
+/// # Errors
+///
+/// Those of the call of the task's verb.
+pub fn perform<R: Gives, W: Write>(
+    alloc: Global,
+    task: &mut FileTask<Watched<R>>,
+    out: &mut Watched<W>,
+) -> Result<Outcome, RunError>
+    ensures done { IsDone R.remaining task.old task.new (sink_of W.contents out.old out.new) result }
+    ensures asked { AreReadOn R.gives task.old task.new }
+{
+    match task {
+        FileTask::Show { file } => done(show_file(alloc, file, out)),
+        FileTask::Convert { file, layout } => done(convert_file(alloc, file, *layout, out)),
+        FileTask::Check {
+            instance,
+            solution,
+            certificate,
+            claimed,
+            strict,
+        } => {
+            let claimed = *claimed;
+            let ended = run(
+                alloc,
+                instance,
+                solution,
+                certificate,
+                claimed,
+                *strict,
+                out,
+            );
+            judged(ended)
+        }
+        FileTask::Bound {
+            instance,
+            certificate: (by, file),
+            strict,
+        } => bounded(run_bound(alloc, instance, *by, file, *strict, out)),
+    }
+}
+
+/// Compares solutions, each opened when it is to be read, by files that are read from these
+/// readers, and writes a line for each, of which the follower of the solutions tells `to`.
+///
+/// # Errors
+///
+/// Those of `run_compare`.
+pub fn compare<R: Gives + Drop, E, S: Solutions<R> + Follow<E>, W: Write>(
+    alloc: Global,
+    comparison: &mut Comparison<'_, Watched<R>>,
+    solutions: &S,
+    out: &mut Watched<W>,
+    to: &mut E,
+) -> Result<Compared, RunError>
+    ensures text { IsCompared R.remaining R.gives (S.opens solutions.now) (S.names solutions.now)
+        comparison.old comparison.new (sink_of W.contents out.old out.new) result }
+    ensures asked { AreComparedOn R.gives comparison.old comparison.new }
+    ensures reported { IsFollowed (S.tells solutions.now) (length (S.names solutions.now)) to.old to.new result }
+{
+    let Comparison {
+        instance,
+        certificate,
+        solutions: _,
+        strict,
+    } = comparison;
+    run_compare(alloc, instance, certificate, solutions, *strict, out, to)
+}
+
+/// A file was shown or converted.
+fn done(ended: Result<(), RunError>) -> Result<Outcome, RunError>
+    ensures { result ≡ outcome_of_writing ended }
+{
+    ended?;
+    Ok(Outcome::Done)
+}
+
+/// A solution was judged.
+fn judged(ended: Result<Judged, RunError>) -> Result<Outcome, RunError>
+    ensures { result ≡ outcome_of_check ended }
+{
+    Ok(Outcome::Judged(ended?))
+}
+
+/// Tours were bounded.
+fn bounded(ended: Result<Bounded, RunError>) -> Result<Outcome, RunError>
+    ensures { result ≡ outcome_of_bound ended }
+{
+    Ok(Outcome::Bounded(ended?))
+}
