@@ -12,7 +12,9 @@ use tsp_theory::{Costs, duals_bound_cycles};
 /// The first pair of different nodes, by rows, whose duals sum to more than the scaled cost.
 #[derive(Clone, Copy, Debug, PartialEq, Eq)]
 pub struct Infeasible {
+    /// The row, from 1 on.
     pub i: u32,
+    /// The column, from 1 on.
     pub j: u32,
 }
 

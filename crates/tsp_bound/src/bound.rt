@@ -26,9 +26,11 @@ pub struct OneTree {
     pub bound: i128,
 }
 
-/// A 1-tree than which none weighs less, where the weight between two nodes is the cost at the
-/// scale of the potentials and the potentials of both, less the multiplier of the pair, and its
-/// bound: no cycle that uses each pair with a multiplier, in either direction, is shorter.
+/// A least 1-tree under potentials and multipliers, and its bound.
+///
+/// The weight between two nodes is the cost at the scale plus both potentials, less the multiplier
+/// of the pair. No cycle that uses each pair with a multiplier, in either direction, is shorter
+/// than the bound.
 ///
 /// A 1-tree is a tree over the nodes 2..n and two different edges at node 1. Which of several least
 /// ones is returned, and the order of its edges, is free. With no multipliers the bound is that of

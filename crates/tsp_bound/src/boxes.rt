@@ -302,7 +302,8 @@ fn tag_boxes(labels: &[u32], tags: &mut Vec<u32>)
 
 // ---- a node with its point and its potential, or another number that it adds to the weights
 
-/// A node with its place, and its number.
+/// A node with its point, and the number that it adds to weights: its potential, less the
+/// multipliers of its sets if it is in any.
 #[derive(Clone, Copy, Debug)]
 pub struct NumberedSite {
     /// The node and its place.
@@ -344,8 +345,8 @@ fn numbered_sites_of<W: BoxedWeights>(
 /// Weights of which each is at least the cost at a scale and the numbers of both nodes, but for
 /// those of some pairs, which are lowered and listed by node.
 ///
-/// So a region with the least number in it bounds the weights to all of its nodes at once. What is
-/// above that bound is looked at pair by pair: only where it matters.
+/// So a region, with the least number of its nodes, bounds the weights to all of them at once. A
+/// search looks at single pairs only in regions that this doesn't rule out.
 pub trait BoxedWeights: Weights {
     ghost place_of: { Self → ℕ → Point };
 
@@ -370,8 +371,9 @@ pub trait BoxedWeights: Weights {
         ensures value { result ≡ number_of self.now node }
         ensures size { IsFromTo (neg_ℤ (pos most_number)) (pos most_number) result };
 
-    /// The nodes 2..n in an order in which neighbours are near each other, as a help alone: nothing
-    /// is promised of it.
+    /// An order of the nodes 2..n in which near nodes are close together.
+    ///
+    /// Only a hint: the contract promises nothing.
     ///
     /// # Errors
     ///

@@ -232,8 +232,7 @@ impl<'a, W: BoxedWeights> Listed<'a, W> {
         })
     }
 
-    /// Of the links that are kept of a place the least one that leads to another component, else
-    /// the heaviest one.
+    /// The least kept link of a place to another component; if there is none, its heaviest link.
     fn best_kept(&self, from: u32) -> Link
         requires { from < length self.now.placed.order.now }
         ensures own { IsOwnLink (length self.now.placed.order.now)
@@ -302,7 +301,8 @@ impl<W: BoxedWeights> Components for Listed<'_, W> {
         self.labels[node as usize]
     }
 
-    /// A kept link is enough where no other link can weigh less; else all pairs are steps.
+    /// The least link to another component: a kept one if no other can weigh less, else by all
+    /// pairs.
     fn nearest(&self, from: u32, near: u32, most: i64, steps: &mut u64) -> Option<Link> {
         let link = self.best_kept(from);
         if link.weight != i64::MAX

@@ -22,8 +22,8 @@ impl<'a> Potentials<'a> {
 
     /// The potentials of these numbers, each a count of 1 / scale.
     ///
-    /// None where the scale isn't from 1 to 1,000,000 or a number is larger than 10^15 in size,
-    /// and only there.
+    /// `None` exactly if the scale isn't from 1 to 1,000,000 or a number is larger than 10^15 in
+    /// size.
     pub fn new(scale: i64, p: &'a [i64]) -> Option<Potentials<'a>>
         ensures { MatchOption result (AreNodePotentials scale p.now → ⊥)
             (λ made. AreNodePotentials scale p.now × (scale_of made ≡ scale)

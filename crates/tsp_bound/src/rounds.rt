@@ -205,9 +205,9 @@ const MOST_ROUNDS: u32 = 32;
 /// leads from a component of the pairs before it to another one, and no such pair weighs less. None
 /// where the budget is exhausted.
 ///
-/// Each node has a link that weighs no more than any pair from it to another component: its least
-/// one, as of when it was searched for. It is searched for again only where it no longer leads to
-/// another component and weighs less than the best link of its component.
+/// Each node keeps the least link that a search found for it. Components only grow, so no pair from
+/// it to another component weighs less. A new search is needed only if the link no longer leads to
+/// another component and weighs less than the best link of its own.
 ///
 /// # Errors
 ///

@@ -1,8 +1,10 @@
-//! Nodes in an order, and the search for the nearest one outside.
+//! The search for the nearest node in another component, by a tree of boxes over the nodes in an
+//! order (`Placed`). `boxes.rt` implements `Seen`, the tree; `Link`, an edge that was found, is for
+//! `lists.rt` and `rounds.rt` too.
 //!
-//! A place is the index of a node in the order. Outside: in another component than the node that
-//! the search is from. `steps` counts the boxes and nodes that a search looks at. Past a budget the
-//! tree grows pair by pair instead (rounds.rt), so `steps` affects speed alone.
+//! A place is the index of a node in the order. A node is outside if its component isn't that of
+//! the node the search starts from. `steps` counts the boxes and nodes that a search looks at. Past
+//! a budget the tree grows pair by pair instead (`rounds.rt`), so `steps` affects only speed.
 
 ghost use Rattle.tsp_bound.specs.Prelude.{ℕ, length, slice_index_or, Bool, Option, None, Some, MatchOption, IsNode, IsScale, IsInner};
 ghost use Rattle.std.specs.Bool.{OnTrue};

@@ -1,4 +1,6 @@
-//! The weight of a least 1-tree, whose tree grows as its weights do it.
+//! The weight of a least 1-tree, and Prim's method for the tree in it (`grow`). `Growing` is the
+//! trait of weights that choose how that tree grows: by Prim's method, or in rounds (`rounds.rt`).
+//! `bound.rt` returns the edges too.
 
 ghost use Rattle.tsp_bound.specs.Prelude.{ℕ, length, pos, neg_ℤ, IfOk, slice_index, MatchOption, ℤ, most_nodes, IsNode, IsFromTo, IsWholeGrowth, AreNearest, weight_of, least_at, IsNearer};
 ghost use Rattle.std.specs.Prelude.{◌≡◌, ◌≤◌, ◌+◌, ◌*◌, ◌^◌, ◌<◌, ◌<ℤ◌, ◌-◌, ◌≢◌, ◌+ℤ◌};
@@ -10,11 +12,11 @@ use std::alloc::Global;
 use tsp_io::{Refused, filled, push, with_capacity};
 use tsp_theory::{Weights, weight_in};
 
-/// The weight of a 1-tree than which none weighs less, under symmetric weights.
+/// The weight of a least 1-tree, under symmetric weights.
 ///
 /// A 1-tree is a tree over the nodes 2..n and two different edges at node 1. Source: M. Held and R.
-/// M. Karp, The traveling-salesman problem and minimum spanning trees, 1970. The tree grows as its
-/// weights do it: row by row, as R. C. Prim's, 1957, or by rounds, as O. Boruvka's, 1926.
+/// M. Karp, The traveling-salesman problem and minimum spanning trees, 1970. The weights choose how
+/// the tree grows: row by row (R. C. Prim, 1957), or in rounds (O. Boruvka, 1926).
 ///
 /// # Requires
 ///
@@ -41,10 +43,12 @@ pub fn least_weight<W: Growing>(alloc: Global, w: &W, row: &mut [i64]) -> Result
 
 // ---- the growth of a least tree over the nodes 2 to n, row by row, by Prim's method
 
-/// The pairs of a growth, and the sum of their weights.
+/// A tree over the nodes 2..n.
 #[derive(Drop)]
 pub struct Grown {
+    /// Its edges, in the order in which they were added.
     pub pairs: Vec<(u32, u32)>,
+    /// The sum of their weights.
     pub weight: i128,
 }
 
@@ -125,8 +129,7 @@ fn reach<W: Weights>(
     bring(row, outside, near, least, next)
 }
 
-/// Updates the entries of the nodes outside by the row of the node that came inside, and finds the
-/// place of the nearest of them.
+/// Does what [`reach`] does, once the row of `next` is written.
 fn bring(
     row: &[i64],
     outside: &[u32],

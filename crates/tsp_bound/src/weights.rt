@@ -1,5 +1,5 @@
-//! The weight of a pair under potentials: its cost at the scale and both potentials, less the
-//! multiplier of a fixed edge.
+//! The weight of a pair under potentials: its cost at the scale plus both potentials, less the
+//! multiplier of a fixed edge; as `tsp_theory::Weights` by rows, and as `BoxedWeights` by boxes.
 
 ghost use Rattle.tsp_bound.specs.Prelude.{ℕ, length, slice_index, pos, neg_ℤ, All, IsNode, most_multiplier, most_between, IsFromTo, least_at, IsMoved};
 ghost use Rattle.std.specs.Prelude.{◌≡◌, ◌≤◌, ◌<◌, ◌+◌};

@@ -1,5 +1,6 @@
-//! The bound of a leaf by a least 1-tree: by boxes of points where these suit its sets, else by
-//! rows.
+//! The bound of a leaf by a least 1-tree (`bound_of_trees`). It grows over boxes of points if these
+//! suit the sets of the leaf (`BoxedLeaf`), else over rows (`leaf_rows.rt`). Also the rounding of a
+//! bound at a scale, for `case_leaf.rt`.
 
 ghost use Rattle.tsp_branch.specs.Prelude.{All, false, length, pos, neg_ℤ, IfOk, true, ℕ, IsNode, IsFromTo, IsBoundSized, IsScale, IsLeastBound, weight_between, most_between, least_at, decided_number, most_combed, set_weight, lent_in, AreFewChanges, changes, decided, decisions_in};
 ghost use Rattle.std.specs.Int.{w64, int_wrap};
@@ -15,11 +16,11 @@ use tsp_cases::{Multipliers, SetPlace, sum_left};
 use tsp_io::Refused;
 use tsp_theory::{Costs, Region, Site, Weights, weight_in};
 
-/// The weights of a leaf, of which each node's potential less the multipliers of its sets isn't too
-/// large.
+/// A leaf whose weights a box can bound.
 ///
-/// What the sets of both nodes add is never negative, and avoided pairs only add: so each weight is
-/// at least the cost at the scale and the numbers of both nodes, but for those of taken pairs.
+/// The number of a node is its potential less the multipliers of its sets, and is at most 4 * 10^18
+/// in size. Shared sets and avoided pairs only add to a weight. So each weight, except that of a
+/// taken pair, is at least the cost at the scale plus the numbers of both nodes.
 #[derive(Drop)]
 pub(crate) struct BoxedLeaf<'a, C: Costs> {
     pub(crate) leaf: &'a CaseLeaf<'a, C>,
@@ -201,9 +202,10 @@ impl<C: Costs> BoxedWeights for BoxedLeaf<'_, C> {
     }
 }
 
-/// The bound of a leaf by least 1-trees: by rows where they are kept, else by boxes, if these suit
-/// its sets and its numbers aren't too large. It asks for what [`leaf_bound`](crate::leaf_bound)
-/// does.
+/// The bound of a leaf by a least 1-tree: by kept rows, by boxes, or by rows.
+///
+/// Kept rows come first. Without them, boxes are taken if they suit the sets of the leaf and its
+/// numbers aren't too large. The requirements are those of [`leaf_bound`](crate::leaf_bound).
 ///
 /// # Errors
 ///

@@ -14,16 +14,18 @@ use tsp_cases::{DECIDED, Decision, LeafContext, Multipliers, OpenCase, sum_left,
 use tsp_io::Refused;
 use tsp_theory::{Costs, Weights, add_at};
 
-/// A leaf: its case, the context that it shares with all others, and its numbers, which are good.
-/// For its weights also by node the potential less the multipliers of its sets, and the rows that
-/// are kept, if any, at these multipliers and under the decisions of the case.
+/// A leaf, whose numbers are good.
 #[derive(Drop)]
 pub(crate) struct CaseLeaf<'a, C: Costs> {
+    /// What it shares with all other leaves.
     pub(crate) context: &'a LeafContext<'a, C>,
+    /// Its decisions.
     pub(crate) case: &'a OpenCase<'a>,
     pub(crate) potentials: &'a [i64],
     pub(crate) multipliers: &'a [i64],
+    /// By node, the potential less the multipliers of the node's sets; place 0 isn't read.
     pub(crate) moved: &'a [i64],
+    /// A row of weights without potentials for each node, or no row if none are kept.
     pub(crate) kept: &'a [Vec<i64>],
     ghost is_case: { IsOpenCase (C.nodes context.now.costs.now) case.now },
     ghost direction: { case.now.by_node.directed ≡ context.now.cases.now.directed },
@@ -45,8 +47,8 @@ impl<C: Costs> CaseLeaf<'_, C> {
     ghost use Rattle.std.specs.Prelude.{◌≡◌, ◌+◌};
     ghost use Rattle.tsp_cases.specs.ListedCases.{as_leaf_numbers};
 
-    /// The bound of the leaf under the decisions of its case; `None` where it has none, since some
-    /// node has no link that these allow. A row is lent, which is written over.
+    /// The bound of the leaf under the decisions of its case; `None` if there is none, because they
+    /// allow no arc from some node. `row` is scratch space.
     ///
     /// # Errors
     ///
@@ -83,7 +85,7 @@ impl<C: Costs> CaseLeaf<'_, C> {
             (Some bound)) }
         ensures size { IfOk result (λ bound. IsBoundSized bound) }
     {
-        // The count shows that there are at most 100,000 nodes.
+        // For the contract of `count`: there are at most 100,000 nodes.
         self.context.costs.count();
         let taken = taken_back(&self.case.by_node.taken);
         let sum = LeafSum {

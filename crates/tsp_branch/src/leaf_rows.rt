@@ -1,9 +1,8 @@
-//! The weights of a leaf as rows, for its least 1-tree in `src/boxed.rt` or its least arcs in
-//! `src/case_leaf.rt`.
+//! The weights of a leaf for tours as rows: `CaseLeaf` as the traits `Weights` and `Growing`.
 //!
-//! The nodes of a pair cross a set once for each of them that it has, less twice where it has both.
-//! So each multiplier is taken off the potentials of its sets' nodes, and a row needs besides these
-//! only the sets that hold its node.
+//! An edge crosses a set if exactly one of its nodes is in it: the number of its nodes there, less
+//! 2 if both are. So each multiplier is subtracted from the potentials of the nodes in its sets,
+//! and a row only has to add it back, twice, at the nodes that share a set with its own node.
 
 ghost use Rattle.tsp_branch.specs.Prelude.{true, pos, neg_ℤ, IsFromTo, most_number};
 ghost use Rattle.std.specs.Prelude.{◌≡◌};
@@ -33,7 +32,7 @@ impl<C: Costs> CaseLeaf<'_, C> {
     ghost use Rattle.std.specs.Prelude.{◌≡◌, ◌<◌, ◌≤◌, ◌+◌, ◌+ℤ◌};
     ghost use Rattle.tsp_branch.specs.states.LeafRows.{AreExact, decided_by};
 
-    /// Whether boxes seem to take no more time than rows that aren't kept.
+    /// Whether boxes are expected to be at least as fast as rows that aren't kept.
     pub(crate) fn suit_boxes(&self) -> bool {
         suit_boxes(self.context.by_node, self.context.families.lent)
     }
@@ -57,8 +56,8 @@ impl<C: Costs> CaseLeaf<'_, C> {
         true
     }
 
-    /// A row of these as if no set had two nodes; and how large the weights between the node and
-    /// others are without combs.
+    /// Writes a row without what shared sets add. The contract also says how large the weights are
+    /// without families.
     fn fill_apart(&self, from: u32, row: &mut [i64])
         requires from { IsNode (C.nodes self.now.context.now.costs.now) from }
         requires room { length row.old ≡ C.nodes self.now.context.now.costs.now + 1 }

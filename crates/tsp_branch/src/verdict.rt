@@ -1,4 +1,5 @@
-//! Judges a certificate by branching: its families, then its branches, then its leaves.
+//! Judges a certificate by branching for tours: its families, then its branches, then its leaves.
+//! Also the estimates by which a leaf takes boxes or rows, and a tree keeps rows.
 
 ghost use Rattle.tsp_branch.specs.Prelude.{All, IfOk, false, length, IsFoundAt, DecideOnce, decided_number, marks_in, IsOpenCase, decisions_in, good_in, lent_in};
 ghost use Rattle.std.specs.Prelude.{◌≡◌, ◌≤◌, ◌<◌, ◌^◌, ◌+◌};
@@ -22,15 +23,15 @@ use tsp_cases::{
 use tsp_io::Refused;
 use tsp_theory::Costs;
 
-/// The verdict on a certificate by branching: the first family that isn't good, or the first branch
-/// that isn't on two nodes, or the first branch on a pair that is decided above it or given, or the
-/// first leaf that isn't good, or, where there is none of these, the bound. It is at most the
-/// length of every cycle that keeps the given decisions, and sums with it fit 128 bits. Where no
-/// leaf has a bound, no cycle keeps them.
+/// Judges a certificate by branching: its bound, or what is bad in it first.
 ///
-/// Where pairs have no direction the bound of a leaf is that of a least 1-tree, else that of the
-/// least link from each node. Where nodes have places, regions of them take the place of most
-/// pairs.
+/// In this order: a family that isn't good, a branch that isn't on two nodes, a branch on a pair
+/// that is decided above it or given, a leaf that isn't good. The bound is at most the length of
+/// every cycle that keeps the given decisions, and sums with it fit 128 bits. If no leaf has a
+/// bound, no cycle keeps them.
+///
+/// The bound of a leaf is that of a least 1-tree, or, if pairs have a direction, the sum of the
+/// least arcs from each node. If nodes have points, boxes of points spare most pairs.
 ///
 /// # Errors
 ///
@@ -155,19 +156,22 @@ fn judge_context<C: Costs>(alloc: Global, context: &LeafContext<C>) -> Result<Ju
 
 // ---- how long leaves seem to take by boxes and by rows
 
-// 20 leaves over 2,001 random points, without sets.
+// Times are in nanoseconds, as measured; they decide on speed alone, never on a bound.
+
+/// For each node of a leaf, by boxes without sets: 20 leaves over 2,001 random points.
 const NODE_BY_BOXES: u64 = 1_900;
 
-// Two sets of a node: a leaf over 5,000 points in 100 nested sets. A node meets some others, and
-// each time all its sets are compared with all of theirs.
+/// To compare two sets, by boxes: a leaf over 5,000 points in 100 nested sets. A node meets some
+/// others, and each time all its sets are compared with all of theirs.
 const COMPARED_SETS: u64 = 20;
 
-// 20 leaves over 2,000 random points: a pair of a kept row, and its cost, which is computed once.
+/// For each pair of a leaf, by kept rows: 20 leaves over 2,000 random points.
 const PAIR_BY_KEPT_ROWS: u64 = 2;
 
+/// For each pair, once, to compute the cost of a kept row: the same leaves.
 const PAIR_OF_COSTS: u64 = 11;
 
-// 20 leaves over 2,001 points in 88 sets each, by rows that aren't kept.
+/// For each pair of a leaf, by rows that aren't kept: 20 leaves over 2,001 points in 88 sets each.
 const PAIR_BY_ROWS: u64 = 9;
 
 /// Whether a tree of cases keeps rows: where it has several leaves, unless all of them seem to take
@@ -288,7 +292,7 @@ impl<C: Costs> LeafJudge for CycleJudge<'_, C> {
         numbers: &[i128],
         memory: &mut Scratch,
     ) -> Result<JudgedLeaf, Refused> {
-        // The context is lent again, since the case changes before the next leaf.
+        // Reborrowed: the leaf borrows the case, which changes before the next leaf.
         judge_leaf(alloc, &*self.context, case, numbers, memory)
     }
 }

@@ -9,10 +9,11 @@ ghost use Rattle.tsp_cases.specs.states.GoodFamilies.{AreSmallCrossings};
 use crate::family::Crossings;
 use crate::sets::SetPlace;
 
-/// Families of sets of nodes, all of them good, as a file lends them, and the numbers of each. Of a
-/// comb the handle is before the teeth, and a lone set is a handle without teeth.
+/// Families of sets of nodes, all of them good, as a file lends them, and how often cycles cross
+/// each. A comb has its handle first, then its teeth; a lone set is a handle without teeth.
 ///
-/// [`judge_families`](crate::judge_families) makes such a value.
+/// For tours, [`judge_families`](crate::judge_families) makes such a value. tsp_routing makes one
+/// too, of single sets of customers, and keeps how often plans cross these beside it.
 #[derive(Drop)]
 pub struct Families<'a> {
     pub nodes: u32,

@@ -1,4 +1,5 @@
-//! How often every cycle crosses the sets of a family at least, and one edge at most.
+//! How often a cycle crosses the sets of a family at least, and how many of them one edge crosses
+//! at most: by a shortest cycle through the at most 14 parts into which the sets divide the nodes.
 
 ghost use Rattle.std.specs.List.{All, Any};
 ghost use Rattle.std.specs.Prelude.{◌≤◌, pos, MatchOption, IfOk, IfSome, ◌≡◌, ◌<◌, ◌+◌, ◌^◌, ◌↔◌, ℕ, List, IsTrue, length, slice_index, if◌then◌else◌, ◌*◌, count_ones, bit_xor, ◌-◌};
@@ -14,9 +15,9 @@ const MOST_SETS: usize = 63;
 /// How often the sets of a family are crossed.
 #[derive(Clone, Copy, Debug, PartialEq, Eq)]
 pub struct Crossings {
-    /// The least number of times that a cycle crosses them.
+    /// How often each cycle crosses the sets, at least.
     pub least: u64,
-    /// The most of them that two nodes cross.
+    /// How many of the sets an edge crosses, at most.
     pub most: u64,
 }
 
@@ -78,7 +79,7 @@ const MOST_PARTS: usize = 14;
 pub struct Parts {
     /// A node of each part.
     pub firsts: Vec<u32>,
-    /// Of each node, from 0 on, a number whose bits say which sets have it.
+    /// For each node, from 0 on, a number whose bits say which sets contain it.
     pub memberships: Vec<u64>,
 }
 
@@ -261,7 +262,7 @@ fn least_sum(
 }
 
 /// The least length of the paths from a node through all others of a set to node 1, or `NO_PATH`
-/// where the set doesn't have the node. The node has 2 less as its number.
+/// if the node isn't in the set. `other` is the node's number less 2.
 fn best_path(between: &CostSquare, paths: &[u64], set: usize, other: usize) -> u64
     requires set { set < 2 ^ (between.now.nodes - 1) }
     requires other { other < between.now.nodes - 1 }

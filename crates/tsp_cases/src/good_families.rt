@@ -1,5 +1,5 @@
-//! Judges the families of a certificate for tours: the first that is bad, or how often cycles cross
-//! each.
+//! Judges the families of a certificate for tours: finds the first bad one, or how often cycles
+//! cross each. `mark_nodes`, which finds a node that a set has twice, is for routes too.
 
 ghost use Rattle.tsp_cases.specs.Prelude.{All, Any, ℕ, IsTrue, [], length, true, IfOk, IfSome, Bool, false, IsNode};
 ghost use Rattle.std.specs.Prelude.{◌≡◌, ◌≤◌, ◌<◌, ◌-◌, ◌+◌, ◌^◌, ◌↔◌};
@@ -17,10 +17,11 @@ use std::alloc::Global;
 use tsp_io::{Refused, filled, push};
 use tsp_theory::Costs;
 
-/// The families of a tree, or the first one that isn't good, counted from 1: one with a node twice
-/// in a set, or one that is neither a lone set nor a comb and that has more than 63 sets, or whose
-/// nodes make more than 14 parts or one alone. Two nodes are in one part where they are in the same
-/// sets.
+/// The families of a tree with their crossings, or the first bad family.
+///
+/// Two nodes are in the same part if they are in the same sets. A family is bad if it has a node
+/// twice in a set; or if it is neither a lone set nor a comb and has more than 63 sets, more than
+/// 14 parts, or only one. The first bad family is counted from 1.
 ///
 /// # Errors
 ///

@@ -1,4 +1,5 @@
-//! The judgements on families, cases and leaves, as enums, and a tree of cases that was judged good.
+//! What the judges of this crate return, on families, cases, leaves and one leaf, and
+//! `CheckedTree`, a tree of cases without a bad branch.
 
 ghost use Rattle.tsp_cases.specs.Prelude.{All, ℕ, [], true, length, are_whole, steps_of, IsScale};
 ghost use Rattle.std.specs.Prelude.{◌≡◌, ◌<◌, ◌-◌, ◌^◌, ◌∷◌};

@@ -1,5 +1,6 @@
-//! Rows of weights of all nodes that are kept from leaf to leaf: a leaf changes them by its
-//! multipliers and decisions alone.
+//! What the leaves of a certificate for tours share: `LeafContext`, which doesn't change;
+//! `Scratch`, which each leaf overwrites; and `KeptRows`, rows of weights that a leaf only updates,
+//! since they depend on its multipliers and decisions but not on its potentials.
 
 ghost use Rattle.tsp_cases.specs.Prelude.{Vec, w64, int_wrap, All, ℕ, ℤ, length, slice_index_or, IfOk, neg_ℤ, false, IsNode, IsFromTo, IsSymmetric, least_at};
 ghost use Rattle.std.specs.Prelude.{◌≡◌, ◌≤◌, ◌<◌, ◌+◌, ◌-◌, ◌≢◌, ◌+ℤ◌, ◌*ℤ◌};
@@ -20,12 +21,12 @@ use tsp_theory::{Costs, add_at};
 /// The most nodes of which rows are kept, in 32 MB.
 const MOST_KEPT: u32 = 2_000;
 
-/// For each node a row: its costs at the scale, each with what the sets of both nodes add, and
-/// where pairs have no direction with the number of a decision on both. Leaves share them, since a
-/// leaf mostly changes potentials alone, of which nothing is in the rows. A decision is marked
-/// once, at its branch, and taken back where its case ends. There are none where
-/// boxes take less time, or there are too many nodes. And by node what the multipliers of its sets
-/// take off its potential.
+/// A row of weights for each node, without potentials: the costs at the scale, what the sets that
+/// both nodes are in add, and, if pairs have no direction, the numbers of decided pairs.
+///
+/// Most leaves change only potentials, so they share these rows. A decision is marked once, at its
+/// branch, and unmarked when its case ends. There are no rows if boxes are expected to be faster,
+/// if there are more than 2,000 nodes, or if there is no memory for them.
 #[derive(Drop)]
 pub struct KeptRows {
     /// A row for each node, or none at all.
@@ -119,8 +120,9 @@ impl KeptRows {
         self.add_between(decision.pair, -number_of(decision));
     }
 
-    /// Leaves a leaf for the next open case, as the stack of decisions does: the marks after the
-    /// last taken pair are taken back, and that pair is marked as avoided.
+    /// Undoes the marks of decisions that the next open case doesn't have.
+    ///
+    /// These are the ones above the last taken pair of the stack; that pair is marked as avoided.
     pub fn leave(&mut self, directed: bool, stack: &[Decision])
         requires { (n : ℕ) × (family_count : ℕ) × (scale : ℤ) × (families : List (List (List ℕ))) × (cost : ℕ → ℕ → ℤ)
             × (given : List Decision)
@@ -167,7 +169,7 @@ impl KeptRows {
         add_in_row(&mut self.rows, second, first, number);
     }
 
-    /// Brings the rows to other multipliers.
+    /// Updates the rows to the multipliers of another leaf.
     pub fn bring_to(&mut self, multipliers: &Multipliers, by_node: &[Vec<SetPlace>])
         requires kept { (n : ℕ) × (scale : ℤ) × (cost : ℕ → ℕ → ℤ) × (marks : ℕ → ℕ → ℤ)
             × HoldsRows n (length multipliers.now.numbers.now) scale (lent_in multipliers.now.families.now) cost marks self.old
@@ -309,7 +311,7 @@ pub struct Scratch {
     pub multipliers: Vec<i64>,
     /// A row of weights.
     pub row: Vec<i64>,
-    /// Of each node its potential less the multipliers of its sets, as `fill_moved` writes it.
+    /// By node, its potential less the multipliers of its sets, as `fill_moved` writes it.
     pub moved: Vec<i64>,
     /// The rows that leaves share.
     pub kept: KeptRows,
@@ -322,8 +324,9 @@ impl Scratch {
     ghost use Rattle.tsp_cases.specs.states.Kept.{HoldsRows};
     ghost use Rattle.tsp_cases.specs.states.Kept.{IsScratch};
 
-    /// Memory for the leaves of a context. Rows are in it if they are to be kept, and there aren't
-    /// too many nodes.
+    /// Memory for the leaves of a certificate, with kept rows if `are_kept`.
+    ///
+    /// Without rows all the same if there are too many nodes, or too little memory.
     ///
     /// # Errors
     ///
@@ -353,15 +356,17 @@ impl Scratch {
 
 // ---- what all leaves of a certificate for tours share: costs, cases, families
 
-/// Costs, the cases, families, and the places of the sets of each node, for all leaves.
+/// What all leaves of a certificate for tours have in common.
 ///
-/// Where pairs have no direction the costs are the same in both, and the bound of a leaf is that of
-/// a least 1-tree; else it is that of the least link from each node.
+/// If pairs have no direction, costs are symmetric, and the bound of a leaf is that of a least
+/// 1-tree. If they have one, it is the sum of the least arcs from each node.
 #[derive(Drop)]
 pub struct LeafContext<'a, C: Costs> {
     pub costs: &'a C,
+    /// The tree of cases, with its scale.
     pub cases: &'a CheckedTree<'a>,
     pub families: &'a Families<'a>,
+    /// For each node from 0 on, the sets that contain it.
     pub by_node: &'a [Vec<SetPlace>],
     pub ghost some: { 3 ≤ C.nodes costs.now },
     pub ghost even: { cases.now.directed ≡ false → IsSymmetric (C.at costs.now) },

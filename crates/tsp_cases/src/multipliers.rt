@@ -1,4 +1,5 @@
-//! The families at a leaf, each with its multiplier, and families with a number for each.
+//! Families with a number for each: `Multipliers` are those of a leaf for tours, which aren't
+//! negative; `MultipliedFamilies` have any numbers, such as differences of multipliers.
 
 ghost use Rattle.std.specs.Prelude.{◌≡◌, length};
 ghost use Rattle.tsp_cases.specs.states.Sets.{AreSmallMultipliers, AreSmallDifferences};

@@ -1,4 +1,5 @@
-//! The decisions of the case that is open in a pass over the steps of a tree.
+//! A decision on a pair (`Decision`), and the decisions of the case that is open while a pass goes
+//! over the steps of a tree (`OpenCase`), as a stack and by node.
 
 ghost use Rattle.std.specs.Global.{Vec};
 ghost use Rattle.std.specs.Prelude.{◌≡◌, ◌≤◌, ◌<◌, ◌+◌, ◌-◌, ◌^◌, ℕ, [], length, slice_index_or, IfOk};
@@ -9,12 +10,14 @@ ghost use Rattle.tsp_cases.specs.states.OpenCases.{HaveOneMore, HaveOneLess};
 use std::alloc::Global;
 use tsp_io::{Refused, push, with_capacity};
 
-/// The decisions of the open case: those that are given for all cases, above them a stack of those
-/// of its branches, and all of them by node.
+/// The decisions of the open case.
 #[derive(Drop)]
 pub struct OpenCase<'a> {
+    /// The decisions of all cases, such as the fixed pairs of an instance.
     pub given: &'a [Decision],
+    /// The decisions of the branches above the open case, the last one last.
     pub stack: Vec<Decision>,
+    /// All of these, by node.
     pub by_node: NodeDecisions,
 }
 
@@ -99,9 +102,10 @@ impl<'a> OpenCase<'a> {
         false
     }
 
-    /// Leaves a leaf for the next open case: the decisions after the last taken pair are dropped,
-    /// and that pair is avoided. Where no pair is taken no case is open: the stack is emptied, and
-    /// the result is `false`.
+    /// Goes on from a leaf to the next case: `false` if that was the last one.
+    ///
+    /// The decisions above the last taken pair are dropped, and that pair is now avoided. If no
+    /// pair is taken, no case is left, and the stack is emptied.
     ///
     /// # Errors
     ///

@@ -1,4 +1,5 @@
-//! One pass over the steps of a tree of cases, which has each leaf judged by a `LeafJudge`.
+//! One pass over the steps of a tree of cases: each leaf is judged by a `LeafJudge`, one for tours
+//! in tsp_branch and one for routes in tsp_routing. Also the limits of a leaf's numbers, for tours.
 
 ghost use Rattle.tsp_cases.specs.Prelude.{All, [], length, IfOk, ℕ, ℤ, Bool, List, Option, true, IsTrue, pos, neg_ℤ, take, drop, IsNode, are_whole, IsFromTo, steps_of};
 ghost use Rattle.std.specs.Prelude.{◌≡◌, ◌+◌, ◌<◌, ◌^◌, ◌∷◌, ◌++◌, ◌↔◌};
@@ -19,9 +20,10 @@ use std::alloc::Global;
 use tsp_format::{MOST_POTENTIAL, TreeStep};
 use tsp_io::{Refused, filled};
 
-/// The least of what a judge finds of the leaves, or the first leaf that isn't good, counted from
-/// 1: one with an index past those of its numbers, or with numbers that aren't good. The judge's
-/// memory is lent at the given decisions, and the caller passes how many numbers a leaf has.
+/// Judges the leaves of a tree, in order: the least bound, or the first bad leaf.
+///
+/// A leaf is bad if one of its indexes is past the `count` numbers that it has, or if its numbers
+/// aren't good. The first bad leaf is counted from 1. `memory` starts out at the given decisions.
 ///
 /// # Errors
 ///
@@ -69,7 +71,7 @@ pub fn judge_leaves<J: LeafJudge>(
     Ok(JudgedLeaves::Bound(lowest))
 }
 
-/// Changes the numbers by the differences of a leaf, and judges it.
+/// Judges a leaf, whose numbers are those of the leaf before plus its `changes`.
 ///
 /// # Errors
 ///
@@ -149,7 +151,7 @@ pub trait LeafJudge {
             → All (IsDecision (places self.now)) (stack_of stack.now ++ given) → IsNextStack stack.now is_open next
             → holds self.now memory.new (stack_of next ++ given) };
 
-    /// The bound of the leaf with these numbers at the open case, where they are good.
+    /// Judges a leaf of the open case: its bound, or that its numbers are bad.
     ///
     /// # Errors
     ///
@@ -175,8 +177,9 @@ pub trait LeafJudge {
 
 // ---- the steps of one whole tree of cases, with the decisions of all cases
 
-/// The steps of one whole tree, each branch on a pair of different places, and the decisions of all
-/// its cases. Places are the nodes, for cycles.
+/// The steps of one whole tree, and the decisions of all its cases. A branch has two different
+/// numbers from 1 to `places`: for tours two nodes, for routes n + k, which is family k, and a
+/// limit.
 #[derive(Drop)]
 pub struct WholeTree<'a> {
     pub places: u32,
@@ -193,8 +196,8 @@ pub struct WholeTree<'a> {
 
 // ---- the numbers of a leaf
 
-/// Adds differences to the numbers at their indexes, from 1 on; `false` where an index is none of
-/// a number.
+/// Adds differences to the numbers at their indexes, which count from 1; `false` if an index is out
+/// of range.
 pub fn add_differences(numbers: &mut [i128], changes: &[(u32, i64)]) -> bool
     requires few { length changes.now < 2 ^ 32 }
     requires sizes { All (IsFromTo (neg_ℤ (pos (2 ^ 64))) (pos (2 ^ 64))) numbers.old }
@@ -231,8 +234,7 @@ pub fn copy_within(numbers: &[i128], least: i64, most: i64, copy: &mut [i64]) ->
 
 // ---- the lower one of two bounds of leaves, either of which may be missing
 
-/// The lower one of a bound and the lowest so far, where there are both; else the one that there
-/// is.
+/// The lower of two bounds, either of which may be missing.
 pub fn lower(lowest: Option<i128>, own: Option<i128>) -> Option<i128>
     ensures { IsLowest lowest own result }
 {
@@ -251,9 +253,11 @@ pub fn lower(lowest: Option<i128>, own: Option<i128>) -> Option<i128>
 /// says.
 const MOST_CROSSED: i64 = 900_000_000_000_000_000;
 
-/// Whether the numbers, of the nodes and then of the families, are good: no potential is above
-/// 10^15 in size, no multiplier is negative, and these, each times the most that two nodes cross of
-/// its family, sum to at most 9 * 10^17. Then they are copied.
+/// Copies the numbers of a leaf if they are good, and returns whether they are.
+///
+/// `numbers` has the potentials of the nodes, then the multipliers of the families. They are good
+/// if no potential is above 10^15 in size, no multiplier is negative, and the multipliers sum to at
+/// most 9 * 10^17, each times the most sets of its family that two nodes cross.
 pub fn judge_numbers(
     numbers: &[i128],
     families: &Families,

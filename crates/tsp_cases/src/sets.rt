@@ -29,7 +29,7 @@ fn add_to_nodes(row: &mut [i64], nodes: &[u32], number: i64)
     }
 }
 
-/// Of each node from 0 to the last one the places of the sets that have it.
+/// For each node from 0 on, the places of the sets that contain it.
 ///
 /// # Errors
 ///
@@ -86,7 +86,7 @@ pub struct SetPlace {
 
 // ---- what the sets of a node add to its row
 
-/// Adds to a row, at each node of the sets at these places, the number of the set's family twice.
+/// Adds to a row what shared sets add: twice the number of the family, at each node of the set.
 pub fn add_sets(row: &mut [i64], places: &[SetPlace], multiplied: &MultipliedFamilies)
     requires places { All (IsPlaceIn (lent_in multiplied.now.families.now)) places.now }
     requires row { length row.old ≡ multiplied.now.families.now.nodes + 1 }
@@ -193,7 +193,7 @@ pub fn fill_moved(row: &mut [i64], potentials: &[i64], ends: &[i64])
     }
 }
 
-/// Takes off each node of a set the number of the set's family.
+/// Subtracts from each node's entry the numbers of the families of its sets.
 pub fn take_multipliers(row: &mut [i64], multiplied: &MultipliedFamilies)
     requires { length row.old ≡ multiplied.now.families.now.nodes + 1 }
     ensures { (x : ℕ) → IsMoved (neg_ℤ (multipliers_at multiplied.now.numbers.now (lent_in multiplied.now.families.now) x))

@@ -16,8 +16,10 @@ use tsp_format::TreeStep;
 use tsp_io::Refused;
 use tsp_theory::Costs;
 
-/// The cases of a tree, or the first branch that isn't on two nodes, or, where there is none, the
-/// first branch on a pair that is decided above it or given, both counted from 1.
+/// The cases of a tree, or its first bad branch.
+///
+/// That is the first branch that isn't on two nodes, or, if all are, the first on a pair that is
+/// decided above it or given. Branches count from 1.
 ///
 /// # Errors
 ///
@@ -84,7 +86,7 @@ fn first_twice<C: Costs>(
 
 // ---- the first branch of a tree of cases whose first number is out of range
 
-/// The first branch whose first number isn't from a least to a most one, counted from 1.
+/// The first branch whose first number is out of range. Branches count from 1.
 pub fn first_bad_branch(steps: &[TreeStep], least: u32, most: u32) -> Option<usize>
     ensures { AreBranchesWithin least most (steps_of steps.now) result }
 {
@@ -112,9 +114,10 @@ pub struct BranchingCertificate<'a, C: Costs> {
     pub costs: &'a C,
     /// Whether pairs have a direction.
     pub directed: bool,
+    /// Potentials and multipliers are counts of 1 / scale.
     pub scale: i64,
-    /// The families, each by its sets, of a comb the handle before the teeth. A lone set is a
-    /// handle without teeth.
+    /// The families, each as its sets: of a comb the handle, then the teeth. A lone set is a handle
+    /// without teeth.
     pub families: &'a [Vec<Vec<u32>>],
     /// The decisions of all cases.
     pub given: &'a [Decision],

@@ -1,5 +1,5 @@
-//! A law that states values of a definition in `specs/`, worked out by hand: which cycles use a
-//! fixed pair, directed or not.
+//! A law that states values of `IsTourOf`, worked out by hand: which cycles use the fixed pairs of
+//! a TSP, and which those of an ATSP.
 
 ghost use Rattle.std.specs.Prelude.{[], ◌∷◌};
 ghost use Rattle.tsp_format.specs.declared.kinds.Kind.TheVariants as kinds;

@@ -1,5 +1,5 @@
-//! Instances: files of TYPE TSP, ATSP or CVRP, with the costs between their nodes. tsp_judge makes
-//! one of a file, and tsp_verdict judges tours and routes of it.
+//! Instances: files of TYPE TSP, ATSP or CVRP, with the costs between their nodes. `View` says
+//! where the costs come from, and `SymmetricView` does so if they have no direction.
 
 ghost use Rattle.tsp_cost.specs.Prelude.{IsTrue, unwrap_or, MatchResult, pos, neg_ℤ, IsNode, cost, nodes_of};
 ghost use Rattle.std.specs.Prelude.{◌≡◌, ◌≤ℤ◌};
@@ -54,12 +54,11 @@ impl Instance {
     ghost use Rattle.tsp_cost.specs.states.Views.{ComesFrom};
     ghost use Rattle.tsp_cost.specs.states.Views.{IsViewOf};
 
-    /// The instance that a file is, which is one problem, or why it is none, and the file itself,
-    /// unchanged.
+    /// The instance that a file of TYPE TSP, ATSP or CVRP holds. No memory is taken.
     ///
     /// # Errors
     ///
-    /// `NotInstance` for a file of TYPE TOUR, POTENTIALS or BRANCHES. No memory is taken.
+    /// `NotInstance` for a file of TYPE TOUR, POTENTIALS or BRANCHES, along with the file.
     pub fn of(f: File) -> Result<Instance, (CostFault, File)>
         ensures { MatchResult result
             (λ inst. (inst ≡ f) × IsTrue (is_instance f.kind) × IsProblem f)
@@ -231,11 +230,13 @@ impl Costs for Instance {
     }
 }
 
-/// The type that has the costs of an instance, where they are the same in both directions; else the
-/// first pair of nodes, the smaller one first, by rows, whose two costs differ.
+/// The costs of an instance, if they are the same in both directions.
 ///
-/// Costs from a node to itself aren't compared. No pair is looked at under a distance or a
-/// triangle.
+/// Costs from a node to itself aren't compared. Distances and triangles need no comparison at all.
+///
+/// # Errors
+///
+/// The first pair of nodes, the smaller one first, by rows, whose two costs differ.
 pub fn symmetric_view(inst: &Instance) -> Result<SymmetricView<'_>, (u32, u32)>
     ensures { MatchResult result
         (λ view. ShowsSymmetric inst.now view × IsSymmetric (cost inst.now))

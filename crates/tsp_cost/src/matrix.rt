@@ -1,4 +1,5 @@
-//! Costs that a full matrix lists, symmetric or not.
+//! Costs that a file lists: a full matrix (`Matrix`, or `EvenMatrix` if it is symmetric), or one
+//! half of a matrix (`Triangle`).
 
 ghost use Rattle.tsp_cost.specs.Prelude.{length, IsTrue, cells, is_listed, listed_cost, UnlistedHaveNoPlace};
 ghost use Rattle.std.specs.List.{All};
@@ -48,10 +49,11 @@ impl<'a> Matrix<'a> {
         Matrix { nodes, weights }
     }
 
-    /// These costs as symmetric ones, or the first pair, the smaller node first, by rows, whose two
-    /// costs differ.
+    /// These costs as symmetric ones. Costs from a node to itself aren't compared.
     ///
-    /// Every cost stays as it is, those from a node to itself too, which aren't compared.
+    /// # Errors
+    ///
+    /// The first pair, the smaller node first, by rows, whose two costs differ.
     pub fn even(self) -> Result<EvenMatrix<'a>, (u32, u32)>
         ensures { MatchResult result
             (λ even. (even_nodes even ≡ matrix_nodes self.entry)

@@ -1,5 +1,6 @@
-//! A valid file, with a call for each of its fields. tsp_read and `File::of` make one; tsp_cost,
-//! tsp_verdict and tsp_report take its fields.
+//! A valid file, with a call for each of its fields. tsp_read makes one from a text, `File::of`
+//! from a draft. Also the steps of `relayout.rt` that change the weights, such as the full matrix
+//! of a half.
 
 ghost use Rattle.tsp_file.specs.Prelude.{ℕ, ℤ, List, length, take, true, OnErr, OnOk, cells, IsNode, most_matrix_nodes, IsSymmetric, FullMatrix};
 ghost use Rattle.std.specs.Prelude.{◌≡◌, ◌≢◌, ◌≤◌, ◌<◌, ◌+◌, ◌*◌, ◌⊎◌};
@@ -86,7 +87,7 @@ impl File {
         Ok(File { draft: d })
     }
 
-    /// The file that a draft without a fault holds. No field is looked at.
+    /// The file of a draft that has no fault. The caller has to know that: nothing is checked.
     pub fn of_valid(d: Draft) -> File
         requires { fault_of (fields_of d) ≡ None }
         ensures { result ≡ fields_of d }
@@ -127,8 +128,11 @@ impl File {
         File { draft }
     }
 
-    /// This file, whose weights are half of a matrix in a layout, with the full matrix of their
-    /// costs; or the file as it was where memory was refused.
+    /// This file with a full matrix in place of half of one.
+    ///
+    /// # Errors
+    ///
+    /// The file as it was, if memory was refused.
     pub(crate) fn with_whole(self, from: Layout) -> Result<File, File>
         requires half { from ≢ FullMatrix }
         requires format { self.weight_format ≡ Some (Listed from) }

@@ -13,8 +13,8 @@ pub(crate) fn is_from_to(number: i64, low: i64, high: i64) -> bool
 
 /// Whether every number is from low to high.
 ///
-/// Numbers from 0 on have no more than all their bits together, so that these show for most files
-/// in one pass without a test for each number that all are in the range.
+/// No number from 0 on is more than the bitwise or of all. So one pass without a branch shows for
+/// most files that all numbers are in the range.
 pub(crate) fn are_from_to(numbers: &[i64], low: i64, high: i64) -> bool
     ensures { result ≡ list_all (is_from_to low high) numbers.now }
 {

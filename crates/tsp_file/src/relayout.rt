@@ -14,17 +14,23 @@ use thiserror::Error;
 use tsp_format::Layout;
 
 impl File {
-    /// This file with its weights in another layout, or why not and the file itself, unchanged.
+    /// This file with its weights in another layout.
     ///
     /// Every cost stays as it is, those from a node to itself too, and so does every field but the
     /// format and the weights. A file that has the layout already is returned as it is, and a full
     /// matrix becomes half of one in its own memory, so that no memory is taken. Half of a matrix
     /// becomes a full one in the memory of the full one alone.
     ///
-    /// Errors, the first that holds: `NotExplicit` where the weight type isn't EXPLICIT or there
-    /// are no weights; `NotSymmetric` with the first pair, the smaller node first, by rows, whose
-    /// two costs differ, for a layout that lists half of a matrix; `DiagonalLost` with the first
-    /// node whose cost to itself isn't 0, for a layout that lists no diagonal; `OutOfMemory`.
+    /// # Errors
+    ///
+    /// The first that applies, along with the file:
+    ///
+    /// - `NotExplicit`: the weight type isn't EXPLICIT, or there are no weights.
+    /// - `NotSymmetric`: the layout lists half of a matrix, and this is the first pair, the smaller
+    ///   node first, by rows, whose two costs differ.
+    /// - `DiagonalLost`: the layout lists no diagonal, and this is the first node whose cost to
+    ///   itself isn't 0.
+    /// - `OutOfMemory`.
     pub fn relayout(self, alloc: Global, to: Layout) -> Result<File, (RelayoutFault, File)>
         ensures { IsRelayout self to result }
     {
@@ -82,7 +88,7 @@ pub(crate) enum Way {
     Within,
     /// They are half of a matrix, in this layout, and the full one is made in its own memory.
     Across(Layout),
-    /// These are they, all anew.
+    /// They are listed in a new vector, this one.
     Anew(Vec<i64>),
 }
 

@@ -29,8 +29,9 @@ const ASKED: [Field; 14] = [
     Field::BranchPart,
 ];
 
-/// The fault at the end of a file, by its present fields and by its first incomplete section: the
-/// first row of the end table that applies, or `None`.
+/// The fault at the end of a file: the first row of the end table that applies.
+///
+/// It depends on which fields are present, and on the first incomplete section.
 ///
 /// A draft's lists are never incomplete, so that `None` is passed for one. A reader passes the
 /// first section in canonical order that has fewer places than it needs; of the lists of such

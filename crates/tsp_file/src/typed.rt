@@ -1,5 +1,6 @@
-//! The fields that a file of a TYPE always has, without `Option`: matrices, tours, routes,
-//! potentials, trees of cases.
+//! The fields that a file of a TYPE always has, without `Option`: tours, routes, potentials, trees
+//! of cases. Also `ListedWeights`, the weights of a matrix: their costs, whether they are
+//! symmetric, and what another layout would lose.
 
 ghost use Rattle.tsp_file.specs.Prelude.{All, length, cells, most_matrix_nodes, most_weight, FindsAsymmetric, FullMatrix};
 ghost use Rattle.std.specs.Prelude.{◌≡◌, ◌≤◌};
@@ -206,10 +207,13 @@ impl File {
 /// cache.
 const BLOCK: u32 = 64;
 
-/// The first pair of a full matrix, the smaller node first, by rows, whose two costs differ.
+/// The first pair of a full matrix whose two costs differ.
 ///
-/// It requires 1 to 5,000 nodes and the weights of a full matrix over them, each in its range. No
-/// memory is taken.
+/// The smaller node comes first; pairs are in the order of rows. No memory is taken.
+///
+/// # Requires
+///
+/// 1 to 5,000 nodes, and the weights of a full matrix over them, each in its range.
 pub fn first_asymmetric(nodes: u32, weights: &[i64]) -> Option<(u32, u32)>
     requires some { 1 ≤ nodes }
     requires most { nodes ≤ most_matrix_nodes }
@@ -297,8 +301,9 @@ impl<'a> ListedWeights<'a> {
         self.weights[Layout::FullMatrix.place(self.nodes, i, j)]
     }
 
-    /// The first pair, the smaller node first, by rows, whose two costs another layout can't hold
-    /// both.
+    /// The first pair of nodes whose two costs another layout can't both hold.
+    ///
+    /// The smaller node comes first; pairs are in the order of rows.
     pub(crate) fn lost_pair(&self, to: Layout) -> Option<(u32, u32)>
         ensures { MatchOption result (HoldsPairs to (costs_of self.now)) (λ pair. (to ≢ FullMatrix)
             × IsFirstAsymmetric self.now.nodes (costs_of self.now) pair) }

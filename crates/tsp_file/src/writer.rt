@@ -1,4 +1,5 @@
-//! Writes the canonical text of a file, field by field, by the files of `src/writer/`.
+//! Writes the canonical text of a file, field by field: keyword lines and trees of cases here,
+//! other sections in `writer/sections.rt`, weights in `writer/matrix.rt`.
 
 ghost use Rattle.tsp_file.specs.Prelude.{flat_map, option_map, None, map, [], Leaf, subset_row_of, subset_rows_of, step_of, steps_of};
 ghost use Rattle.std.specs.Prelude.{◌≡◌};
@@ -26,8 +27,10 @@ use tsp_io::{Piece, Watched, WriteFault, hand_over, put, put_number};
 
 /// Writes the canonical text of a file.
 ///
-/// At `Device` a prefix of the text was written, and nothing else. A writer that had failed before
-/// gets nothing. No memory is taken, and `OutOfMemory` is never returned. The file is a valid one.
+/// # Errors
+///
+/// `Device` if the writer fails, or had failed before: then a prefix of the text was written, and
+/// nothing else. No memory is taken, so `OutOfMemory` is never returned.
 pub fn write_file<W: Write>(
     _alloc: Global,
     f: &File,

@@ -1,4 +1,6 @@
-//! Which field the first word of a line names, or whether it is EOF, unknown or refused.
+//! The fields of a file (`Field`), the shape of their sections and values, and which field the
+//! first word of a line names (`Keyword`). Also all limits of files (`MOST_..`), as
+//! `specs/Limits.antt` has them.
 
 ghost use Rattle.std.specs.List.{find};
 ghost use Rattle.std.specs.Prelude.{◌≡◌, pos};
@@ -25,7 +27,7 @@ pub enum Keyword {
 }
 
 impl Keyword {
-    /// What this word is as a keyword, byte by byte.
+    /// The keyword that a word is; letters have to match in case.
     ///
     /// `FIXED_EDGES` and `FIXED_EDGES_SECTION` are one section.
     pub fn of(word: &[u8]) -> Keyword

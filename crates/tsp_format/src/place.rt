@@ -24,7 +24,7 @@ impl Layout {
         }
     }
 
-    /// The place of a cell (i, j) among the cells of a matrix over this many nodes, counted from 0.
+    /// The index of the cell (i, j) among the weights of a matrix, from 0 on.
     ///
     /// # Requires
     ///

@@ -12,11 +12,11 @@ pub trait Word: Copy + 'static {
 
     ghost values: { List Self };
 
-    /// Each value.
+    /// All values that have a word, in the order of the enum.
     fn all() -> &'static [Self]
         ensures { result.now ≡ values };
 
-    /// The word.
+    /// The word that TSPLIB 95 has for the value.
     fn word(self) -> &'static str
         ensures { result.now ≡ text self };
 

@@ -127,7 +127,7 @@ pub fn file_of_bytes(alloc: Global, bytes: &[u8]) -> Result<File, ReadError>
     }
 }
 
-/// Reads a file from a reader, as `read_from` does.
+/// Reads a file from a reader, in pieces. The error is that of [`read_from`], as a `ReadError`.
 ///
 /// # Errors
 ///

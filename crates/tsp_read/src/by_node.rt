@@ -57,8 +57,7 @@ impl PointList {
     ghost use Rattle.tsp_read.specs.states.Parts.{Takes, IsNodeOf};
     ghost use Rattle.tsp_read.specs.states.HeldParts.{shape_of_points, HoldsPoints};
 
-    /// The section with no words so far, in a file of `n` nodes, of points of the plane or in
-    /// space.
+    /// An empty list for a section of points, in a file of `n` nodes.
     ///
     /// # Errors
     ///
@@ -161,8 +160,7 @@ impl PointList {
         self.begun.is_some()
     }
 
-    /// Takes the number of a word that was read, where a group can begin with it. Returns
-    /// whether it was taken.
+    /// Takes a number as the node of a new group, and returns whether it was taken.
     #[inline(always)]
     pub fn push_read(&mut self, number: i64) -> bool
         ensures taken { result ≡ true → (in_space : Bool) (n : ℕ) (words : List (List ℕ))
@@ -187,8 +185,7 @@ impl PointList {
         }
     }
 
-    /// Takes the coordinate of a word that was read, where a group has begun. Returns whether
-    /// it was taken.
+    /// Takes a coordinate of the open group, and returns whether it was taken.
     #[inline(always)]
     pub fn push_coordinate(&mut self, coordinate: Decimal) -> bool
         ensures taken { result ≡ true
@@ -304,8 +301,7 @@ impl NumberList {
         }
     }
 
-    /// Takes the number of a word that was read, where a group can begin with it or end with it.
-    /// Returns whether it was taken.
+    /// Takes a number as the node or the value of a group. Returns whether it was taken.
     #[inline(always)]
     pub fn push_read(&mut self, number: i64) -> bool
         ensures taken { result ≡ true

@@ -1,12 +1,12 @@
-//! A run of numbers: the words of a matrix, of tours, of points or of numbers by node, each looked
-//! at once.
+//! The fast path of `Intake::take_items`: a run of plain numbers in a matrix, in tours, in points
+//! or in numbers by node.
 //!
-//! Most words there are plain numbers, and most of a matrix have a few digits. Such a word is read
-//! here where its end is found, so that it is not searched for first. Every other word, and every
-//! other part of a text but the ends of these lines, is left to `Intake::take_next`.
+//! Most words of these sections are plain numbers, in a matrix mostly of a few digits. They are
+//! read in a single pass, which finds the end of a word while it reads the digits. Everything else
+//! is left to `Intake::take_next`.
 //!
-//! Which list takes the words is found out once for a run. The loop over them is one for all lists,
-//! and has its counts in one place.
+//! A run looks up the list of its section once. One loop serves all lists (`RunList`), with the
+//! counts of lines and words in one struct (`Count`), so that they can stay in registers.
 
 ghost use Rattle.tsp_read.specs.Prelude.{option_map, ℕ, Bool, true, List, length, Some, IfSome, Ok, pos, slice_index_or, false, decimal_of, most_file_bytes, NumberWord, IsWhole};
 ghost use Rattle.std.specs.Prelude.{◌≡◌, ◌+◌, ◌<◌, ◌≤◌, ◌-◌};
@@ -411,8 +411,10 @@ impl Intake {
     ghost use Rattle.std.specs.Prelude.{ℕ, List};
     ghost use Rattle.tsp_read.specs.states.Onward.{IsReadTo};
 
-    /// Takes the words that can be taken so at the beginning of a text, where the open section is
-    /// of weights, tours, points or numbers by node, and returns the rest.
+    /// Takes a run of plain numbers at the front of a text, and returns the rest.
+    ///
+    /// The open section has to be one of weights, tours, points or numbers by node; if it isn't,
+    /// the whole text is the rest.
     pub(crate) fn take_run<'a>(&mut self, alloc: Global, text: &'a [u8]) -> &'a [u8]
         requires line { self.old.line + length text.now ≤ most_file_bytes + 1 }
         requires words { self.old.words + length text.now ≤ most_file_bytes }

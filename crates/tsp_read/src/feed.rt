@@ -10,8 +10,8 @@ use std::alloc::Global;
 use tsp_file::File;
 use tsp_format::MOST_FILE_BYTES;
 
-/// Reads on with a piece that the limit of a file's bytes doesn't cut: all that what follows can't
-/// change. What hasn't ended in it is kept. Returns whether an end line was taken.
+/// Reads a piece that is within the limit on the bytes of a file. An item that it cuts is kept for
+/// the next piece. Returns whether the line EOF was taken.
 fn read_on(
     intake: &mut Intake,
     begun: &mut Begun,
@@ -78,7 +78,7 @@ fn outcome(stage: Stage) -> Result<(), ReadError>
 
 /// A file that is read in pieces. How they are cut doesn't matter.
 ///
-/// Of the bytes only a line or a word is kept whose end has not come, at most 4,096.
+/// It keeps no bytes but those of a line or a word whose end hasn't come yet, at most 4,096.
 ///
 /// ```text
 /// let mut feed = Feed::new(alloc);
@@ -155,7 +155,7 @@ impl Feed {
         matches!(self.stage, Stage::Going)
     }
 
-    /// Takes the next piece, as `feed` does.
+    /// Takes the next piece of a text, with the error of [`feed`](Feed::feed) as a `ReadError`.
     ///
     /// # Errors
     ///

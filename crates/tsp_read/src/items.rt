@@ -1,5 +1,5 @@
-//! `Intake`: the fields read so far, with the numbers of the line and the word, and the items of a
-//! piece that it takes.
+//! Cuts a text into items: word lines, words of number lines, line ends. `Intake` takes the items
+//! of a piece and counts lines and words; `Begun` keeps an item that the end of a piece has cut.
 
 ghost use Rattle.tsp_read.specs.Prelude.{position, [], List, ℕ, length, IfOk, IfSome, Err, true, IsTrue, Ok, false, MatchOption, most_file_bytes, Item, NumberWord, line_item, WordLine, Line, is_end_line, line_number, words_before, word_number, without_start};
 ghost use Rattle.std.specs.Prelude.{◌≡◌, ◌+◌, ◌≤◌, ◌<◌, ◌∷◌};
@@ -125,8 +125,13 @@ impl Intake {
         }
     }
 
-    /// Takes all items of a piece that what follows can't change, and gives what is left of it; or
-    /// nothing where an end line was taken.
+    /// Takes the complete items of a piece, and returns the rest of the piece.
+    ///
+    /// An item is complete if no further byte can change it. `None` after the line EOF.
+    ///
+    /// # Errors
+    ///
+    /// The first fault, or that memory was refused.
     pub(crate) fn take_items<'a>(
         &mut self,
         alloc: Global,
@@ -260,9 +265,9 @@ impl<'a> Next<'a> {
 
 /// The next part of the rest of a text, and the rest after it; nothing at its end.
 ///
-/// `inside`: an item of the first line was taken already. `goes_on`: more bytes follow than are
-/// given, so that only what those can't change is taken. That holds whatever follows, of a line or
-/// word that isn't too long.
+/// `inside` says that an item of the first line was already taken. `goes_on` says that the text
+/// goes on after these bytes; then an item counts only if no further byte can change it, or if it
+/// is already too long.
 #[inline(always)]
 fn next_item(text: &[u8], inside: bool, goes_on: bool) -> Option<(Next<'_>, &[u8])>
     ensures items { MatchOption result (items_left goes_on inside text.now ≡ [])
@@ -404,8 +409,14 @@ impl Begun {
         let _ = self.bytes.try_extend_from_slice(filled);
     }
 
-    /// Goes on with what has begun, if anything has: takes it where its end is in the piece. What
-    /// is left of the piece is given, or nothing where an end line was taken.
+    /// Completes the item that was cut, if any, from the front of the next piece.
+    ///
+    /// It is taken if its end is in the piece. Returns the rest of the piece, or `None` after the
+    /// line EOF.
+    ///
+    /// # Errors
+    ///
+    /// The first fault, or that memory was refused.
     pub(crate) fn join<'a>(
         &mut self,
         intake: &mut Intake,
@@ -439,8 +450,13 @@ impl Begun {
         Ok(Some(rest))
     }
 
-    /// Takes what has begun as the last item of the text, if anything has. Returns whether it is
-    /// an end line.
+    /// Takes the item that was cut, if there is one, as the last of the text.
+    ///
+    /// Returns whether it is the line EOF.
+    ///
+    /// # Errors
+    ///
+    /// The first fault, or that memory was refused.
     pub(crate) fn take_last(&self, intake: &mut Intake, alloc: Global) -> Result<bool, ReadError>
         requires lines { most_lines intake.old self.now 0 ≤ most_file_bytes + 1 }
         requires words { most_words intake.old self.now 0 ≤ most_file_bytes }

@@ -1,9 +1,10 @@
 //! Reads TSPLIB 95 files: the file that bytes parse to, or the first fault and its place.
 //!
-//! It reads a text, a reader, or pieces ([`Feed`]), with one answer. Lines and words are cut from
-//! the bytes (`items`), a state takes each (`reading`), and a part takes the words of a section
-//! (`part`). The law [`canonical_texts_are_read_back`] says that the canonical text of a valid file
-//! parses to that file. It judges nothing, and opens no files.
+//! It reads a text, a reader, or pieces ([`Feed`]), and each gives the same answer. `items` cuts
+//! lines and words from the bytes, `digits` takes runs of numbers at once, `reading` puts them into
+//! the draft of a file, and `section_builder` holds the list of the open section. The law
+//! [`canonical_texts_are_read_back`] says that the canonical text of a valid file parses to that
+//! file. This crate judges nothing, and opens no files.
 //!
 //! As example_check does it, with a text in memory:
 //!

@@ -1,5 +1,5 @@
-//! A word line, cut into keyword, colon and value, and the word, number or section that its value
-//! is read as.
+//! A word line: its keyword, colon and value (`CutLine`), what the value is read as, and the field
+//! of the draft that it sets. Also `StepFault`, why a line or a word isn't taken.
 
 ghost use Rattle.tsp_read.specs.Prelude.{position, prefix_len, option_map, cond, drop, not, map, IfOk, is_blank, is_keyword_byte, is_too_long_to_keep, line_item, first_word, keyword_in, is_colon, begins, without_start, without_end, is_left_out, says_space};
 ghost use Rattle.std.specs.Prelude.{◌≡◌};
@@ -120,7 +120,7 @@ fn is_weight_kind_left_out(word: &[u8]) -> bool
         || word == b"SPECIAL".as_slice()
 }
 
-/// Whether the value of a keyword says that the nodes of the file have three coordinates each.
+/// Whether a keyword's line says that nodes have three coordinates.
 pub fn says_space(field: Field, value: &[u8]) -> bool
     ensures { result ≡ says_space field (first_word value.now) }
 {

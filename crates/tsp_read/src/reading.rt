@@ -1,4 +1,5 @@
-//! The state of the reader: the draft of the lines and words so far, and the section that is open.
+//! `Reading`, the state of the reader: the draft of the lines and words so far, and the section
+//! that is open. Also the end of a text, and `ReadError`, why a file wasn't read.
 
 ghost use Rattle.tsp_read.specs.Prelude.{[], List, Some, IfErr, OnOk, is_some, true, ℕ, Bool, IfOk, None, Err, shape_of, fields_in_order, spatial, fields_of, AreCut, Item, NumberWord, same_field, place_in, wants_more};
 ghost use Rattle.std.specs.Prelude.{◌≡◌};
@@ -383,7 +384,11 @@ impl Reading {
     }
 }
 
-/// The file of all that was read.
+/// The file that the whole text parses to.
+///
+/// # Errors
+///
+/// The fault of its end, or that memory was refused.
 pub(crate) fn completed(reading: Reading, alloc: Global) -> Result<File, ReadError>
     requires { IsReadFrom reading }
     ensures file { (earlier : List Item) → Holds reading earlier → AreCut earlier

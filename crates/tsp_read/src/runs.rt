@@ -151,8 +151,7 @@ impl GatheredNodes {
         GatheredNodes { list, room }
     }
 
-    /// Takes the number of a word that was read, where it is a node and the capacity suffices. The
-    /// result says whether it was taken.
+    /// Takes a number as a node, if there is room, and returns whether it was taken.
     #[inline(always)]
     pub fn push_read(&mut self, number: i64) -> bool
         ensures taken { result ≡ true → (n : ℕ) (words : List (List ℕ)) (word : List ℕ)
@@ -223,8 +222,9 @@ impl WeightList {
         Ok(())
     }
 
-    /// The list for a run of words, with capacity for this many more weights, or for all that the
-    /// matrix still needs; for none where memory was refused.
+    /// The list for a run of weights, with memory reserved for `more` of them.
+    ///
+    /// It reserves no more than the matrix still needs, and nothing if memory was refused.
     #[inline(always)]
     pub fn gather(&mut self, alloc: Global, more: usize) -> Gathered
         ensures { (n : ℕ) (words : List (List ℕ)) → HoldsWeights self.old n words
@@ -296,8 +296,7 @@ impl Gathered {
         Gathered { list, room }
     }
 
-    /// Takes the number of a word that was read, where it is a weight and the capacity suffices.
-    /// The result says whether it was taken.
+    /// Takes a number as a weight, if there is room, and returns whether it was taken.
     #[inline(always)]
     pub fn push_read(&mut self, weight: i64) -> bool
         ensures taken { result ≡ true → (n : ℕ) (words : List (List ℕ)) (word : List ℕ)

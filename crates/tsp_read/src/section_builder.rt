@@ -1,5 +1,6 @@
-//! The list that takes the words of a section, whichever its shape, and the one for
-//! FIXED_EDGE_POTENTIAL_SECTION. Reads a word as a node for all of them.
+//! `SectionBuilder`, the list that takes the words of the open section: one variant for each shape.
+//! Also what the lists share, reading a word as a node or an index, and the list for
+//! FIXED_EDGE_POTENTIAL_SECTION.
 
 ghost use Rattle.tsp_read.specs.Prelude.{ForSome, [], ℕ, List, IfOk, IfErr, pos, true, false, length, slice_index_or, Ok, None, IfSome, MatchResult, Some, whole_of, node, node_or_end, is_minus_one, IsWhole};
 ghost use Rattle.std.specs.Prelude.{◌≡◌, ◌≤◌, ◌∷◌, ◌++◌, ◌<◌, ◌-◌, ◌^◌};
@@ -40,8 +41,9 @@ impl SectionBuilder {
     ghost use Rattle.tsp_read.specs.states.Parts.{Takes};
     ghost use Rattle.tsp_read.specs.states.HeldParts.{shape_by, HoldsPart, HoldsShape};
 
-    /// A section of this shape with no words so far, in a file of `n` nodes, of which there are no
-    /// more than a file may have.
+    /// An empty list for a section of this shape, in a file of `n` nodes.
+    ///
+    /// `n` is at most the number of nodes that a file may have.
     ///
     /// # Errors
     ///
@@ -72,10 +74,10 @@ impl SectionBuilder {
     ///
     /// # Errors
     ///
-    /// - `Fault`: the first row that the word has at its place.
+    /// - `Fault`: the first fault of the word at its place, in the order of the rows of FaultRows.
     /// - `Memory`: memory was refused.
     ///
-    /// The part has the words from before then.
+    /// The list keeps the words from before.
     pub fn push(&mut self, alloc: Global, word: &[u8]) -> Result<(), StepFault>
         ensures takes { (n : ℕ) (words : List (List ℕ)) → HoldsPart self.old n words
             → Takes n (place_by (shape_by self.old) n words) word.now
@@ -149,7 +151,7 @@ pub(crate) fn new_node(seen: &[bool], word: &[u8]) -> Result<u32, LineFault>
     }
 }
 
-/// The node of a new group by the number that its word was read as, where it is one without a mark.
+/// The node with this number, to begin a group, if there is one without a mark.
 #[inline(always)]
 pub(crate) fn unmarked_node(seen: &[bool], number: i64) -> Option<u32>
     requires { length seen.now < 2 ^ 32 }

@@ -1,5 +1,5 @@
-//! The lists that take the words of COMB_SECTION, families of sets of nodes, and of BRANCH_SECTION, the
-//! steps of a tree of cases.
+//! The lists that take the words of a branches file: `FamilyList` those of COMB_SECTION, families
+//! of sets of nodes, and `TreeList` those of BRANCH_SECTION, the steps of a tree of cases.
 
 ghost use Rattle.std.specs.Prelude.{◌≡◌, [], ℕ, List, ◌∷◌, ◌++◌, ◌<◌, length, OnOk, IfErr, false, ◌≢◌, ◌+◌, ◌≤◌, None, Some, true};
 

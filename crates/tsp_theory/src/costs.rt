@@ -1,6 +1,5 @@
-//! The traits of costs between nodes, symmetric or not, regions of space, and the lengths of lists of
-//! nodes. tsp_cost implements the traits for instances; the bounds of tsp_bound, tsp_branch and
-//! tsp_routing take them.
+//! The traits of costs between nodes, symmetric or not, which tsp_cost implements for instances;
+//! and regions of space, and the lengths of lists of nodes.
 
 ghost use Rattle.std.specs.Bool.{OnTrue};
 ghost use Rattle.std.specs.List.{All};
@@ -18,8 +17,9 @@ use tsp_number::{Decimal, Point};
 
 /// Costs between the nodes 1 to `count`, which needn't be symmetric.
 ///
-/// Nodes may have places in space, so that a region says of all nodes in it at once that they are
-/// far. By itself no node has a place, nothing is known of a region, and the order is empty.
+/// Nodes may have places in space. Then a region can rule out all nodes in it at once, because they
+/// are too far away. By default no node has a place, nothing is known about a region, and the order
+/// is empty.
 pub trait Costs {
     ghost nodes: { Self → ℕ };
 
@@ -45,13 +45,13 @@ pub trait Costs {
         ensures low { neg_ℤ (pos most_weight) ≤ℤ result }
         ensures high { result ≤ℤ pos most_weight };
 
-    /// Whether the costs from a node are next to each other in memory, so that a whole row is read
-    /// at little more than the price of one cost. A help alone: nothing is promised of it.
+    /// Whether the costs from a node are next to each other in memory, so that a whole row costs
+    /// little more to read than a single entry. Only a hint: the contract promises nothing.
     fn has_rows(&self) -> bool {
         false
     }
 
-    /// Writes the costs from a node to each into a row, each at the place of its node.
+    /// Writes the row of a node: the costs from it to all nodes, at their places.
     ///
     /// # Requires
     ///
@@ -88,9 +88,10 @@ pub trait Costs {
         length + self.cost(from, *first)
     }
 
-    /// The nodes 2..n in an order in which neighbours are near each other, as a help alone: nothing
-    /// is promised of it. In a tree of boxes, where box v has the halves 2v and 2v + 1, the node at
-    /// place i is the leaf n - 1 + i.
+    /// An order of the nodes 2..n in which near nodes are close together.
+    ///
+    /// Only a hint: the contract promises nothing. In a tree of boxes in which box v has the halves
+    /// 2v and 2v + 1, the node at place i is the leaf n - 1 + i.
     ///
     /// # Errors
     ///

@@ -1,5 +1,5 @@
-//! A law that states values of the definitions in `specs/`, worked out by hand: which lists are
-//! cycles, the next node on one, and lengths.
+//! Laws that state values of the definitions in `specs/`, worked out by hand: which lists are
+//! cycles, lengths, good duals, least 1-trees and forests, and multipliers.
 
 ghost use Rattle.std.specs.Prelude.{◌≡◌, [], ◌∷◌, pos, ℤ, negsuc};
 ghost use Rattle.tsp_theory.specs.Bounds.{adjusted, triples_total, UsesEach, UsesNone, IsAdjustedBoundOf, AreGood, IsFirstBroken, IsDualBound, entry, total, IsLeastBound, weight_between, IsNodeBound};

@@ -18,8 +18,9 @@ pub trait Weights {
         ensures value { result ≡ nodes self.now }
         ensures most { result ≤ most_nodes };
 
-    /// Writes the weights between a node and each into a row, each at the place of its node; they
-    /// are below the largest number of 64 bits, and the same at each call.
+    /// Writes the row of a node: its weights to all nodes, at their places.
+    ///
+    /// Weights are less than `i64::MAX`, and the same at each call.
     ///
     /// # Requires
     ///
@@ -32,8 +33,9 @@ pub trait Weights {
         ensures small { (x : ℕ) → IsNode (nodes self.now) x
             → least_at row.new x <ℤ i64.MAX };
 
-    /// Writes the weights between a node and some others, each at the place of its node. What it
-    /// writes at other places says nothing.
+    /// Writes some entries of the row of a node: the weights to these nodes.
+    ///
+    /// Each is at the place of its node. Other places are undefined afterwards.
     ///
     /// # Requires
     ///
