@@ -36,7 +36,7 @@ pub struct OneTree {
 /// ones is returned, and the order of its edges, is free. With no multipliers the bound is that of
 /// the potentials alone, and no cycle is shorter. Source: M. Held and R. M. Karp, The
 /// traveling-salesman problem and minimum spanning trees, 1970; the tree is joined in rounds as
-/// O. Boruvka's, 1926, or grown as R. C. Prim's, 1957. Where nodes have places in space, regions of
+/// O. Boruvka's, 1926, or grown as R. C. Prim's, 1957. If nodes have places in space, regions of
 /// them take the place of most pairs, so that it asks for far fewer costs.
 ///
 /// # Requires

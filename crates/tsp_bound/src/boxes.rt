@@ -67,7 +67,7 @@ pub(crate) fn rename(labels: &mut [u32], list: &[u32])
 impl<'a, W: BoxedWeights> Labelled<'a, W> {
     ghost use Rattle.std.specs.Prelude.{IfSome};
 
-    /// Nodes that are a component each; none where the costs have no place for one.
+    /// Nodes that are a component each; none if the costs have no place for one.
     ///
     /// # Errors
     ///
@@ -315,7 +315,7 @@ pub struct NumberedSite {
 // ---- the nodes of an order with their points and numbers, next to each other in memory
 
 /// The nodes of an order with their places and numbers, next to each other in memory as a search
-/// reads them; none where a node has no place.
+/// reads them; none if a node has no place.
 ///
 /// # Errors
 ///
@@ -386,13 +386,13 @@ pub trait BoxedWeights: Weights {
         false
     }
 
-    /// The node with its place, where it has one.
+    /// The node with its place, if it has one.
     fn site(&self, node: u32) -> Option<Site>
         requires { IsNode (Self.nodes self.now) node }
         ensures { IfSome result (λ site. (site.node ≡ node)
             × IsSite (Self.nodes self.now) (place_of self.now) site) };
 
-    /// Whether each node whose place is in the region costs at least `least` from a node, where
+    /// Whether each node whose place is in the region costs at least `least` from a node, if
     /// that is known.
     fn is_beyond(&self, from: &Site, region: &Region, least: i64) -> bool
         requires { IsSite (Self.nodes self.now) (place_of self.now) from.now }
@@ -403,7 +403,7 @@ pub trait BoxedWeights: Weights {
             +ℤ (number_of self.now from.now.node +ℤ number_of self.now to))
             ≤ℤ unlowered self.now from.now.node to };
 
-    /// The weight between two nodes before it is lowered, where that is less than `most`; else a
+    /// The weight between two nodes before it is lowered, if that is less than `most`; else a
     /// number that isn't less.
     fn weight_within(&self, from: &NumberedSite, to: &NumberedSite, most: i64) -> i64
         requires from { IsNumberedSite (Self.nodes self.now) (place_of self.now) (number_of self.now) from.now }

@@ -17,7 +17,7 @@ const KEPT: usize = 12;
 
 /// How many columns of the rows are passed at a time.
 ///
-/// Where a matrix lists its lower half, a row is a column of memory: the lines that one row reads
+/// If a matrix lists its lower half, a row is a column of memory: the lines that one row reads
 /// are read again by the next ones.
 const COLUMNS: usize = 256;
 
@@ -60,7 +60,7 @@ fn put(links: &mut [Link], bounds: &mut [i64], link: Link)
     bounds[place] = lesser(dropped, left);
 }
 
-/// Takes a link into the list of its place, where it weighs less than one of these.
+/// Takes a link into the list of its place, if it weighs less than one of these.
 #[inline]
 fn take(links: &mut [Link], bounds: &mut [i64], link: Link)
     requires long { length links.old ≡ 12 * length bounds.old }

@@ -58,7 +58,7 @@ impl<'a> Potentials<'a> {
         self.weight_from(c, self.number(i), i, j)
     }
 
-    /// The weight between two nodes, where the caller passes the potential of the first one: a loop
+    /// The weight between two nodes, when the caller passes the potential of the first one: a loop
     /// over all pairs of one node reads it once.
     #[inline]
     pub(crate) fn weight_from<C: Costs>(&self, c: &C, own: i64, i: u32, j: u32) -> i64
@@ -89,7 +89,7 @@ impl<'a> Multipliers<'a> {
 
     /// The multipliers of these triples, each number a count of 1 / scale.
     ///
-    /// None where there are more than 100,000, a number isn't from 0 to 10^15, or the two nodes of
+    /// None if there are more than 100,000, a number isn't from 0 to 10^15, or the two nodes of
     /// a triple are the same, and only there. No memory is taken.
     pub fn new(l: &'a [(u32, u32, i64)]) -> Option<Multipliers<'a>>
         ensures { MatchOption result (AreMultipliers l.now → ⊥)
@@ -209,7 +209,7 @@ impl<'a> Duals<'a> {
 
     /// The duals of these numbers of rows and of columns, each a count of 1 / scale.
     ///
-    /// None where the scale isn't from 1 to 1,000,000, a number is larger than 10^15 in size, or
+    /// None if the scale isn't from 1 to 1,000,000, a number is larger than 10^15 in size, or
     /// there aren't as many numbers of rows as of columns; and only there.
     pub fn new(scale: i64, u: &'a [i64], v: &'a [i64]) -> Option<Duals<'a>>
         ensures { MatchOption result (AreDuals scale u.now v.now → ⊥)

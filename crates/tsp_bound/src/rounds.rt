@@ -18,7 +18,7 @@ use tsp_io::{Refused, filled, push, with_capacity};
 /// A least tree over the nodes 2..n: each pair leads from a part that no earlier pair leaves to a
 /// node outside it, and no such pair weighs less.
 ///
-/// All nodes are joined in rounds. Where that takes too many steps, a tree grows from node 2 pair
+/// All nodes are joined in rounds. If that takes too many steps, a tree grows from node 2 pair
 /// by pair. A row of one place more than there are nodes is lent for both.
 ///
 /// # Errors
@@ -62,7 +62,7 @@ fn nodes_from_two(alloc: Global, count: u32) -> Result<Vec<u32>, Refused>
     Ok(nodes)
 }
 
-/// The nodes 2..n in an order in which near ones are near each other, or from 2 on, where there is
+/// The nodes 2..n in an order in which near ones are near each other, or from 2 on, if there is
 /// no such order of as many nodes.
 ///
 /// # Errors
@@ -79,7 +79,7 @@ fn inner_order<W: BoxedWeights>(alloc: Global, w: &W) -> Result<Vec<u32>, Refuse
     nodes_from_two(alloc, w.count())
 }
 
-/// A least tree by rounds, and its weight; none where the order isn't one of all the nodes, or it
+/// A least tree by rounds, and its weight; none if the order isn't one of all the nodes, or it
 /// would take too many steps.
 ///
 /// # Errors
@@ -120,7 +120,7 @@ fn joined_over<W: BoxedWeights>(
 }
 
 /// The pairs of places of a least tree: over the boxes of the nodes, or by the least links of each
-/// where a node has no place. None where that would take too many steps, or where a node has no
+/// if a node has no place. None if that would take too many steps, or if a node has no
 /// place and rows are next to each other: a growth pair by pair is quicker then.
 fn pairs_over<W: BoxedWeights>(
     alloc: Global,
@@ -142,7 +142,7 @@ fn pairs_over<W: BoxedWeights>(
     if let Some(mut nodes) = Labelled::new(alloc, Placed::new(w, order, places))? {
         return grow_by_rounds(alloc, &mut nodes, most_boxes(w.count()));
     }
-    // Where rows are near, the growth pair by pair is quicker than a list for each node.
+    // If rows are near, the growth pair by pair is quicker than a list for each node.
     if w.has_rows() {
         return Ok(None);
     }
@@ -203,7 +203,7 @@ const MOST_ROUNDS: u32 = 32;
 
 /// Joins all nodes by pairs, for about as many steps of search as the budget allows. Each pair
 /// leads from a component of the pairs before it to another one, and no such pair weighs less. None
-/// where the budget is exhausted.
+/// if the budget is exhausted.
 ///
 /// Each node keeps the least link that a search found for it. Components only grow, so no pair from
 /// it to another component weighs less. A new search is needed only if the link no longer leads to
@@ -241,7 +241,7 @@ fn grow_by_rounds<P: Components>(
     Ok(None)
 }
 
-/// The least link of each node to another component; none where the budget is exhausted.
+/// The least link of each node to another component; none if the budget is exhausted.
 ///
 /// # Errors
 ///
@@ -271,7 +271,7 @@ fn first_links<P: Components>(
 }
 
 /// Searches for the links again that are better than the best of their components, and takes what
-/// it finds into account. False where the budget is exhausted.
+/// it finds into account. False if the budget is exhausted.
 fn search_again<P: Components>(
     nodes: &P,
     known: &mut Vec<Link>,
@@ -434,7 +434,7 @@ pub(crate) trait Components {
         ensures { result ≡ label_of self.now node };
 
     /// A link from the node that weighs no more than any to another component: the least of these,
-    /// but perhaps where none weighs less than `most`. None where there is none. It adds to `steps`
+    /// but perhaps if none weighs less than `most`. None if there is none. It adds to `steps`
     /// what the search took, which begins at the node `near`.
     fn nearest(&self, from: u32, near: u32, most: i64, steps: &mut u64) -> Option<Link>
         requires from { from < count_of self.now }
@@ -452,9 +452,9 @@ pub(crate) trait Components {
             → label_of self.new x ≡ label_at labels.now (label_of self.old x) };
 }
 
-// ---- the place of each node in an order, or nothing where the order does not have each node
+// ---- the place of each node in an order, or nothing if the order does not have each node
 
-/// The place of each node of 2..last in the list; none where the list doesn't have each of them
+/// The place of each node of 2..last in the list; none if the list doesn't have each of them
 /// just once. How the list was put in order needs no proof then.
 ///
 /// # Errors

@@ -113,7 +113,7 @@ impl<'a, W: BoxedWeights> Placed<'a, W> {
         }
     }
 
-    /// The best node, where it is known before weights are lowered: the nodes to which they are may
+    /// The best node, if it is known before weights are lowered: the nodes to which they are may
     /// be better.
     ///
     /// It adds to `steps` how many these are.
@@ -152,7 +152,7 @@ pub(crate) struct Best {
 /// The best of all nodes outside: from the leaf of a place on, each box above it and its other
 /// half.
 ///
-/// The node at the place `near` is looked at first, where it is outside: a good one leaves more
+/// The node at the place `near` is looked at first, if it is outside: a good one leaves more
 /// boxes alone. `steps` counts the boxes.
 fn nearest_from<W: BoxedWeights, S: Seen>(
     search: &Search<W, S>,
@@ -240,8 +240,8 @@ pub(crate) struct Search<'a, W: BoxedWeights, S: Seen> {
 impl<W: BoxedWeights, S: Seen> Search<'_, W, S> {
     /// Whether it is known that no node in the box `v` weighs less than `best`.
     ///
-    /// A node can weigh less only where its cost is less than what is left of `best` without the
-    /// numbers of both nodes: a comparison of squares, where a cost takes a root.
+    /// A node can weigh less only if its cost is less than what is left of `best` without the
+    /// numbers of both nodes: a comparison of squares, whereas a cost takes a root.
     #[inline(always)]
     pub(crate) fn is_left_alone(&self, v: usize, best: i64) -> bool
         requires { v < 2 * length self.now.order.now }
@@ -261,7 +261,7 @@ impl<W: BoxedWeights, S: Seen> Search<'_, W, S> {
         }
     }
 
-    /// The better of the best so far and the node at a place, where that is outside.
+    /// The better of the best so far and the node at a place, if that is outside.
     #[inline]
     pub(crate) fn better_of(&self, place: usize, best: Best) -> Best
         requires { place < length self.now.order.now }
@@ -323,7 +323,7 @@ pub(crate) trait Seen {
         requires { place < count_of self.now }
         ensures { result ≡ outside_of self.now place };
 
-    /// The box `v`, which holds the nodes outside below it; none where there is none of them.
+    /// The box `v`, which holds the nodes outside below it; none if there is none of them.
     fn area(&self, v: usize) -> Option<&Area>
         requires { v < 2 * count_of self.now }
         ensures { MatchOption result (area_of self.now v ≡ None)

@@ -164,7 +164,7 @@ fn bring(
     Some(nearest)
 }
 
-/// Takes `next` for the nearest node where it is nearer, and returns the least weight.
+/// Takes `next` for the nearest node if it is nearer, and returns the least weight.
 #[inline]
 fn take_nearer(near: &mut u32, least: &mut i64, next: u32, weight: i64) -> i64
     ensures nearer { IsNearer weight next near.old least.old near.new least.new }

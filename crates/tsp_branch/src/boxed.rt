@@ -31,7 +31,7 @@ pub(crate) struct BoxedLeaf<'a, C: Costs> {
 }
 
 impl<C: Costs> BoxedLeaf<'_, C> {
-    /// The cost at the scale and the numbers of both nodes, where the caller passes the cost.
+    /// The cost at the scale and the numbers of both nodes, when the caller passes the cost.
     #[inline]
     fn base(&self, cost: i64, from: u32, to: u32) -> i64
         requires from { IsNode (C.nodes self.now.leaf.now.context.now.costs.now) from }
@@ -51,7 +51,7 @@ impl<C: Costs> BoxedLeaf<'_, C> {
         leaf.context.cases.scale * cost + both
     }
 
-    /// The weight without decisions, where the caller passes what it is without the sets of both
+    /// The weight without decisions, when the caller passes what it is without the sets of both
     /// nodes.
     fn combed(&self, base: i64, from: u32, to: u32) -> i64
         requires from { IsNode (C.nodes self.now.leaf.now.context.now.costs.now) from }
@@ -233,7 +233,7 @@ pub(crate) fn bound_of_trees<C: Costs>(
 
 // ---- the sets that two nodes are both in
 
-/// The most that the multipliers of a node's sets may come to where boxes bound its weights.
+/// The most that the multipliers of a node's sets may come to if boxes bound its weights.
 const MOST_TAKEN: i64 = 3_000_000_000_000_000_000;
 
 /// Whether two places are the same.

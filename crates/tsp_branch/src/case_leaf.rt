@@ -69,8 +69,8 @@ impl<C: Costs> CaseLeaf<'_, C> {
         Ok(Some(bound))
     }
 
-    /// The bound of a least 1-tree, where pairs have no direction: by rows where they are kept,
-    /// else by boxes where nodes have places.
+    /// The bound of a least 1-tree, if pairs have no direction: by rows if they are kept,
+    /// else by boxes if nodes have places.
     ///
     /// # Errors
     ///
@@ -95,7 +95,7 @@ impl<C: Costs> CaseLeaf<'_, C> {
         bound_of_trees(alloc, self, row, sum)
     }
 
-    /// The bound of the least link from each node; `None` where some node has no link that the
+    /// The bound of the least link from each node; `None` if some node has no link that the
     /// decisions allow.
     fn bound_by_rows(&self, row: &mut [i64]) -> Option<i128>
         requires directed { self.now.context.now.cases.now.directed ≡ true }
@@ -176,7 +176,7 @@ pub(crate) fn change_row(row: &mut [i64], decisions: &[Decision], from: u32)
     }
 }
 
-/// Changes the row of a node by a decision, where its pair has that node.
+/// Changes the row of a node by a decision, if its pair has that node.
 ///
 /// What two decisions on one pair come to may go past 64 bits on the way, so sums are taken in
 /// their remainders.
@@ -186,7 +186,7 @@ fn change(row: &mut [i64], decision: Decision, from: u32)
 {
     let (first, second) = decision.pair;
     let number = if decision.taken { -DECIDED } else { DECIDED };
-    // Nothing is added at the other node where the row is of neither: a branch that is seldom
+    // Nothing is added at the other node if the row is of neither: a branch that is seldom
     // guessed right would cost more.
     let other = if first == from { second } else { first };
     let is_at = first == from || second == from;
@@ -228,7 +228,7 @@ pub(crate) struct LeafSum {
     ghost size: { IsFromTo (neg_ℤ (pos (2 ^ 99))) (pos (2 ^ 99)) given_back },
 }
 
-// ---- the bound of a leaf by the least arc from each node, where pairs have a direction
+// ---- the bound of a leaf by the least arc from each node, if pairs have a direction
 
 /// Weights by rows, and the decisions of a case, by which a link is allowed or not. Pairs have a
 /// direction.
@@ -246,7 +246,7 @@ impl<W: Weights> AllowedRows<'_, W> {
     ghost use Rattle.tsp_format.specs.Limits.{most_nodes};
 
     /// The bound of a leaf that has these weights: the least whole number that at the scale is no
-    /// less than the least weights from all nodes plus a sum. `None` where the decisions allow no
+    /// less than the least weights from all nodes plus a sum. `None` if the decisions allow no
     /// link from some node: then no cycle keeps them.
     ///
     /// # Requires
@@ -281,7 +281,7 @@ impl<W: Weights> AllowedRows<'_, W> {
         Some(sum)
     }
 
-    /// The least weight of the allowed links from a node; `None` where no link is allowed.
+    /// The least weight of the allowed links from a node; `None` if no link is allowed.
     fn least_from(&self, from: u32, row: &mut [i64]) -> Option<i64>
         requires from { IsNode (W.nodes self.now.weights.now) from }
         requires room { length row.old ≡ W.nodes self.now.weights.now + 1 }
@@ -348,8 +348,8 @@ fn close_all(row: &mut [i64], decisions: &[Decision], from: u32)
     }
 }
 
-/// Closes in the row of a node what a decision doesn't allow: where the pair is taken and starts
-/// at the node, all other links, and where it starts elsewhere, the link to its second node; where
+/// Closes in the row of a node what a decision doesn't allow: if the pair is taken and starts
+/// at the node, all other links, and if it starts elsewhere, the link to its second node; if
 /// it is avoided and starts at the node, that link.
 fn close(row: &mut [i64], decision: Decision, from: u32)
     requires { decision.pair.1 < length row.old }

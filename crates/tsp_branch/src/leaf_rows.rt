@@ -19,7 +19,7 @@ use tsp_cases::{
 use tsp_io::Refused;
 use tsp_theory::{Costs, Weights, weight_in};
 
-/// Whether a number of a node is at most as large as that on a decided pair, as it has to be where
+/// Whether a number of a node is at most as large as that on a decided pair, as it has to be if
 /// boxes bound the weights.
 fn is_number(number: i64) -> bool
     ensures { result ≡ true → IsFromTo (neg_ℤ (pos most_number)) (pos most_number) number }
@@ -75,7 +75,7 @@ impl<C: Costs> CaseLeaf<'_, C> {
         shift_row(row, self.moved, weight_in(self.moved, from));
     }
 
-    /// What is left in 64 bits of a weight from a node as if no set had two nodes, where the caller
+    /// What is left in 64 bits of a weight from a node as if no set had two nodes, if the caller
     /// passes what is left of the node's potential; and how large the weight is without combs.
     #[inline]
     fn weight_apart(&self, own: i64, from: u32, to: u32) -> i64

@@ -37,7 +37,7 @@ use tsp_theory::Costs;
 ///
 /// Out of memory, of which it takes some for each node, each comb, each node of a set, and
 /// each decision of a case. For trees of several leaves it also takes some for each pair of up to
-/// 2,000 nodes, where there is any.
+/// 2,000 nodes, if there is any.
 pub fn judge_branches<C: Costs>(
     alloc: Global,
     tree: &BranchingCertificate<C>,
@@ -68,7 +68,7 @@ pub fn judge_branches<C: Costs>(
 /// The verdict on a certificate by branching.
 #[derive(Drop)]
 pub enum BranchVerdict {
-    /// The bound: no cycle that keeps the given decisions is shorter. `None` where no leaf has one:
+    /// The bound: no cycle that keeps the given decisions is shorter. `None` if no leaf has one:
     /// then no cycle keeps them.
     Bound(Option<i128>),
     /// The first family that isn't good, counted from 1.
@@ -84,24 +84,24 @@ pub enum BranchVerdict {
 // ---- the bound of a certificate by branching
 
 /// The bound of cases: the least of the bounds of the leaves, which is at most the length of every
-/// cycle that keeps the given decisions, or none where no leaf has one. Or the first leaf that is
+/// cycle that keeps the given decisions, or none if no leaf has one. Or the first leaf that is
 /// not good: one with an index past those of the nodes and the families, with a potential above
 /// 10^15 in size, with a negative multiplier, or with multipliers that sum to more than 9 * 10^17,
-/// where each counts as often as two nodes cross its family at most.
+/// if each counts as often as two nodes cross its family at most.
 ///
-/// Where pairs have no direction the bound of a leaf is that of a least 1-tree, else that of the
+/// If pairs have no direction the bound of a leaf is that of a least 1-tree, else that of the
 /// least link from each node.
 ///
 /// # Requires
 ///
-/// Three or more nodes, costs that are the same in both directions where pairs have none, and
+/// Three or more nodes, costs that are the same in both directions if pairs have none, and
 /// families and cases of these nodes.
 ///
 /// # Errors
 ///
 /// Out of memory, of which it takes some for each node, each comb, each node of a set, and
 /// each decision of a case. For trees of several leaves it also takes some for each pair of up to
-/// 2,000 nodes, where there is any.
+/// 2,000 nodes, if there is any.
 pub fn branch_bound<C: Costs>(
     alloc: Global,
     costs: &C,
@@ -174,7 +174,7 @@ const PAIR_OF_COSTS: u64 = 11;
 /// For each pair of a leaf, by rows that aren't kept: 20 leaves over 2,001 points in 88 sets each.
 const PAIR_BY_ROWS: u64 = 9;
 
-/// Whether a tree of cases keeps rows: where it has several leaves, unless all of them seem to take
+/// Whether a tree of cases keeps rows: if it has several leaves, unless all of them seem to take
 /// less time by boxes.
 fn keeps_rows<C: Costs>(context: &LeafContext<C>) -> bool {
     let steps = context.cases.steps.len() as u64;
@@ -196,7 +196,7 @@ fn keeps_rows<C: Costs>(context: &LeafContext<C>) -> bool {
 /// node and sets of families.
 ///
 /// What boxes take without sets isn't counted: it is more than by rows only below some 200 nodes,
-/// where either takes less than a millisecond.
+/// if either takes less than a millisecond.
 pub(crate) fn suit_boxes(by_node: &[Vec<SetPlace>], families: &[Vec<Vec<u32>>]) -> bool {
     let rows = PAIR_BY_ROWS.saturating_mul(squared(by_node.len() as u64));
     time_of_comparing(by_node) <= rows.saturating_add(steps_of_sets(families))
@@ -240,7 +240,7 @@ fn steps_of_family(sets: &[Vec<u32>]) -> u64 {
 
 // ---- the judge of the leaves of a certificate for tours
 
-/// Judges leaves by least 1-trees, or by the least links where pairs have a direction.
+/// Judges leaves by least 1-trees, or by the least links if pairs have a direction.
 #[derive(Drop)]
 pub(crate) struct CycleJudge<'a, C: Costs> {
     pub(crate) context: &'a LeafContext<'a, C>,
@@ -297,7 +297,7 @@ impl<C: Costs> LeafJudge for CycleJudge<'_, C> {
     }
 }
 
-/// The bound of the leaf with these numbers, where they are good.
+/// The bound of the leaf with these numbers, if they are good.
 ///
 /// # Errors
 ///

@@ -95,7 +95,7 @@ pub fn examples_of_verdicts()
     ensures sides { (changes : List (ℕ × ℤ)) → TwiceAt false [] (on_both_sides changes) 4 }
 {}
 
-/// Branches that are bad, where they may be on a pair of four nodes, and where they may be on one
+/// Branches that are bad, if they may be on a pair of four nodes, and if they may be on one
 /// of two families of them; and which branches a file may have.
 pub fn examples_of_bad_branches()
     ensures family { IsFirstBadBranch 1 4 (branches 1 2 5 1) 2 }
@@ -174,7 +174,7 @@ pub fn examples_of_links()
     ensures past_the_last { ¬ IsAllowed 3 [] 2 4 }
 {}
 
-/// Bounds by rows: the costs of the least allowed links, and none where a node has no link. The
+/// Bounds by rows: the costs of the least allowed links, and none if a node has no link. The
 /// arcs of node 1 go to the nodes 2 and 3, which two taken arcs enter elsewhere.
 pub fn examples_of_rows()
     ensures none_left { HasNoLink 3 (with_pair 3 2 ∷ with_pair 2 3 ∷ []) }

@@ -21,8 +21,8 @@ pub struct Crossings {
     pub most: u64,
 }
 
-/// How often the sets of a family are crossed. `None` where there are more than 63 of them, or
-/// where they divide the nodes into more than 14 parts: two nodes are in one part exactly where
+/// How often the sets of a family are crossed. `None` if there are more than 63 of them, or
+/// if they divide the nodes into more than 14 parts: two nodes are in one part exactly if
 /// they are in the same sets.
 ///
 /// # Errors
@@ -56,7 +56,7 @@ pub fn family_crossings(alloc: Global, family: &NodeSets) -> Result<Option<Cross
     Ok(Some(Crossings { least, most }))
 }
 
-/// The largest of some numbers, 0 where there is none.
+/// The largest of some numbers, 0 if there is none.
 fn largest(numbers: &[u32]) -> u32
     ensures { IsLargest numbers.now result }
 {
@@ -83,8 +83,8 @@ pub struct Parts {
     pub memberships: Vec<u64>,
 }
 
-/// The parts of the nodes: two nodes are in one part exactly where they are in the same sets.
-/// `None` where there are more than 14.
+/// The parts of the nodes: two nodes are in one part exactly if they are in the same sets.
+/// `None` if there are more than 14.
 ///
 /// # Errors
 ///
@@ -109,7 +109,7 @@ pub fn parts_of(alloc: Global, family: &NodeSets) -> Result<Option<Parts>, Refus
     }
 }
 
-/// A node of each membership, from node 1 on. `None` where there are more than 14.
+/// A node of each membership, from node 1 on. `None` if there are more than 14.
 fn firsts_of(alloc: Global, memberships: &[u64]) -> Result<Option<Vec<u32>>, Refused>
     requires { length memberships.now < 2 ^ 32 }
     ensures firsts { IfOk result (λ found. MatchOption found
@@ -234,7 +234,7 @@ pub fn least_cycle(alloc: Global, between: &CostSquare) -> Result<u64, Refused>
 
 // ---- the least lengths of paths through sets of nodes, by dynamic programming
 
-/// The number where there is no path.
+/// The number if there is no path.
 const NO_PATH: u64 = 1_152_921_504_606_846_976;
 
 /// The least of a number and of the sums of two lists, from a place of each on.

@@ -56,7 +56,7 @@ pub fn judge_families<'a, C: Costs>(
     }))
 }
 
-/// The numbers of the family that sets are, the handle first; `None` where they are none, or one
+/// The numbers of the family that sets are, the handle first; `None` if they are none, or one
 /// has a node twice.
 ///
 /// # Errors
@@ -179,8 +179,8 @@ fn is_tooth(handles: &[u32], mark: u32, nodes: &[u32]) -> bool
 
 // ---- the crossings of families that are neither a lone set nor a comb
 
-/// The numbers of sets that are neither a lone set nor a comb. `None` where one has a node twice,
-/// where there are more than 63, or where their nodes make more than 14 parts or one alone.
+/// The numbers of sets that are neither a lone set nor a comb. `None` if one has a node twice,
+/// if there are more than 63, or if their nodes make more than 14 parts or one alone.
 ///
 /// # Errors
 ///
@@ -199,7 +199,7 @@ fn other_crossings(alloc: Global, family: &NodeSets) -> Result<Option<Crossings>
         return Ok(None);
     };
     most_costs_are_unique();
-    // Where no two nodes cross a set, all are in one part.
+    // If no two nodes cross a set, all are in one part.
     if own.most == 0 {
         return Ok(None);
     }
@@ -226,7 +226,7 @@ fn have_each_once(alloc: Global, family: &NodeSets) -> Result<bool, Refused>
 
 // ---- marks by node, by which a node that comes twice in sets is found
 
-/// Marks the nodes of a set. `false` where one has the mark or appears twice: the nodes before it
+/// Marks the nodes of a set. `false` if one has the mark or appears twice: the nodes before it
 /// are marked then.
 pub fn mark_nodes(marks: &mut [u32], mark: u32, nodes: &[u32]) -> bool
     requires { All (λ node. node < length marks.old) nodes.now }

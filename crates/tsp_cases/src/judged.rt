@@ -35,7 +35,7 @@ pub enum JudgedCases<'a> {
 #[derive(Drop)]
 pub enum JudgedLeaves {
     /// The least bound of a leaf: no solution that keeps the given decisions is shorter. `None`
-    /// where no leaf has one: then no solution keeps them.
+    /// if no leaf has one: then no solution keeps them.
     Bound(Option<i128>),
     /// The first leaf that isn't good, counted from 1.
     BadLeaf(usize),
@@ -44,7 +44,7 @@ pub enum JudgedLeaves {
 /// The judgement on a leaf: its bound, or that its numbers are bad.
 #[derive(Drop)]
 pub enum JudgedLeaf {
-    /// Its numbers are good, and this is its bound. `None` where it has none: then no solution
+    /// Its numbers are good, and this is its bound. `None` if it has none: then no solution
     /// keeps its decisions.
     Found(Option<i128>),
     /// It has a number that isn't good.

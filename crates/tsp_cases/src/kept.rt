@@ -48,11 +48,11 @@ impl KeptRows {
     ghost use Rattle.tsp_cases.specs.states.OpenCases.{IsDecision, IsNextStack, marks_in, stack_of};
     ghost use Rattle.tsp_cases.specs.states.Kept.{HoldsRows, AreTwoNodes, added_between};
 
-    /// The rows where all multipliers are 0, under the given decisions, if they are to be kept.
+    /// The rows if all multipliers are 0, under the given decisions, if they are to be kept.
     ///
     /// # Errors
     ///
-    /// Out of memory, where there is none for a number of each comb and each node.
+    /// Out of memory, if there is none for a number of each comb and each node.
     pub(crate) fn new<C: Costs>(
         alloc: Global,
         context: &LeafContext<C>,
@@ -93,7 +93,7 @@ impl KeptRows {
         }
     }
 
-    /// Marks a decision, where pairs have no direction: adds its number between both nodes.
+    /// Marks a decision, if pairs have no direction: adds its number between both nodes.
     pub fn mark(&mut self, directed: bool, decision: Decision)
         requires { (n : ℕ) × (family_count : ℕ) × (scale : ℤ) × (families : List (List (List ℕ))) × (cost : ℕ → ℕ → ℤ)
             × (case : List Decision) × HoldsRows n family_count scale families cost (marks_in directed case) self.old
@@ -198,7 +198,7 @@ impl KeptRows {
     }
 }
 
-/// The rows of all nodes without combs; none where they aren't to be kept, there are too many
+/// The rows of all nodes without combs; none if they aren't to be kept, there are too many
 /// nodes, or no memory is left.
 fn rows_if_any<C: Costs>(alloc: Global, context: &LeafContext<C>, are_kept: bool) -> Vec<Vec<i64>>
     ensures { AreRowsIfAny (C.nodes context.now.costs.now) (C.at context.now.costs.now)

@@ -65,7 +65,7 @@ pub fn leaf_bounds_bound_cycles()
     cycles_cross_families();
 }
 
-/// Each link of a cycle is allowed by the decisions that the cycle keeps; so where no link from
+/// Each link of a cycle is allowed by the decisions that the cycle keeps; so if no link from
 /// some node is allowed, no cycle keeps them.
 pub fn links_are_allowed()
     ensures links { LinksAreAllowed }
@@ -112,7 +112,7 @@ pub fn cases_bound_cycles()
     ensures { CasesBoundCycles }
 {}
 
-/// Where no cycle keeps the decisions of a leaf, whichever leaf, none keeps the given ones.
+/// If no cycle keeps the decisions of a leaf, whichever leaf, none keeps the given ones.
 pub fn cases_have_no_cycle()
     ensures { CasesHaveNoCycle }
 {}
@@ -147,7 +147,7 @@ pub fn stacks_hold_cases()
 {}
 
 /// The bound of a certificate is at most the length of every cycle that keeps the given decisions,
-/// and of every tour where the fixed pairs are given. Where no leaf has a bound there is no such
+/// and of every tour if the fixed pairs are given. If no leaf has a bound there is no such
 /// cycle or tour.
 pub fn case_trees_bound_cycles()
     ensures cycles { CaseTreesBoundCycles }
@@ -216,7 +216,7 @@ pub fn unlike_nodes_need_parts()
     ensures { UnlikeNodesNeedParts }
 {}
 
-/// Two nodes have one membership exactly where they are in the same sets.
+/// Two nodes have one membership exactly if they are in the same sets.
 ///
 /// No code calls it. It shows a reader that the numbers by which code finds parts tell parts apart.
 pub fn memberships_tell_sets()

@@ -151,7 +151,7 @@ fn is_same(directed: bool, pair: (u32, u32), other: (u32, u32)) -> bool
 /// For each node the decisions that bear on its row, and all that take their pair, the last one
 /// last.
 ///
-/// A decision bears on the row of its first node, and where pairs have no direction on that of its
+/// A decision bears on the row of its first node, and if pairs have no direction on that of its
 /// second one too.
 #[derive(Drop)]
 pub struct NodeDecisions {
@@ -250,7 +250,7 @@ pub const DECIDED: i64 = 4_000_000_000_000_000_000;
 /// A pair of nodes, and whether a cycle is to use it.
 #[derive(Clone, Copy, Debug, PartialEq, Eq)]
 pub struct Decision {
-    /// The two nodes, from the first to the second where pairs have a direction.
+    /// The two nodes, from the first to the second if pairs have a direction.
     pub pair: (u32, u32),
     /// Whether a cycle uses the pair, or doesn't.
     pub taken: bool,

@@ -215,7 +215,7 @@ pub fn add_differences(numbers: &mut [i128], changes: &[(u32, i64)]) -> bool
     true
 }
 
-/// Copies numbers that are all from a least to a most one; `false` where one isn't.
+/// Copies numbers that are all from a least to a most one; `false` if one isn't.
 pub fn copy_within(numbers: &[i128], least: i64, most: i64, copy: &mut [i64]) -> bool
     requires { length copy.old ≡ length numbers.now }
     ensures inside { IsTrue result ↔ All (IsFromTo least most) numbers.now }

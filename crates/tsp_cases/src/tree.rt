@@ -47,7 +47,7 @@ pub fn judge_cases<'a, C: Costs>(
     }))
 }
 
-/// The first branch on a pair that is decided above it or given, counted from 1. `None` where each
+/// The first branch on a pair that is decided above it or given, counted from 1. `None` if each
 /// case decides a pair at most once. Directed pairs are the same in the same order of their nodes
 /// alone, others in either.
 ///
@@ -106,7 +106,7 @@ pub fn first_bad_branch(steps: &[TreeStep], least: u32, most: u32) -> Option<usi
 
 /// A tree of cases and the costs that it is for.
 ///
-/// There are three or more nodes, and where pairs have no direction the costs are the same in both.
+/// There are three or more nodes, and if pairs have no direction the costs are the same in both.
 /// Sets and decisions are of these nodes, and so are the branches that begin at a node. No pair is
 /// given twice, and the steps are one whole tree.
 #[derive(Drop)]

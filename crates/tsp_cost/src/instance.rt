@@ -129,7 +129,7 @@ impl Instance {
         })
     }
 
-    /// The type that has the costs: points where the weight type is a distance, whatever the
+    /// The type that has the costs: points if the weight type is a distance, whatever the
     /// format; else a matrix for FULL_MATRIX and a triangle for every other layout.
     #[inline]
     pub fn view(&self) -> View<'_>
@@ -281,7 +281,7 @@ pub enum View<'a> {
     Triangle(Triangle<'a>),
 }
 
-/// The costs of an instance, by the type that has them, where they are the same in both directions.
+/// The costs of an instance, by the type that has them, if they are the same in both directions.
 #[derive(Clone, Copy, Debug)]
 pub enum SymmetricView<'a> {
     /// The weight type is a distance, of points of the plane.

@@ -34,7 +34,7 @@ pub(crate) enum Metric {
 }
 
 impl Metric {
-    /// The distance that a weight type is; none where it is EXPLICIT.
+    /// The distance that a weight type is; none if it is EXPLICIT.
     pub(crate) fn of(kind: WeightKind) -> Option<Metric>
         ensures { MatchOption result (kind ≡ Explicit) (λ metric. weight_kind_of metric ≡ kind) }
     {
@@ -113,7 +113,7 @@ const INVERSE: i64 = -8_194_354_213_138_031_507;
 /// The most steps of a way that is measured so.
 const MOST_STEPS: i64 = 0x4000_0000;
 
-/// How many steps a way is, where it is a whole number of them, and not too many.
+/// How many steps a way is, if it is a whole number of them, and not too many.
 #[inline(always)]
 fn steps_of(way: i64) -> Option<i64>
     ensures { IfSome result (λ steps. (steps *ℤ pos 1953125 ≡ way) × (unsigned_abs steps ≤ 2 ^ 30)) }
@@ -154,7 +154,7 @@ fn half_root(square: u64) -> u64
     num::f64_to_bits_with_nan(near + 4_503_599_627_370_496.0) & 0x7fff_ffff
 }
 
-/// The root of a square of steps, in whole numbers, to the nearest, where the estimate is right.
+/// The root of a square of steps, in whole numbers, to the nearest, if the estimate is right.
 #[inline(always)]
 fn nearest_root(square: u64) -> Option<u32>
     requires { square ≤ 2 ^ 61 }
@@ -171,7 +171,7 @@ fn nearest_root(square: u64) -> Option<u32>
     Some(root as u32)
 }
 
-/// The distance EUC_2D where each way is a whole number of steps, and not of too many.
+/// The distance EUC_2D if each way is a whole number of steps, and not of too many.
 #[inline(always)]
 fn coarse_euc_2d(a: Point, b: Point) -> Option<u32>
     ensures { IfSome result (λ root. root ≡ euc_2d_of a b) }
@@ -183,7 +183,7 @@ fn coarse_euc_2d(a: Point, b: Point) -> Option<u32>
     nearest_root(square_of(dx) + square_of(dy))
 }
 
-/// The distance EUC_2D, by `coarse_euc_2d` where that has it.
+/// The distance EUC_2D, by `coarse_euc_2d` if that has it.
 // (between whole coordinates by a third of the instructions less)
 #[inline(always)]
 fn quick_euc_2d(a: Point, b: Point) -> i64

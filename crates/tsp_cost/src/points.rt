@@ -73,7 +73,7 @@ impl<'a, P: InSpace> Points<'a, P> {
 
     /// The sum of the costs from a node through a few others, and the last of these. Their points
     /// are written over those that are lent.
-    // (the processor waits for several points at once, where they are looked up first)
+    // (the processor waits for several points at once, if they are looked up first)
     #[inline(always)]
     fn through(&self, from: u32, nodes: &[u32], places: &mut [Point; BLOCK + 1]) -> (i64, u32)
         requires from { IsNode (points_nodes self.now) from }
@@ -94,7 +94,7 @@ impl<'a, P: InSpace> Points<'a, P> {
     }
 
     /// The length of a list of nodes, as [`Costs::length`] gives it.
-    // (in `length`, so that the compiler knows the metric where that does)
+    // (in `length`, so that the compiler knows the metric if that does)
     #[inline(always)]
     fn along(&self, tour: &[u32]) -> i64
         requires range { All (IsNode (points_nodes self.now)) tour.now }
@@ -362,7 +362,7 @@ fn arrange(items: &mut [Item], v: usize, order: &mut [u32])
     arrange(second, 2 * v + 1, order);
 }
 
-/// How many of the leaves of a box are in its first half, where they fill their last level from the
+/// How many of the leaves of a box are in its first half, if they fill their last level from the
 /// first place on.
 fn first_half(leaves: usize) -> usize
     requires { 2 ≤ leaves }

@@ -186,7 +186,7 @@ impl Draft {
         }
     }
 
-    /// The number of a keyword that has one; nothing where it is missing, and of every other field.
+    /// The number of a keyword that has one; nothing if it is missing, and of every other field.
     pub fn number(&self, field: Field) -> Option<i64>
         ensures { result ≡ one_number_in (fields_of self.now) field }
     {
@@ -214,7 +214,7 @@ impl Draft {
         }
     }
 
-    /// The numbers of a section that has one for each node; nothing where it is missing, and of
+    /// The numbers of a section that has one for each node; nothing if it is missing, and of
     /// every other field.
     pub fn numbers(&self, field: Field) -> Option<&[i64]>
         ensures { option_map (λ entries. entries.now) result
@@ -243,7 +243,7 @@ impl Draft {
         }
     }
 
-    /// The points of a section that has one for each node; nothing where it is missing, and of
+    /// The points of a section that has one for each node; nothing if it is missing, and of
     /// every other field.
     pub fn points(&self, field: Field) -> Option<&Coords>
         ensures { option_map (λ points. points_of points.now) result

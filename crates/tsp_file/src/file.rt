@@ -194,14 +194,14 @@ impl File {
         self.draft.capacity
     }
 
-    /// SCALE of the potentials, 1 to 1,000,000; where it is missing 1 is meant.
+    /// SCALE of the potentials, 1 to 1,000,000; if it is missing 1 is meant.
     pub fn scale(&self) -> Option<i64>
         ensures { result ≡ self.now.scale }
     {
         self.draft.scale
     }
 
-    /// LOAD_UNIT of a certificate for routes, 1 to 1,000,000,000,000; where it is missing 1 is
+    /// LOAD_UNIT of a certificate for routes, 1 to 1,000,000,000,000; if it is missing 1 is
     /// meant.
     pub fn load_unit(&self) -> Option<i64>
         ensures { result ≡ self.now.load_unit }
@@ -413,7 +413,7 @@ fn spread_lines(from: Layout, nodes: u32, weights: &mut Vec<i64>, count: usize)
     }
 }
 
-/// Sets the diagonal to 0 where a layout doesn't list it.
+/// Sets the diagonal to 0 if a layout doesn't list it.
 fn clear_diagonal(from: Layout, nodes: u32, weights: &mut Vec<i64>)
     requires few { nodes ≤ most_matrix_nodes }
     requires size { length weights.old.items ≡ nodes * nodes }

@@ -26,7 +26,7 @@ pub(crate) fn are_from_to(numbers: &[i64], low: i64, high: i64) -> bool
         .all(|number| low <= *number && *number <= high)
 }
 
-/// The bits of all numbers in one: where the highest isn't among them, no number is negative, and
+/// The bits of all numbers in one: if the highest isn't among them, no number is negative, and
 /// none is larger.
 fn all_bits(numbers: &[i64]) -> u64
     ensures { result < 2 ^ 63

@@ -150,7 +150,7 @@ pub(crate) fn keep_half(to: Layout, nodes: u32, weights: &mut Vec<i64>)
     weights.truncate(kept);
 }
 
-/// Where a line of a layout, or the row across the diagonal from it, begins in a full matrix.
+/// If a line of a layout, or the row across the diagonal from it, begins in a full matrix.
 pub(crate) fn line_start(layout: Layout, nodes: u32, line: u32) -> usize
     requires few { nodes ≤ most_matrix_nodes }
     requires line { IsNode nodes line }

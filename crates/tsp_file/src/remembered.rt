@@ -32,7 +32,7 @@ impl File {
             .map(|rows| rows.as_slice())
     }
 
-    /// The lists of what customers remember, none where no section has them.
+    /// The lists of what customers remember, none if no section has them.
     pub(crate) fn memories_or_none(&self) -> &[Vec<u32>]
         ensures value { map (λ list. list.items) result.now ≡ unwrap_or self.now.memories [] }
         ensures are { AreSomeLists (nodes_of self.now) (map (λ list. list.items) result.now) }
@@ -43,7 +43,7 @@ impl File {
         }
     }
 
-    /// The subset rows, none where no section has them.
+    /// The subset rows, none if no section has them.
     pub(crate) fn rows_or_none(&self) -> &[RowSets]
         ensures value { subset_rows_of result.now ≡ unwrap_or self.now.subset_rows [] }
         ensures are { AreSomeRows (nodes_of self.now) (subset_rows_of result.now) }

@@ -162,7 +162,7 @@ fn has_node_or_multiplier(draft: &Draft) -> bool
     draft.node_potentials.is_some() || draft.fixed_potentials.is_some()
 }
 
-/// Whether the format is FUNCTION where weights are listed, or the file has numbers for a TSP
+/// Whether the format is FUNCTION if weights are listed, or the file has numbers for a TSP
 /// beside those of rows or columns, which are for an ATSP.
 fn has_wrong_format(draft: &Draft) -> bool
     ensures { result ≡ has_wrong_format (standing_of (fields_of draft.now)) }

@@ -126,8 +126,8 @@ fn is_number(number: Option<i64>, low: i64, high: i64) -> bool
     }
 }
 
-/// The number of nodes and the entries of a section; or, where there are none to judge, whether the
-/// section is valid: it is where it is missing, and isn't without a number of nodes.
+/// The number of nodes and the entries of a section; or, if there are none to judge, whether the
+/// section is valid: it is if it is missing, and isn't without a number of nodes.
 fn section<'a, T>(
     dimension: Option<u32>,
     entries: &'a Option<Vec<T>>,

@@ -25,18 +25,18 @@ pub struct RoutingData<'a> {
 /// Potentials of nodes, with the multipliers of fixed edges beside them.
 #[derive(Clone, Copy, Debug)]
 pub struct NodeData<'a> {
-    /// SCALE, which is 1 where it is missing.
+    /// SCALE, which is 1 if it is missing.
     pub scale: i64,
     /// NODE_POTENTIAL_SECTION: a potential for each node.
     pub numbers: &'a [i64],
-    /// FIXED_EDGE_POTENTIAL_SECTION: two nodes and a number each; none where it is missing.
+    /// FIXED_EDGE_POTENTIAL_SECTION: two nodes and a number each; none if it is missing.
     pub multipliers: &'a [(u32, u32, i64)],
 }
 
 /// Potentials of rows and of columns.
 #[derive(Clone, Copy, Debug)]
 pub struct DualData<'a> {
-    /// SCALE, which is 1 where it is missing.
+    /// SCALE, which is 1 if it is missing.
     pub scale: i64,
     /// ROW_POTENTIAL_SECTION: a potential for each row.
     pub rows: &'a [i64],
@@ -47,16 +47,16 @@ pub struct DualData<'a> {
 /// The families, memories, subset rows, steps, scale and load unit of a file of TYPE BRANCHES.
 #[derive(Clone, Copy, Debug)]
 pub struct TreeData<'a> {
-    /// SCALE, which is 1 where it is missing.
+    /// SCALE, which is 1 if it is missing.
     pub scale: i64,
-    /// LOAD_UNIT, which is 1 where it is missing.
+    /// LOAD_UNIT, which is 1 if it is missing.
     pub load_unit: i64,
-    /// COMB_SECTION: families, each as its sets of nodes; none where it is missing.
+    /// COMB_SECTION: families, each as its sets of nodes; none if it is missing.
     pub families: &'a [Vec<Vec<u32>>],
-    /// MEMORY_SECTION: lists of nodes, the first of which remembers the others; none where it is
+    /// MEMORY_SECTION: lists of nodes, the first of which remembers the others; none if it is
     /// missing.
     pub memories: &'a [Vec<u32>],
-    /// SUBSET_ROW_SECTION: subset rows; none where it is missing.
+    /// SUBSET_ROW_SECTION: subset rows; none if it is missing.
     pub subset_rows: &'a [RowSets],
     /// BRANCH_SECTION: the steps of one tree of cases.
     pub steps: &'a [TreeStep],
@@ -73,7 +73,7 @@ impl File {
     ghost use Rattle.tsp_file.specs.Fields.{nodes_of};
     ghost use Rattle.tsp_file.specs.Cost.{HoldsNodeNumbers, HoldsDuals, HoldsCases, HoldsMemory, AreMultipliersIn, AreSomeSets};
 
-    /// The weights of this file with their layout; none where its weights aren't listed.
+    /// The weights of this file with their layout; none if its weights aren't listed.
     #[inline]
     pub fn as_matrix(&self) -> Option<ListedWeights<'_>>
         ensures { MatchOption result (¬ HasListedWeights self.now)
@@ -106,7 +106,7 @@ impl File {
         self.tours()
     }
 
-    /// The potentials of nodes that a file of TYPE POTENTIALS holds; none where it holds none, and
+    /// The potentials of nodes that a file of TYPE POTENTIALS holds; none if it holds none, and
     /// of every other file.
     pub fn as_node_potentials(&self) -> Option<NodeData<'_>>
         ensures { MatchOption result
@@ -123,7 +123,7 @@ impl File {
         })
     }
 
-    /// The potentials of rows and of columns that a file of TYPE POTENTIALS holds; none where it
+    /// The potentials of rows and of columns that a file of TYPE POTENTIALS holds; none if it
     /// holds none, and of every other file.
     pub fn as_duals(&self) -> Option<DualData<'_>>
         ensures { MatchOption result
@@ -162,7 +162,7 @@ impl File {
         })
     }
 
-    /// SCALE, which is 1 where it is missing.
+    /// SCALE, which is 1 if it is missing.
     fn scale_or_one(&self) -> i64
         ensures value { result ≡ unwrap_or self.now.scale (pos 1) }
         ensures range { IsFromTo (pos 1) (pos most_scale) result }
@@ -170,7 +170,7 @@ impl File {
         self.fields().scale.unwrap_or(1)
     }
 
-    /// LOAD_UNIT, which is 1 where it is missing.
+    /// LOAD_UNIT, which is 1 if it is missing.
     fn load_unit_or_one(&self) -> i64
         ensures value { result ≡ unwrap_or self.now.load_unit (pos 1) }
         ensures range { IsFromTo (pos 1) (pos most_load_unit) result }
@@ -178,7 +178,7 @@ impl File {
         self.fields().load_unit.unwrap_or(1)
     }
 
-    /// The multipliers of fixed edges, none where no section lists them.
+    /// The multipliers of fixed edges, none if no section lists them.
     fn multipliers(&self) -> &[(u32, u32, i64)]
         ensures value { result.now ≡ unwrap_or self.now.fixed_potentials [] }
         ensures are { AreMultipliersIn self.now result.now }
@@ -189,7 +189,7 @@ impl File {
         }
     }
 
-    /// The families, none where no section lists them.
+    /// The families, none if no section lists them.
     fn families_or_none(&self) -> &[Vec<Vec<u32>>]
         ensures value { families_of result.now ≡ unwrap_or self.now.families [] }
         ensures are { AreSomeSets (nodes_of self.now) (families_of result.now) }
@@ -273,7 +273,7 @@ impl<'a> ListedWeights<'a> {
         self.layout == layout
     }
 
-    /// The cost from one node to another: the weight of the pair, or of the pair turned round where
+    /// The cost from one node to another: the weight of the pair, or of the pair turned round if
     /// only that is listed, or 0.
     #[inline]
     fn cost(&self, i: u32, j: u32) -> i64
@@ -290,7 +290,7 @@ impl<'a> ListedWeights<'a> {
         0
     }
 
-    /// The cost in a full matrix, where it is the weight of the pair.
+    /// The cost in a full matrix, if it is the weight of the pair.
     #[inline]
     fn weight(&self, i: u32, j: u32) -> i64
         requires full { self.now.layout ≡ FullMatrix }

@@ -270,7 +270,7 @@ fn is_each_family(n: u32, families: &[Vec<Vec<u32>>]) -> bool
     families.iter().all(|family| are_sets(n, family))
 }
 
-/// How many nodes the sets have together, where that is at most this number.
+/// How many nodes the sets have together, if that is at most this number.
 fn nodes_of_sets(sets: &[Vec<u32>], most: usize) -> Option<usize>
     ensures { result ≡ cond (nat_le (sum_by (λ set. length set.items) sets.now) most)
         (Some (sum_by (λ set. length set.items) sets.now)) None }

@@ -73,7 +73,7 @@ fn put_fields<W: Write>(piece: &mut Piece, out: &mut Watched<W>, draft: &Draft, 
     }
 }
 
-/// Adds the text of a field, where the draft has it.
+/// Adds the text of a field, if the draft has it.
 fn put_field<W: Write>(piece: &mut Piece, out: &mut Watched<W>, draft: &Draft, field: Field)
     ensures { Puts W.contents out.old piece.old out.new piece.new
         (text_of_field (fields_of draft.now) field) }
@@ -95,7 +95,7 @@ fn put_field<W: Write>(piece: &mut Piece, out: &mut Watched<W>, draft: &Draft, f
     }
 }
 
-/// Adds the text of a keyword whose value is read as a number, where the draft has it.
+/// Adds the text of a keyword whose value is read as a number, if the draft has it.
 fn put_keyword<W: Write>(
     piece: &mut Piece,
     out: &mut Watched<W>,
@@ -112,7 +112,7 @@ fn put_keyword<W: Write>(
     }
 }
 
-/// Adds the text of a section of this shape, where the draft has it.
+/// Adds the text of a section of this shape, if the draft has it.
 fn put_section<W: Write>(
     piece: &mut Piece,
     out: &mut Watched<W>,
@@ -162,7 +162,7 @@ fn put_value<W: Write>(piece: &mut Piece, out: &mut Watched<W>, keyword: &[u8], 
     put(piece, out, b"\n");
 }
 
-/// Adds the line of a keyword whose value is a word, where the file has one.
+/// Adds the line of a keyword whose value is a word, if the file has one.
 fn put_word<W: Write, V: Word>(
     piece: &mut Piece,
     out: &mut Watched<W>,
@@ -177,7 +177,7 @@ fn put_word<W: Write, V: Word>(
     }
 }
 
-/// Adds the line of a keyword whose value is a whole number, where the file has one.
+/// Adds the line of a keyword whose value is a whole number, if the file has one.
 fn put_whole<W: Write, N: Integer>(
     piece: &mut Piece,
     out: &mut Watched<W>,
@@ -218,7 +218,7 @@ fn put_others<W: Write>(piece: &mut Piece, out: &mut Watched<W>, others: &[(Vec<
     }
 }
 
-/// Adds the line of NAME, where the file has one.
+/// Adds the line of NAME, if the file has one.
 fn put_name<W: Write>(piece: &mut Piece, out: &mut Watched<W>, name: &Option<Vec<u8>>)
     ensures { Puts W.contents out.old piece.old out.new piece.new
         (optional (keyword_line Field.NameKey) (option_map (λ v. v.items) name.now)) }
@@ -335,7 +335,7 @@ fn put_steps<W: Write>(piece: &mut Piece, out: &mut Watched<W>, steps: &[TreeSte
     }
 }
 
-/// Adds a section of families, where the file has it.
+/// Adds a section of families, if the file has it.
 fn put_family_section<W: Write>(
     piece: &mut Piece,
     out: &mut Watched<W>,
@@ -351,7 +351,7 @@ fn put_family_section<W: Write>(
     }
 }
 
-/// Adds a section of what customers remember, where the file has it.
+/// Adds a section of what customers remember, if the file has it.
 fn put_memory_section<W: Write>(
     piece: &mut Piece,
     out: &mut Watched<W>,
@@ -367,7 +367,7 @@ fn put_memory_section<W: Write>(
     }
 }
 
-/// Adds a section of subset rows, where the file has it.
+/// Adds a section of subset rows, if the file has it.
 fn put_row_section<W: Write>(
     piece: &mut Piece,
     out: &mut Watched<W>,
@@ -383,7 +383,7 @@ fn put_row_section<W: Write>(
     }
 }
 
-/// Adds a section of the steps of a tree, where the file has it.
+/// Adds a section of the steps of a tree, if the file has it.
 fn put_step_section<W: Write>(
     piece: &mut Piece,
     out: &mut Watched<W>,

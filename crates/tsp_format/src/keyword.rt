@@ -54,7 +54,7 @@ fn field_of(word: &[u8]) -> Option<Field>
     value_of(word)
 }
 
-/// The keyword of a field, where there is one.
+/// The keyword of a field, if there is one.
 fn known_or_not(field: Option<Field>) -> Keyword
     ensures { result ≡ known_or_not field }
 {

@@ -59,7 +59,7 @@ impl Word for Kind {
     }
 }
 
-/// Where edge weights come from (EDGE_WEIGHT_TYPE).
+/// If edge weights come from (EDGE_WEIGHT_TYPE).
 #[derive(Clone, Copy, Debug, PartialEq, Eq)]
 pub enum WeightKind {
     /// The weights are listed.

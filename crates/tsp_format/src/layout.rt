@@ -39,7 +39,7 @@ impl Layout {
         Layout::LowerDiagCol,
     ];
 
-    /// The layout with this word, byte by byte, or `None` where no layout has it.
+    /// The layout with this word, byte by byte, or `None` if no layout has it.
     pub fn of_word(word: &str) -> Option<Layout>
         ensures known { (layout : Layout) →
             (result ≡ Some layout) ↔ (word.now ≡ layout_word layout) }

@@ -24,7 +24,7 @@ pub trait Word: Copy + 'static {
         → find (λ other. bytes_eq (text value) (text other)) values ≡ Some value };
 }
 
-/// The value with this word, byte by byte, or `None` where no value has it.
+/// The value with this word, byte by byte, or `None` if no value has it.
 pub fn value_of<V: Word>(word: &[u8]) -> Option<V>
     ensures known { (value : V) → (result ≡ Some value) ↔ (word.now ≡ V.text value) }
     ensures unknown { IsNone result ↔ ((value : V) → word.now ≢ V.text value) }

@@ -45,7 +45,7 @@ pub fn read_bytes(alloc: Global, bytes: &[u8]) -> Result<File, ReadFault>
 ///
 /// - `Line`, `End` and `TooLong`: as `read_bytes` says.
 /// - `Device`: a read failed, or had failed before.
-/// - `OutOfMemory`: memory was refused. It may come in place of any answer but `Device`, where the
+/// - `OutOfMemory`: memory was refused. It may come in place of any answer but `Device`, if the
 ///   reader delivered more than blanks and bytes 10.
 pub fn read_from<R: Gives>(alloc: Global, reader: &mut Watched<R>) -> Result<File, ReadFault>
     ensures answer { ReadsFrom (read_trace_of R.remaining reader.old reader.new) result }
@@ -93,7 +93,7 @@ impl Feed {
     ///
     /// - `Line`: the last line, or its last word, has the first fault.
     /// - `End`: no line has a fault, and the lines together are no file.
-    /// - `OutOfMemory`: memory was refused. Where a line EOF is settled none is wanted.
+    /// - `OutOfMemory`: memory was refused. If a line EOF is settled none is wanted.
     pub fn finish(self) -> Result<File, ReadFault>
         ensures read { (bytes : List ℕ) → HasTaken self bytes → Reads bytes result }
         ensures memory { (bytes : List ℕ) → HasTaken self bytes → result ≡ Err OutOfMemory

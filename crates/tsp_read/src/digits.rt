@@ -37,7 +37,7 @@ pub(crate) enum End<'a> {
     Line(&'a [u8]),
 }
 
-/// The end of a word that a text begins with. Nothing where no word ends here.
+/// The end of a word that a text begins with. Nothing if no word ends here.
 #[inline(always)]
 fn word_end(rest: &[u8]) -> Option<End<'_>>
     ensures left { IfSome result (λ end. LeavesEnd rest.now (left_from end)) }
@@ -50,7 +50,7 @@ fn word_end(rest: &[u8]) -> Option<End<'_>>
     }
 }
 
-/// The end of a word that a text begins with, where a byte 10 ends it. Nothing where none does.
+/// The end of a word that a text begins with, if a byte 10 ends it. Nothing if none does.
 #[inline(always)]
 fn line_end(rest: &[u8]) -> Option<End<'_>>
     ensures left { IfSome result (λ end. LeavesEnd rest.now (left_from end)) }
@@ -63,7 +63,7 @@ fn line_end(rest: &[u8]) -> Option<End<'_>>
 }
 
 /// The whole number of a few digits that a text begins with, and the end of its word; or nothing
-/// where the text begins with no such word whose end has come.
+/// if the text begins with no such word whose end has come.
 #[inline(always)]
 fn few_number(text: &[u8]) -> Option<(i64, End<'_>)>
     ensures { IfSome result (λ found.
@@ -95,7 +95,7 @@ fn last_number(text: &[u8]) -> Option<(i64, End<'_>)>
     }
 }
 
-/// The whole number at the beginning of a text, and the end of its word. Nothing where the text
+/// The whole number at the beginning of a text, and the end of its word. Nothing if the text
 /// begins with no word of at most 18 digits whose end has come.
 #[inline(never)]
 fn front_number(text: &[u8]) -> Option<(i64, End<'_>)>
@@ -113,7 +113,7 @@ fn front_number(text: &[u8]) -> Option<(i64, End<'_>)>
     }
 }
 
-/// The coordinate at the beginning of a text, and the end of its word. Nothing where the text
+/// The coordinate at the beginning of a text, and the end of its word. Nothing if the text
 /// begins with no word of at most nine digits, a point and nine more whose end has come.
 #[inline(always)]
 fn front_coordinate(text: &[u8]) -> Option<(Decimal, End<'_>)>
@@ -133,7 +133,7 @@ fn front_coordinate(text: &[u8]) -> Option<(Decimal, End<'_>)>
 
 // ---- one item, taken
 
-/// Counts a word that was taken, and the line's end where that ends it. The result is the text
+/// Counts a word that was taken, and the line's end if that ends it. The result is the text
 /// after it.
 #[inline(always)]
 fn count_word<'a>(count: &mut Count, end: End<'a>) -> &'a [u8]
@@ -159,7 +159,7 @@ fn count_word<'a>(count: &mut Count, end: End<'a>) -> &'a [u8]
     }
 }
 
-/// Takes the whole number that was found at the beginning of a text, if one was, where the list
+/// Takes the whole number that was found at the beginning of a text, if one was, if the list
 /// takes it, and returns the rest.
 #[inline(always)]
 fn take_number<'a, L: RunList>(
@@ -184,7 +184,7 @@ fn take_number<'a, L: RunList>(
     Some(count_word(count, end))
 }
 
-/// Takes the coordinate that a text begins with, where the list takes it, and gives what follows
+/// Takes the coordinate that a text begins with, if the list takes it, and gives what follows
 /// it.
 #[inline(always)]
 fn take_coordinate<'a, L: RunList>(
@@ -224,7 +224,7 @@ fn take_line_end<'a>(count: &mut Count, text: &'a [u8]) -> Option<&'a [u8]>
     }
 }
 
-/// Takes the line's end or the number that a text begins with, where it is no number of a few
+/// Takes the line's end or the number that a text begins with, if it is no number of a few
 /// digits.
 #[inline(always)]
 fn take_other<'a, L: RunList>(list: &mut L, count: &mut Count, text: &'a [u8]) -> Option<&'a [u8]>
@@ -239,7 +239,7 @@ fn take_other<'a, L: RunList>(list: &mut L, count: &mut Count, text: &'a [u8]) -
     }
 }
 
-/// Takes the number of a few digits that a text begins with. Where most words end their line
+/// Takes the number of a few digits that a text begins with. If most words end their line
 /// (`by_line`), such a word is tried first.
 // (so that its line is counted without a look at what else may end a word)
 #[inline(always)]
@@ -263,7 +263,7 @@ fn take_few<'a, L: RunList>(
     }
 }
 
-/// Takes the word or the line's end that a text begins with, where the list takes it, and gives
+/// Takes the word or the line's end that a text begins with, if the list takes it, and gives
 /// what follows it.
 #[inline(always)]
 fn take_one<'a, L: RunList>(
@@ -461,7 +461,7 @@ pub trait RunList {
     fn awaits_coordinate(&self) -> bool
         ensures { result ≡ in_group (part self.now) };
 
-    /// Takes the number of a word, where the list takes it at its place. Returns whether it was
+    /// Takes the number of a word, if the list takes it at its place. Returns whether it was
     /// taken.
     fn take_whole(&mut self, number: i64) -> bool
         ensures taken { result ≡ true → (word : List ℕ) → IsWhole word number
@@ -472,7 +472,7 @@ pub trait RunList {
             → IsNodeOf (length (marks_of (part self.old))) k
             → slice_index_or (marks_of (part self.old)) (k - 1) false ≡ true };
 
-    /// Takes the coordinate of a word, where a group of points has begun. Returns whether it was
+    /// Takes the coordinate of a word, if a group of points has begun. Returns whether it was
     /// taken.
     fn take_coordinate(&mut self, coordinate: Decimal) -> bool
         ensures taken { result ≡ true → (word : List ℕ) → decimal_of word ≡ Ok coordinate

@@ -199,7 +199,7 @@ fn take_line(reading: &mut Reading, alloc: Global, text: &[u8]) -> Result<bool, 
     Ok(is_end(line.key))
 }
 
-/// The number of the word that an item is, after this many words of its line; 0 where it is none.
+/// The number of the word that an item is, after this many words of its line; 0 if it is none.
 fn word_of(words: u32, next: &Next<'_>) -> u32
     requires { words ≤ most_file_bytes }
     ensures number { (earlier : List Item) → words ≡ words_before earlier
@@ -301,7 +301,7 @@ pub(crate) enum Token {
 }
 
 impl Token {
-    /// What a byte that isn't blank begins: a word line where it is a letter, and the first of its
+    /// What a byte that isn't blank begins: a word line if it is a letter, and the first of its
     /// line.
     #[inline(always)]
     pub(crate) fn begun_by(first: u8, inside: bool) -> Token
@@ -351,7 +351,7 @@ impl Token {
         }
     }
 
-    /// The parts of `cut`; or nothing where the text goes on and the end isn't in it, unless it is
+    /// The parts of `cut`; or nothing if the text goes on and the end isn't in it, unless it is
     /// longer than it may be.
     #[inline(always)]
     pub(crate) fn take(self, text: &[u8], goes_on: bool) -> Option<(&[u8], &[u8])>
@@ -371,10 +371,10 @@ impl Token {
 // ---- a line or a word that the end of a piece has cut, until the next piece brings its end
 
 /// The bytes so far of a word line or of a word whose end has not come, from the first that isn't
-/// blank on; none where nothing has begun.
+/// blank on; none if nothing has begun.
 #[derive(Drop)]
 pub(crate) struct Begun {
-    /// What has begun, where something has.
+    /// What has begun, if something has.
     pub(crate) token: Token,
     pub(crate) bytes: ArrayVec<u8, MOST_LINE_BYTES>,
 }
@@ -383,7 +383,7 @@ impl Begun {
     ghost use Rattle.tsp_read.specs.states.Onward.{IsPaused, TakesAll};
     ghost use Rattle.tsp_read.specs.states.Onward.{HasBegun, kept, IsFedTo, IsJoinedTo, most_lines, most_words, KeepRoom};
 
-    /// The start, where no line or word has begun.
+    /// The start, if no line or word has begun.
     pub(crate) fn new() -> Begun
         ensures { kept result ≡ [] }
     {

@@ -51,7 +51,7 @@ fn split_keyword(text: &[u8]) -> (&[u8], &[u8])
     }
 }
 
-/// Whether the text begins with a colon, and the rest after it; all of it where there is none.
+/// Whether the text begins with a colon, and the rest after it; all of it if there is none.
 fn split_colon(text: &[u8]) -> (bool, &[u8])
     ensures colon { result.0 ≡ begins is_colon text.now }
     ensures rest { result.1.now ≡ drop (cond (begins is_colon text.now) 1 0) text.now }
@@ -173,7 +173,7 @@ pub fn number_of(stands: bool, value: &[u8], low: i64, high: i64) -> Result<i64,
 }
 
 /// The number of nodes of a section that a line may open: one of this shape that hasn't come yet,
-/// whose line has no value, and but for tours after DIMENSION. Where there is no DIMENSION the
+/// whose line has no value, and but for tours after DIMENSION. If there is no DIMENSION the
 /// result for tours is 0.
 ///
 /// # Errors
@@ -244,7 +244,7 @@ fn without_end(text: &[u8]) -> &[u8]
 
 // ---- sets a field of the draft by a keyword line
 
-/// Sets the value that a line names, where none is set yet; `late` is whether it comes too late.
+/// Sets the value that a line names, if none is set yet; `late` is whether it comes too late.
 ///
 /// # Errors
 ///
@@ -278,7 +278,7 @@ fn is_too_long_to_keep(line: &CutLine<'_>) -> bool
     line.keyword.len() > MOST_KEPT_BYTES || line.value.len() > MOST_KEPT_BYTES - line.keyword.len()
 }
 
-/// Sets the name, where none is set yet.
+/// Sets the name, if none is set yet.
 ///
 /// # Errors
 ///

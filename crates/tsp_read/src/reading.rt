@@ -187,7 +187,7 @@ impl Reading {
         says_space(field, value) && self.draft.coords.is_some() && !self.draft.is_spatial()
     }
 
-    /// Takes the line of a keyword, where no section is open. Those with numbers are taken by their
+    /// Takes the line of a keyword, if no section is open. Those with numbers are taken by their
     /// range, the others each by its own place in the draft.
     fn known(&mut self, alloc: Global, field: Field, line: &CutLine<'_>) -> Result<(), StepFault>
         requires { shape_of (spatial (fields_of self.old.draft)) field ≡ None }
@@ -211,7 +211,7 @@ impl Reading {
         }
     }
 
-    /// Takes the line of a keyword with a number from `low` to `high`, where no section is open.
+    /// Takes the line of a keyword with a number from `low` to `high`, if no section is open.
     fn number(
         &mut self,
         field: Field,
@@ -235,7 +235,7 @@ impl Reading {
 // ---- what a line that opens a section does to the state of the reader
 
 impl Reading {
-    /// Opens the section of a field, which has this shape, where no section is open.
+    /// Opens the section of a field, which has this shape, if no section is open.
     pub(crate) fn open(
         &mut self,
         alloc: Global,

@@ -16,7 +16,7 @@ use tsp_number::{number_word_laws, spelling_laws};
 use tsp_text::{spelled_files_are_valid, texts_have_one_answer};
 
 /// Each number that the canonical text writes is read back: a whole number of less than 2^63 in
-/// size where one of its range is wanted, and a coordinate of at most 10^18 counts of 10^-9.
+/// size if one of its range is wanted, and a coordinate of at most 10^18 counts of 10^-9.
 pub fn written_numbers_are_read_back()
     ensures whole { (z low high : ℤ) → unsigned_abs z < 2 ^ 63 → is_from_to low high z ≡ true
         → whole_of (signed_decimal z) low high ≡ Ok z }

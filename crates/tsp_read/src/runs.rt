@@ -67,7 +67,7 @@ impl TourList {
         Ok(())
     }
 
-    /// The list for a run of words, with capacity for some nodes more; for none where memory was
+    /// The list for a run of words, with capacity for some nodes more; for none if memory was
     /// refused, or the tours have as many nodes as a file may have.
     #[inline(always)]
     pub fn gather(&mut self, alloc: Global) -> GatheredNodes
@@ -132,9 +132,9 @@ impl GatheredNodes {
     ghost use Rattle.tsp_read.specs.states.Parts.{Takes};
     ghost use Rattle.tsp_read.specs.states.HeldParts.{HoldsTours};
 
-    /// A list with capacity for some nodes more; for none where memory was refused.
+    /// A list with capacity for some nodes more; for none if memory was refused.
     ///
-    /// Where it grows, it doubles, as it does word by word.
+    /// If it grows, it doubles, as it does word by word.
     #[inline(always)]
     fn of(mut list: TourList) -> GatheredNodes
         ensures { (words : List (List ℕ)) → HoldsTours list words → HoldsTours result.list words }
@@ -275,9 +275,9 @@ impl Gathered {
     ghost use Rattle.tsp_read.specs.states.HeldParts.{HoldsWeights};
 
     /// A list with capacity for this many more weights, or for all that the matrix still needs; for
-    /// none where memory was refused.
+    /// none if memory was refused.
     ///
-    /// Where it grows, it doubles, and never past the matrix's size. So the request depends on the
+    /// If it grows, it doubles, and never past the matrix's size. So the request depends on the
     /// weights that have come and on `more`, and not on the dimension alone.
     #[inline(always)]
     fn of(mut list: WeightList, more: usize) -> Gathered

@@ -181,7 +181,7 @@ pub(crate) fn is_minus_one(word: &[u8]) -> bool
 
 /// Moves a list to the end of others, and leaves an empty one in its place.
 ///
-/// Its place is made first, so that nothing has moved where memory is refused.
+/// Its place is made first, so that nothing has moved if memory is refused.
 ///
 /// # Errors
 ///

@@ -27,9 +27,9 @@ pub enum LineFault {
     SectionValue,
     /// A section other than TOUR_SECTION comes before DIMENSION.
     SectionEarly,
-    /// EDGE_WEIGHT_SECTION is present where DIMENSION is larger than 5,000.
+    /// EDGE_WEIGHT_SECTION is present if DIMENSION is larger than 5,000.
     TooManyNodes,
-    /// A number appears where no section is open.
+    /// A number appears if no section is open.
     StrayNumber,
     /// A word that is wanted as a number isn't read as one.
     Number(NumberFault),

@@ -36,7 +36,7 @@ pub fn texts_have_one_answer()
         → fault bytes ≡ Some found → is_of_text found ≡ true }
 {}
 
-/// The fields of items without a fault are valid, field by field, if the tree of cases, where there
+/// The fields of items without a fault are valid, field by field, if the tree of cases, if there
 /// is one, is whole.
 ///
 /// No code calls it. It shows a reader that a text whose lines have no fault has no bad field.
@@ -62,7 +62,7 @@ pub fn settled_faults_stay()
         → settled_fault bytes ≡ Some found → settled_fault (bytes ++ more) ≡ Some found }
 {}
 
-/// A settled end line ends every longer text, where no line before it has a fault.
+/// A settled end line ends every longer text, if no line before it has a fault.
 pub fn settled_ends_stay()
     ensures part { (bytes more : List ℕ)
         → IsClean (settled_part bytes) → has_end_line (settled_part bytes) ≡ true

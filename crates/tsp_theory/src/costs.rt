@@ -100,7 +100,7 @@ pub trait Costs {
         Ok(Vec::new(alloc))
     }
 
-    /// The node with its place, where it has one.
+    /// The node with its place, if it has one.
     fn site(&self, node: u32) -> Option<Site>
         requires { IsNode (nodes self.now) node }
         ensures { IfSome result (λ site. (site.node ≡ node) × IsSite (nodes self.now) (place self.now) site) }
@@ -119,7 +119,7 @@ pub trait Costs {
         self.cost(from.node, to.node)
     }
 
-    /// Whether each node whose place is in the region costs at least `least` from a node, where
+    /// Whether each node whose place is in the region costs at least `least` from a node, if
     /// that is known.
     fn is_beyond(&self, from: &Site, region: &Region, least: i64) -> bool
         requires { IsSite (nodes self.now) (place self.now) from.now }

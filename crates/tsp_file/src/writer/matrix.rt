@@ -26,7 +26,7 @@ fn put_more_weights<W: Write>(piece: &mut Piece, out: &mut Watched<W>, weights: 
     }
 }
 
-/// Adds the line of some weights, none where there are none.
+/// Adds the line of some weights, none if there are none.
 fn put_weight_line<W: Write>(piece: &mut Piece, out: &mut Watched<W>, weights: &[i64])
     ensures { Puts W.contents out.old piece.old out.new piece.new (weight_line weights.now) }
 {
@@ -88,7 +88,7 @@ fn put_matrix<W: Write>(
     }
 }
 
-/// Adds a section of weights, where the file has it.
+/// Adds a section of weights, if the file has it.
 pub(crate) fn put_weight_section<W: Write>(
     piece: &mut Piece,
     out: &mut Watched<W>,
@@ -116,7 +116,7 @@ const MOST_WEIGHTS: usize = 64;
 const BLOCK: usize = 576;
 
 /// Writes weights, each after a blank, so that they end with the block, and returns where they
-/// begin; none where one of them is negative or has more than eight digits.
+/// begin; none if one of them is negative or has more than eight digits.
 fn fill(weights: &[i64], block: &mut [u8; BLOCK]) -> Option<usize>
     requires { length weights.now ≤ 64 }
     ensures { IfSome result (λ start. (start ≤ 576)

@@ -125,7 +125,7 @@ fn put_tours<W: Write>(piece: &mut Piece, out: &mut Watched<W>, tours: &[Vec<u32
     }
 }
 
-/// Adds a section of one number for each node, where the file has it.
+/// Adds a section of one number for each node, if the file has it.
 pub(crate) fn put_number_section<W: Write>(
     piece: &mut Piece,
     out: &mut Watched<W>,
@@ -142,7 +142,7 @@ pub(crate) fn put_number_section<W: Write>(
     }
 }
 
-/// Adds a section of coordinates, three of each node in space and two in the plane, where the file
+/// Adds a section of coordinates, three of each node in space and two in the plane, if the file
 /// has it.
 pub(crate) fn put_point_section<W: Write>(
     piece: &mut Piece,
@@ -164,7 +164,7 @@ pub(crate) fn put_point_section<W: Write>(
     }
 }
 
-/// Adds a section of nodes, where the file has it.
+/// Adds a section of nodes, if the file has it.
 pub(crate) fn put_node_section<W: Write>(
     piece: &mut Piece,
     out: &mut Watched<W>,
@@ -180,7 +180,7 @@ pub(crate) fn put_node_section<W: Write>(
     }
 }
 
-/// Adds a section of pairs of nodes, where the file has it.
+/// Adds a section of pairs of nodes, if the file has it.
 pub(crate) fn put_pair_section<W: Write>(
     piece: &mut Piece,
     out: &mut Watched<W>,
@@ -196,7 +196,7 @@ pub(crate) fn put_pair_section<W: Write>(
     }
 }
 
-/// Adds a section of pairs of nodes with a number each, where the file has it.
+/// Adds a section of pairs of nodes with a number each, if the file has it.
 pub(crate) fn put_triple_section<W: Write>(
     piece: &mut Piece,
     out: &mut Watched<W>,
@@ -212,7 +212,7 @@ pub(crate) fn put_triple_section<W: Write>(
     }
 }
 
-/// Adds a section of tours, where the file has it.
+/// Adds a section of tours, if the file has it.
 pub(crate) fn put_tour_section<W: Write>(
     piece: &mut Piece,
     out: &mut Watched<W>,
