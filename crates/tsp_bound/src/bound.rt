@@ -9,7 +9,7 @@ use crate::by_node::ByNode;
 use crate::potentials::{Multipliers, Potentials, least_bound, total, total_of};
 use crate::rounds::grow_in_rounds as grow;
 use crate::tree::two_root_edges;
-use crate::weights::Weights;
+use crate::weights::PotentialWeights;
 use std::alloc::{AllocError, Global};
 use tsp_io::{Refused, filled, push, with_capacity};
 use tsp_theory::{Costs, Symmetric, adjusted_bounds_bound_cycles};
@@ -137,7 +137,7 @@ fn least_edges<'a, C: Symmetric>(
     ensures size { IfOk result (λ found. IsFromTo (neg_ℤ (pos ((most_nodes + 2) * 2 ^ 63)))
         (pos ((most_nodes + 2) * 2 ^ 63)) found.weight) }
 {
-    let weights = Weights { c, p, m };
+    let weights = PotentialWeights { c, p, m };
     let mut row = filled(alloc, 0, c.count() as usize + 1)?;
     let (first, second) = two_root_edges(&weights, &mut row);
     let grown = grow(alloc, &weights, &mut row)?;

@@ -30,4 +30,3 @@ pub use boxes::{BoxedWeights, NumberedSite};
 pub use potentials::{Duals, Multipliers, Potentials};
 pub use rounds::grow_in_rounds;
 pub use tree::{Growing, Grown, RootEdge, grow, least_weight, two_root_edges};
-pub use tsp_theory::{adjusted_bounds_bound_cycles, duals_bound_cycles};

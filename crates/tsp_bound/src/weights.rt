@@ -15,7 +15,7 @@ use tsp_theory::{Costs, Region, Site, add_at};
 
 /// Costs of three or more nodes, and the potentials and the multipliers of these.
 #[derive(Drop)]
-pub(crate) struct Weights<'a, C: Costs> {
+pub(crate) struct PotentialWeights<'a, C: Costs> {
     pub(crate) c: &'a C,
     pub(crate) p: &'a Potentials<'a>,
     pub(crate) m: &'a ByNode<'a>,
@@ -24,7 +24,7 @@ pub(crate) struct Weights<'a, C: Costs> {
     ghost over: { node_count m.now ≡ C.nodes c.now },
 }
 
-impl<C: Costs> tsp_theory::Weights for Weights<'_, C> {
+impl<C: Costs> tsp_theory::Weights for PotentialWeights<'_, C> {
     ghost use Rattle.tsp_bound.specs.states.Potentials.{triples_in, weight_less};
 
     ghost nodes = { λ w. C.nodes w.c.now };
@@ -48,7 +48,7 @@ impl<C: Costs> tsp_theory::Weights for Weights<'_, C> {
 }
 
 /// Writes the weights between a node and each, without multipliers.
-fn weigh_all<C: Costs>(w: &Weights<C>, from: u32, row: &mut [i64])
+fn weigh_all<C: Costs>(w: &PotentialWeights<C>, from: u32, row: &mut [i64])
     requires from { IsNode (C.nodes w.now.c.now) from }
     requires room { length row.old ≡ C.nodes w.now.c.now + 1 }
     ensures values { (x : ℕ) → IsNode (C.nodes w.now.c.now) x
@@ -66,7 +66,7 @@ fn weigh_all<C: Costs>(w: &Weights<C>, from: u32, row: &mut [i64])
 }
 
 /// Writes the weights between a node and some others, without multipliers.
-fn weigh<C: Costs>(w: &Weights<C>, from: u32, to: &[u32], row: &mut [i64])
+fn weigh<C: Costs>(w: &PotentialWeights<C>, from: u32, to: &[u32], row: &mut [i64])
     requires from { IsNode (C.nodes w.now.c.now) from }
     requires to { (k : ℕ) → k < length to.now → IsNode (C.nodes w.now.c.now) (slice_index to.now k) }
     requires room { length row.old ≡ C.nodes w.now.c.now + 1 }
@@ -98,7 +98,7 @@ fn lower(row: &mut [i64], lowerings: &[(u32, i64)])
     }
 }
 
-impl<C: Costs> BoxedWeights for Weights<'_, C> {
+impl<C: Costs> BoxedWeights for PotentialWeights<'_, C> {
     ghost use Rattle.tsp_bound.specs.Prelude.{map, entry};
     ghost use Rattle.tsp_bound.specs.states.ByNode.{all_said_of};
     ghost use Rattle.tsp_bound.specs.states.Potentials.{scale_of};

@@ -13,7 +13,7 @@ pub use Rattle.tsp_cases.proofs.SetSums.{added_once, apart_is, back_of, both_sum
 pub use Rattle.tsp_cases.specs.CaseTrees.{Allows, AllowsLink, AreCostsFor, AreLeafNumbers, BoundsIfAny, CaseTreesBoundCycles, IsAllowed, IsFoundAt, IsLeafBound, IsLeastFrom, IsSumOfLeast, combed, leaf_weight, least_of, multiplied}
 pub use Rattle.tsp_cases.specs.Cases.{DecideOnce, LeafNumbers, decided_number, leaves_of, on_avoided, on_taken}
 pub use Rattle.tsp_cases.specs.Families.{Family, HasEachOnce, IsFamily, families_with, sum_with}
-pub use Rattle.tsp_cases.specs.declared.open_case.Decision.{Decision}
+pub use Rattle.tsp_cases.specs.declared.decision.Decision.{Decision}
 pub use Rattle.tsp_cases.specs.declared.sets.SetPlace.{SetPlace}
 pub use Rattle.tsp_cases.specs.states.Kept.{AreEnds, AreRowsIfAny, AreSmall, HoldsRows, IsKeptRow, kept_weight}
 pub use Rattle.tsp_cases.specs.states.OpenCases.{IsDecision, IsOnPlaces, IsOpenCase, bears_on, change_of, changes, decided, decisions_in, marks_in, most_decided, stack_of}

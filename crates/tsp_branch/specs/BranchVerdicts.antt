@@ -9,7 +9,7 @@ use Rattle.tsp_cases.specs.ListedCases.{listed_steps, AreGoodLeaves, IsFirstBadL
 use Rattle.tsp_cases.specs.declared.family.Crossings.{Crossings}
 use Rattle.tsp_cases.specs.declared.judged.JudgedLeaves.{JudgedLeaves}
 use Rattle.tsp_cases.specs.declared.judged.JudgedLeaves.TheVariants as judged
-use Rattle.tsp_cases.specs.declared.open_case.Decision.{Decision}
+use Rattle.tsp_cases.specs.declared.decision.Decision.{Decision}
 use Rattle.tsp_branch.specs.declared.verdict.BranchVerdict.{BranchVerdict}
 use Rattle.tsp_branch.specs.declared.verdict.BranchVerdict.TheVariants as verdict
 

@@ -224,7 +224,7 @@ pub(crate) fn bound_of_trees<C: Costs>(
         (C.at leaf.now.context.now.costs.now))) sum.scale sum.given_back bound) }
     ensures size { IfOk result (λ bound. IsBoundSized bound) }
 {
-    if leaf.kept.is_empty() && leaf.suit_boxes() && leaf.are_exact() {
+    if leaf.kept.is_empty() && leaf.prefers_boxes() && leaf.are_exact() {
         let boxed = BoxedLeaf { leaf: &*leaf };
         return leaf_bound(alloc, &boxed, row, sum.scale, sum.given_back);
     }

@@ -4,7 +4,7 @@ ghost use Rattle.tsp_branch.specs.Prelude.{All, filter, length, pos, neg_ℤ, �
 ghost use Rattle.std.specs.Int.{w64, int_wrap};
 ghost use Rattle.std.specs.Prelude.{◌≡◌, ◌+◌, ◌<◌, ◌^◌, ◌-ℤ◌, ◌*ℤ◌, ◌≤◌, ◌⊎◌, ◌≤ℤ◌, ◌≢◌};
 ghost use Rattle.tsp_cases.specs.ListedCases.{AreGoodNumbers, as_leaf_numbers};
-ghost use Rattle.tsp_cases.specs.declared.open_case.Decision.{Decision};
+ghost use Rattle.tsp_cases.specs.declared.decision.Decision.{Decision};
 ghost use Rattle.tsp_cases.specs.states.Kept.{AreMoved, AreRowsIfAny, kept_weight};
 ghost use Rattle.tsp_branch.specs.states.LeafRows.{no_link, IsOpenRow, IsShut};
 

@@ -9,7 +9,7 @@ ghost use Rattle.std.specs.Prelude.{◌≡◌};
 
 use crate::boxed::are_few;
 use crate::case_leaf::{CaseLeaf, change_row};
-use crate::verdict::suit_boxes;
+use crate::verdict::prefers_boxes;
 use std::alloc::Global;
 use tsp_bound::{Growing, Grown, grow};
 use tsp_cases::{
@@ -33,8 +33,8 @@ impl<C: Costs> CaseLeaf<'_, C> {
     ghost use Rattle.tsp_branch.specs.states.LeafRows.{AreExact, decided_by};
 
     /// Whether boxes are expected to be at least as fast as rows that aren't kept.
-    pub(crate) fn suit_boxes(&self) -> bool {
-        suit_boxes(self.context.by_node, self.context.families.lent)
+    pub(crate) fn prefers_boxes(&self) -> bool {
+        prefers_boxes(self.context.by_node, self.context.families.lent)
     }
 
     /// Whether each node's potential less the multipliers of its sets is at most 4 * 10^18 in size.

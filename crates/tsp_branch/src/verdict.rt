@@ -197,7 +197,7 @@ fn keeps_rows<C: Costs>(context: &LeafContext<C>) -> bool {
 ///
 /// What boxes take without sets isn't counted: it is more than by rows only below some 200 nodes,
 /// if either takes less than a millisecond.
-pub(crate) fn suit_boxes(by_node: &[Vec<SetPlace>], families: &[Vec<Vec<u32>>]) -> bool {
+pub(crate) fn prefers_boxes(by_node: &[Vec<SetPlace>], families: &[Vec<Vec<u32>>]) -> bool {
     let rows = PAIR_BY_ROWS.saturating_mul(squared(by_node.len() as u64));
     time_of_comparing(by_node) <= rows.saturating_add(steps_of_sets(families))
 }

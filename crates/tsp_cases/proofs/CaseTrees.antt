@@ -8,7 +8,7 @@ use Rattle.tsp_theory.proofs.Exchange.{crosses_turned}
 use Rattle.tsp_cases.specs.CaseTrees.{crossings_of, least_of, combed, leaf_weight, LeafBoundsBoundCycles, UncombedBoundsAreAdjustedBounds, IsLeastFrom, HasNoLink, IsSumOfLeast, IsRowBound, SumsAreBelowCycles, RowLeafBoundsBoundCycles, AreMultiplied, IsLeafBound, NoLinkNoCycle, multiplied, AreLeafNumbers, IsFoundAt, IsAbove, IsCaseTreeBound, AreCostsFor, CaseTreesBoundCycles, CaseTreesBoundTours, NoBoundNoTour, CaseTreeBoundsAreUnique}
 use Rattle.tsp_cases.specs.Cases.{KeepsPair, KeepsDecision, KeepsAll, take_pairs, on_taken, on_avoided, DecidedBoundsBoundCycles, FixedBoundsBoundTours, LeafNumbers, CaseStep, leaves_of, cases_of, BoundsCase, HasNoCycle, CasesBoundCycles, CasesHaveNoCycle}
 use Rattle.tsp_cases.specs.Families.{Comb, family_crossings, Family, IsFamily, CyclesCrossFamilies}
-use Rattle.tsp_cases.specs.declared.open_case.Decision.{Decision}
+use Rattle.tsp_cases.specs.declared.decision.Decision.{Decision}
 
 pub takes_each : (nodes : List ℕ) (number : ℤ) (decisions : List Decision) → KeepsAll false nodes decisions → UsesEach (on_taken number decisions) nodes
 takes_each nodes number decisions keeps = All-from_recursion Used (on_taken number decisions) (each decisions (recursion_from_All (KeepsDecision false nodes) decisions keeps))

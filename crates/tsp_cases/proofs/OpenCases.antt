@@ -5,7 +5,7 @@ use Rattle.std.proofs.lemmas.List.Sorted.{IsPermutation-reverse, list_any-IsPerm
 use Rattle.std.proofs.lemmas.Map.Views.{any-filter_same}
 use Rattle.tsp_cases.specs.Cases.{next_stack, DecideOnce, decided_number, is_same}
 use Rattle.tsp_cases.specs.ListedCases.{is_decided}
-use Rattle.tsp_cases.specs.declared.open_case.Decision.{Decision}
+use Rattle.tsp_cases.specs.declared.decision.Decision.{Decision}
 use Rattle.tsp_cases.specs.declared.open_case.NodeDecisions.{NodeDecisions}
 use Rattle.tsp_cases.specs.declared.open_case.OpenCase.{OpenCase}
 use Rattle.tsp_cases.specs.states.OpenCases.{stack_of, signed, changes, AreFewChanges, IsDecision, change_of, bears_on, listed_at, AreByNode, HaveOneMore, HaveOneLess, decisions_in, IsOpenCase}

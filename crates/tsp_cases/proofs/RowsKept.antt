@@ -8,7 +8,7 @@ use Rattle.tsp_cases.specs.Cases.{decide, next_stack}
 use Rattle.tsp_cases.specs.Families.{HasEachOnce}
 use Rattle.tsp_cases.specs.ListedCases.{most_crossed}
 use Rattle.tsp_cases.specs.declared.kept.KeptRows.{KeptRows}
-use Rattle.tsp_cases.specs.declared.open_case.Decision.{Decision}
+use Rattle.tsp_cases.specs.declared.decision.Decision.{Decision}
 use Rattle.tsp_cases.specs.declared.sets.SetPlace.{SetPlace}
 use Rattle.tsp_cases.specs.states.Kept.{kept_weight, unmarked, IsKeptRow, AreRows, AreRowsIfAny, AreAdded, AreDifferences, AreEnds, added_between, AreTwoNodes, IsAddedAt, HoldsRows}
 use Rattle.tsp_cases.specs.states.OpenCases.{signed, changes, marks_in, IsNextStack, stack_of}

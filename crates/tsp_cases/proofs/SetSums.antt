@@ -10,7 +10,7 @@ use Rattle.tsp_cases.specs.Crossings.{has, AllApart, lists_of, families_in}
 use Rattle.tsp_cases.specs.Families.{HasEachOnce, Family, IsFamily, families_with, sum_with}
 use Rattle.tsp_cases.specs.ListedCases.{most_crossed, AreGoodNumbers, as_leaf_numbers}
 use Rattle.tsp_cases.specs.declared.family.Crossings.{Crossings}
-use Rattle.tsp_cases.specs.declared.open_case.Decision.{Decision}
+use Rattle.tsp_cases.specs.declared.decision.Decision.{Decision}
 use Rattle.tsp_cases.specs.declared.sets.SetPlace.{SetPlace}
 use Rattle.tsp_cases.specs.states.OpenCases.{decided, change_of, changes}
 use Rattle.tsp_cases.specs.states.Sets.{added, times, places_in, places_with, place_at, IsPlaceIn, summed_from, set_crossings, multipliers_at, twice_in, inside_both, IsApart, most_combed, set_weight, AreSmallMultipliers, AreFewCrossings}

@@ -13,7 +13,7 @@ use Rattle.tsp_cases.specs.Cases.{LeafNumbers, Branch, Leaf}
 use Rattle.tsp_cases.specs.Crossings.{has, AreAlike, AreUnlike, AreTooMany, ArePartsOf, UnlikeNodesNeedParts, sets_of, IsLeastLength}
 use Rattle.tsp_cases.specs.Examples.{one_set_times, single_sets, one_set_twice, beside_all_six, all_six, IsCrossed, IsNoFamily, small_comb, small_family, cost_in, four_rows, six_rows, large, one_at_two, with_pair, without_pair, FourHave, SixHave}
 use Rattle.tsp_cases.specs.Families.{comb_of, family_crossings, CyclesCrossFamilies, NumbersAreUnique, family_with, AreApart, IsComb, IsTooth, Family, IsFamily}
-use Rattle.tsp_cases.specs.declared.open_case.Decision.{Decision}
+use Rattle.tsp_cases.specs.declared.decision.Decision.{Decision}
 
 abbrev single : ℕ → ℕ → Bool
 single node = has (node ∷ [])

@@ -11,7 +11,7 @@ use Rattle.tsp_cases.specs.Cases.{is_same, DecideOnce}
 use Rattle.tsp_cases.specs.Crossings.{has}
 use Rattle.tsp_cases.specs.Examples.{AreOnce, AreNotOnce, branched, with_pair, without_pair, cost_of_three, ThreeHave, lone_one, LeafOfThreeHas, IsNotGood, IsGood, three_teeth, TwiceAt, branches}
 use Rattle.tsp_cases.specs.Families.{IsTooth, HasEachOnce}
-use Rattle.tsp_cases.specs.declared.open_case.Decision.{Decision}
+use Rattle.tsp_cases.specs.declared.decision.Decision.{Decision}
 
 alone : (directed : Bool) (a : Decision) → DecideOnce directed (a ∷ [])
 alone directed a = AllPairs-cons (λ x y. is_same directed x.pair y.pair ≡ false) a [] (λ k d lt. absurd (omega arith)) (λ i j d lt within. absurd (omega arith))

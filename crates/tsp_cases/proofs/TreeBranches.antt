@@ -8,7 +8,7 @@ use Rattle.tsp_cases.proofs.OpenCases.{stack_more}
 use Rattle.tsp_cases.proofs.Passes.{left_at, IsFirstTwiceFrom, first_twice_by_place, first_twice_in_pass}
 use Rattle.tsp_cases.specs.Cases.{is_same, DecideOnce, decide, leaves_of, cases_of, later_cases, open_cases, next_stack}
 use Rattle.tsp_cases.specs.ListedCases.{all_grown, steps_from, no_numbers_of, is_decided, IsFirstTwice, AreBranchesJudged, branch_pairs, BeginsWithin, IsFirstBadBranch, AreBranchesWithin, IsStepOf, IsListedStep, grown}
-use Rattle.tsp_cases.specs.declared.open_case.Decision.{Decision}
+use Rattle.tsp_cases.specs.declared.decision.Decision.{Decision}
 use Rattle.tsp_cases.specs.declared.open_case.OpenCase.{OpenCase}
 use Rattle.tsp_cases.specs.states.OpenCases.{stack_of, decisions_in}
 

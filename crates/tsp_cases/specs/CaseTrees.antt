@@ -5,7 +5,7 @@ use Rattle.tsp_cases.specs.Prelude.{All, Any, ℕ, Bool, true, false, List, ℤ,
 use Rattle.std.specs.Prelude.{◌≡◌, ◌≢◌, ◌≤◌, ◌↔◌, ◌+ℤ◌, ◌≤ℤ◌, ◌-ℤ◌, ◌*ℤ◌, ◌⊎◌, ◌∷◌}
 use Rattle.tsp_cases.specs.Cases.{KeepsAll, HasNoCycle, BoundsCase, take_pairs, on_taken, on_avoided, LeafNumbers, CaseStep, are_case_trees, leaves_of}
 use Rattle.tsp_cases.specs.Families.{family_crossings, Family, IsFamily}
-use Rattle.tsp_cases.specs.declared.open_case.Decision.{Decision}
+use Rattle.tsp_cases.specs.declared.decision.Decision.{Decision}
 
 -- a taken pair (a, b) allows the link from a to b, and links that neither start at a nor end at b; an avoided pair
 -- allows all links but that from a to b

@@ -2,7 +2,7 @@
 -- Trees of cases: a branch divides the first open case by a decision on a pair, and a leaf closes it by numbers.
 use Rattle.tsp_cases.specs.Prelude.{All, AllPairs, ℕ, Bool, true, false, List, [], length, map, ℤ, pos, zero, suc, Option, None, Some, IsSymmetric, IsScale, most_number, pair_of, is_same_pair, IsAdjustedBound, IsCycle, Uses, length_of, Problem, BoundsTours}
 use Rattle.std.specs.Prelude.{◌≤◌, ◌≡◌, ◌==◌, ◌&&◌, if◌then◌else◌, ◌∷◌, ◌≤ℤ◌, ◌++◌, ◌⊎◌}
-use Rattle.tsp_cases.specs.declared.open_case.Decision.{Decision}
+use Rattle.tsp_cases.specs.declared.decision.Decision.{Decision}
 
 -- a cycle uses a taken pair, and doesn't use an avoided one; directed: from the first node to the second
 abbrev pub KeepsPair : Bool → List ℕ → Bool → ℕ × ℕ → Type 0

@@ -8,7 +8,7 @@ use Rattle.tsp_cases.specs.Crossings.{has}
 use Rattle.tsp_cases.specs.Families.{Comb, comb_of, family_crossings, Family, IsFamily, family_with, IsGoodFamily, IsGoodComb}
 use Rattle.tsp_cases.specs.ListedCases.{listed_steps, as_leaf_numbers, IsFirstTwice}
 use Rattle.tsp_cases.specs.declared.family.Crossings.{Crossings}
-use Rattle.tsp_cases.specs.declared.open_case.Decision.{Decision}
+use Rattle.tsp_cases.specs.declared.decision.Decision.{Decision}
 
 -- no case of this tree over four nodes decides a pair twice
 abbrev pub AreOnce : Bool → List Decision → List listed.Step → Type 0

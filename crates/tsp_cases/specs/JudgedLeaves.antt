@@ -9,7 +9,7 @@ use Rattle.tsp_cases.specs.declared.judged.JudgedLeaf.{JudgedLeaf}
 use Rattle.tsp_cases.specs.declared.judged.JudgedLeaf.TheVariants as leaves
 use Rattle.tsp_cases.specs.declared.judged.JudgedLeaves.{JudgedLeaves}
 use Rattle.tsp_cases.specs.declared.judged.JudgedLeaves.TheVariants as judged
-use Rattle.tsp_cases.specs.declared.open_case.Decision.{Decision}
+use Rattle.tsp_cases.specs.declared.decision.Decision.{Decision}
 use Rattle.tsp_cases.specs.states.Kept.{AreSmall}
 
 -- the lower one of the lowest bound so far and that of a leaf, where there are both; else the one that there is

@@ -3,7 +3,7 @@
 use Rattle.std.specs.Prelude.{◌≡◌, ℕ, Bool, List, ℤ, Some, None}
 use Rattle.tsp_format.specs.declared.steps.TreeStep.{TreeStep}
 use Rattle.tsp_format.specs.states.TreeSteps.{steps_of}
-use Rattle.tsp_cases.specs.declared.open_case.Decision.{Decision}
+use Rattle.tsp_cases.specs.declared.decision.Decision.{Decision}
 use Rattle.tsp_cases.specs.ListedCases.{AreBranchesWithin, AreBranchesJudged}
 use Rattle.tsp_cases.specs.declared.judged.CheckedTree.{CheckedTree}
 use Rattle.tsp_cases.specs.declared.judged.JudgedCases.{JudgedCases}

@@ -7,7 +7,7 @@ use Rattle.tsp_format.specs.Steps as listed
 use Rattle.tsp_cases.specs.Cases.{LeafNumbers, CaseStep, Branch, Leaf, is_same, DecideOnce, decide, leaves_of, cases_of}
 use Rattle.tsp_cases.specs.Families.{sum_with}
 use Rattle.tsp_cases.specs.declared.family.Crossings.{Crossings}
-use Rattle.tsp_cases.specs.declared.open_case.Decision.{Decision}
+use Rattle.tsp_cases.specs.declared.decision.Decision.{Decision}
 
 -- the largest sum over families of the multiplier times the most sets that two nodes cross
 abbrev pub most_crossed : ℕ

@@ -10,8 +10,8 @@ ghost use Rattle.tsp_cases.specs.Families.{least_crossings, least_crossings_of};
 ghost use Rattle.tsp_cases.specs.Crossings.{AreTooMany};
 ghost use Rattle.tsp_cases.specs.CaseTrees.{IsAllowed, HasNoLink, IsRowBound};
 
+use crate::decision::DECIDED;
 use crate::laws::{cycles_cross_families, numbers_are_unique, unlike_nodes_need_parts};
-use crate::open_case::DECIDED;
 use tsp_theory::lengths_add_up;
 
 /// How often some nodes cross the parts of a comb, and how often two cycles do: the first one as

@@ -7,8 +7,8 @@ ghost use Rattle.tsp_cases.specs.Cases.{DecideOnce, cases_of, leaves_of};
 ghost use Rattle.tsp_cases.specs.ListedCases.{IsStepOf, listed_steps};
 ghost use Rattle.tsp_cases.specs.states.OpenCases.{IsDecision};
 
+use crate::decision::Decision;
 use crate::families::Families;
-use crate::open_case::Decision;
 use tsp_format::TreeStep;
 
 /// The judgement on the families of a certificate: all of them, or the first bad one.

@@ -9,10 +9,10 @@ ghost use Rattle.tsp_cases.specs.states.Sets.{AreSmallDifferences, lent_in, IsPl
 ghost use Rattle.tsp_cases.specs.states.OpenCases.{signed};
 ghost use Rattle.tsp_cases.specs.states.Kept.{IsKeptRow, AreRows, AreRowsIfAny, AreAdded, IsAddedAt, AreDifferences};
 
+use crate::decision::{DECIDED, Decision};
 use crate::families::Families;
 use crate::judged::CheckedTree;
 use crate::multipliers::{MultipliedFamilies, Multipliers};
-use crate::open_case::{DECIDED, Decision};
 use crate::sets::{SetPlace, add_to_row, scale_row, take_multipliers};
 use std::alloc::Global;
 use tsp_io::{Refused, filled, push, with_capacity};
@@ -44,7 +44,7 @@ impl KeptRows {
     ghost use Rattle.std.specs.List.{All};
     ghost use Rattle.tsp_cases.specs.states.Sets.{IsSetTable};
     ghost use Rattle.tsp_cases.specs.states.Sets.{lent_in};
-    ghost use Rattle.tsp_cases.specs.declared.open_case.Decision.{Decision};
+    ghost use Rattle.tsp_cases.specs.declared.decision.Decision.{Decision};
     ghost use Rattle.tsp_cases.specs.states.OpenCases.{IsDecision, IsNextStack, marks_in, stack_of};
     ghost use Rattle.tsp_cases.specs.states.Kept.{HoldsRows, AreTwoNodes, added_between};
 

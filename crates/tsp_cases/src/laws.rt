@@ -6,7 +6,7 @@ ghost use Rattle.tsp_cases.specs.CaseTrees.{CaseTreesBoundCycles, CaseTreesBound
 ghost use Rattle.tsp_cases.specs.Cases.{decide, BoundsCase, HasNoCycle, BoundsButOpen, CyclesKeepLeaves, CasesBoundCycles, CasesHaveNoCycle, StacksBegin, StacksBranch, StacksHoldCases, DecidedBoundsBoundCycles, FixedBoundsBoundTours};
 ghost use Rattle.tsp_cases.specs.Families.{CyclesCrossCombs, CyclesCrossFamilies, NumbersAreUnique};
 ghost use Rattle.tsp_cases.specs.Crossings.{MembershipsTellSets, PartsBoundCycles, PartsTellCycles, DivisionsBoundCycles, LeastLengthsAreUnique, MostCostsAreUnique, UnlikeNodesNeedParts};
-ghost use Rattle.tsp_cases.specs.declared.open_case.Decision.{Decision};
+ghost use Rattle.tsp_cases.specs.declared.decision.Decision.{Decision};
 ghost use Rattle.tsp_cases.specs.states.Sets.{SetsTellCombs, SetsGiveLeaves};
 
 use tsp_theory::{

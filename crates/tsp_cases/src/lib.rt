@@ -13,6 +13,7 @@
 //! ```
 #![tactic(auto)]
 
+mod decision;
 mod examples;
 mod families;
 mod family;
@@ -26,6 +27,7 @@ mod pass;
 mod sets;
 mod tree;
 
+pub use decision::{DECIDED, Decision};
 pub use examples::{
     examples_of_arcs, examples_of_bad_branches, examples_of_bounds, examples_of_cases,
     examples_of_crossings, examples_of_differences, examples_of_families, examples_of_good_numbers,
@@ -47,7 +49,7 @@ pub use laws::{
     unlike_nodes_need_parts,
 };
 pub use multipliers::{MultipliedFamilies, Multipliers};
-pub use open_case::{DECIDED, Decision, NodeDecisions, OpenCase};
+pub use open_case::{NodeDecisions, OpenCase};
 pub use pass::{
     LeafJudge, WholeTree, add_differences, copy_within, judge_leaves, judge_numbers, lower,
     sum_with,

@@ -4,9 +4,10 @@
 ghost use Rattle.std.specs.Global.{Vec};
 ghost use Rattle.std.specs.Prelude.{◌≡◌, ◌≤◌, ◌<◌, ◌+◌, ◌-◌, ◌^◌, ℕ, [], length, slice_index_or, IfOk};
 ghost use Rattle.tsp_cases.specs.Cases.{is_same};
-ghost use Rattle.tsp_cases.specs.declared.open_case.Decision.{Decision};
+ghost use Rattle.tsp_cases.specs.declared.decision.Decision.{Decision};
 ghost use Rattle.tsp_cases.specs.states.OpenCases.{HaveOneMore, HaveOneLess};
 
+use crate::decision::Decision;
 use std::alloc::Global;
 use tsp_io::{Refused, push, with_capacity};
 
@@ -24,7 +25,7 @@ pub struct OpenCase<'a> {
 impl<'a> OpenCase<'a> {
     ghost use Rattle.std.specs.Prelude.{◌≡◌, ◌≤◌, ◌<◌, ◌+◌, ◌-◌, ◌^◌, ◌++◌, ℕ, [], ◌∷◌, true, length, IfOk};
     ghost use Rattle.std.specs.List.{All, filter};
-    ghost use Rattle.tsp_cases.specs.declared.open_case.Decision.{Decision};
+    ghost use Rattle.tsp_cases.specs.declared.decision.Decision.{Decision};
     ghost use Rattle.tsp_cases.specs.states.OpenCases.{IsDecision, IsNextStack, stack_of};
     ghost use Rattle.tsp_cases.specs.states.OpenCases.{IsOpenCase, bears_on, decisions_in};
     ghost use Rattle.tsp_cases.specs.ListedCases.{is_decided};
@@ -162,7 +163,7 @@ pub struct NodeDecisions {
 
 impl NodeDecisions {
     ghost use Rattle.std.specs.Prelude.{◌≡◌, ◌<◌, ◌-◌, ◌^◌, ℕ, List, [], ◌∷◌, IfOk, length};
-    ghost use Rattle.tsp_cases.specs.declared.open_case.Decision.{Decision};
+    ghost use Rattle.tsp_cases.specs.declared.decision.Decision.{Decision};
     ghost use Rattle.tsp_cases.specs.states.OpenCases.{IsOnPlaces};
     ghost use Rattle.tsp_cases.specs.states.OpenCases.{AreByNode};
 
@@ -239,21 +240,6 @@ fn unlist_at(lists: &mut Vec<Vec<Decision>>, node: u32)
     ensures { HaveOneLess node lists.old.items lists.new.items }
 {
     lists[node as usize].pop();
-}
-
-// ---- a decision of a case: a pair of nodes that cycles use, or one that they avoid
-
-/// The number on each decided pair. It cancels in the bound, so any number would do. This one is
-/// far above all other parts of a weight and lets weights fit 64 bits.
-pub const DECIDED: i64 = 4_000_000_000_000_000_000;
-
-/// A pair of nodes, and whether a cycle is to use it.
-#[derive(Clone, Copy, Debug, PartialEq, Eq)]
-pub struct Decision {
-    /// The two nodes, from the first to the second if pairs have a direction.
-    pub pair: (u32, u32),
-    /// Whether a cycle uses the pair, or doesn't.
-    pub taken: bool,
 }
 
 // ---- an empty list for each node

@@ -7,15 +7,16 @@ ghost use Rattle.tsp_cases.specs.Cases.{cases_of, leaves_of, LeafNumbers};
 ghost use Rattle.tsp_cases.specs.Families.{most_or_least, sum_with};
 ghost use Rattle.tsp_cases.specs.ListedCases.{AreGoodNumbers, as_leaf_numbers, listed_steps, IsStepOf, all_grown};
 ghost use Rattle.tsp_cases.specs.JudgedLeaves.{AreJudgedBy, AreSizedLeaves, IsJudgedLeaf, IsSizedLeaf, IsFoundOfCase, IsLowest};
-ghost use Rattle.tsp_cases.specs.declared.open_case.Decision.{Decision};
+ghost use Rattle.tsp_cases.specs.declared.decision.Decision.{Decision};
 ghost use Rattle.tsp_cases.specs.states.OpenCases.{IsDecision, IsNextStack, stack_of, IsOpenCase, decisions_in};
 ghost use Rattle.tsp_cases.specs.states.Kept.{AreSmall};
 
+use crate::decision::Decision;
 use crate::families::Families;
 use crate::family::Crossings;
 use crate::judged::{JudgedLeaf, JudgedLeaves};
 use crate::multipliers::Multipliers;
-use crate::open_case::{Decision, OpenCase};
+use crate::open_case::OpenCase;
 use std::alloc::Global;
 use tsp_format::{MOST_POTENTIAL, TreeStep};
 use tsp_io::{Refused, filled};

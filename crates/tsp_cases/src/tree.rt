@@ -9,8 +9,9 @@ ghost use Rattle.tsp_cases.specs.Crossings.{AreFamiliesOf};
 ghost use Rattle.tsp_cases.specs.JudgedTrees.{AreCasesJudged};
 ghost use Rattle.tsp_cases.specs.states.OpenCases.{IsDecision};
 
+use crate::decision::Decision;
 use crate::judged::{CheckedTree, JudgedCases};
-use crate::open_case::{Decision, OpenCase};
+use crate::open_case::OpenCase;
 use std::alloc::Global;
 use tsp_format::TreeStep;
 use tsp_io::Refused;

@@ -12,6 +12,7 @@ mod examples;
 mod keyword;
 mod kinds;
 mod layout;
+mod limits;
 mod place;
 mod steps;
 mod word;
@@ -20,16 +21,16 @@ pub use examples::{
     examples_of_asymmetric_costs, examples_of_bytes, examples_of_cells, examples_of_fields,
     examples_of_limits, examples_of_space, examples_of_words,
 };
-pub use keyword::{
-    Field, Keyword, MOST_BRANCHES, MOST_CAPACITY, MOST_CHANGES, MOST_COMMENTS, MOST_COORDINATE,
-    MOST_DEMAND, MOST_DEPOTS, MOST_DIFFERENCE, MOST_FAMILIES, MOST_FAMILY_NODES, MOST_FILE_BYTES,
-    MOST_FIXED, MOST_KEPT_BYTES, MOST_LINE_BYTES, MOST_LOAD_UNIT, MOST_MATRIX_NODES,
-    MOST_MULTIPLIER, MOST_MULTIPLIERS, MOST_NODES, MOST_OTHERS, MOST_POTENTIAL, MOST_ROWS,
-    MOST_SCALE, MOST_TOUR_NODES, MOST_WEIGHT, MOST_WORD_BYTES, Shape, ValueShape,
-    limits_are_those_of_the_profile,
-};
+pub use keyword::{Field, Keyword, Shape, ValueShape};
 pub use kinds::{CoordKind, DisplayKind, Kind, WeightFormat, WeightKind, is_spatial};
 pub use layout::{Layout, cells_are_distinct, cells_are_the_listed_pairs, cells_go_line_by_line};
+pub use limits::{
+    MOST_BRANCHES, MOST_CAPACITY, MOST_CHANGES, MOST_COMMENTS, MOST_COORDINATE, MOST_DEMAND,
+    MOST_DEPOTS, MOST_DIFFERENCE, MOST_FAMILIES, MOST_FAMILY_NODES, MOST_FILE_BYTES, MOST_FIXED,
+    MOST_KEPT_BYTES, MOST_LINE_BYTES, MOST_LOAD_UNIT, MOST_MATRIX_NODES, MOST_MULTIPLIER,
+    MOST_MULTIPLIERS, MOST_NODES, MOST_OTHERS, MOST_POTENTIAL, MOST_ROWS, MOST_SCALE,
+    MOST_TOUR_NODES, MOST_WEIGHT, MOST_WORD_BYTES, limits_are_those_of_the_profile,
+};
 pub use place::only_cells_have_places;
 pub use steps::{RowSets, TreeStep};
 pub use word::{Word, is_blank, is_keyword_byte, is_letter, value_of};

@@ -8,8 +8,8 @@ use Rattle.tsp_format.specs.declared.kinds.Kind.{Kind}
 use Rattle.tsp_format.specs.declared.kinds.WeightFormat.{WeightFormat}
 use Rattle.tsp_format.specs.declared.kinds.WeightKind.{WeightKind}
 use Rattle.tsp_text.proofs.ValidItems.{stands_late}
-use Rattle.tsp_read.specs.declared.line.StepFault.{StepFault}
-use Rattle.tsp_read.specs.declared.line.StepFault.TheVariants as steps
+use Rattle.tsp_read.specs.declared.step_fault.StepFault.{StepFault}
+use Rattle.tsp_read.specs.declared.step_fault.StepFault.TheVariants as steps
 use Rattle.tsp_read.specs.declared.reading.OpenSection.{OpenSection}
 use Rattle.tsp_read.specs.declared.reading.Reading.{Reading}
 use Rattle.tsp_read.specs.states.Holds.{named_rows, SetsNamed, numbered_rows, GivesNumber, fields_there, is_closed, is_closed_incomplete, OpenHolds, Closed, LineAnswers}

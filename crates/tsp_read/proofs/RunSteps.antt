@@ -12,13 +12,13 @@ use Rattle.tsp_read.proofs.TextSteps.{word_answer, kept_answer}
 use Rattle.tsp_read.specs.declared.by_node.NumberList.{NumberList}
 use Rattle.tsp_read.specs.declared.by_node.PointList.{PointList}
 use Rattle.tsp_read.specs.declared.items.Intake.{Intake}
-use Rattle.tsp_read.specs.declared.line.StepFault.{StepFault}
-use Rattle.tsp_read.specs.declared.line.StepFault.TheVariants as steps
+use Rattle.tsp_read.specs.declared.step_fault.StepFault.{StepFault}
+use Rattle.tsp_read.specs.declared.step_fault.StepFault.TheVariants as steps
 use Rattle.tsp_read.specs.declared.section_builder.SectionBuilder.{SectionBuilder}
 use Rattle.tsp_read.specs.declared.section_builder.SectionBuilder.TheVariants as parts
 use Rattle.tsp_read.specs.declared.reading.OpenSection.{OpenSection}
 use Rattle.tsp_read.specs.declared.reading.Reading.{Reading}
-use Rattle.tsp_read.specs.declared.digits.Count.{Count}
+use Rattle.tsp_read.specs.declared.runs.Count.{Count}
 use Rattle.tsp_read.specs.states.HeldParts.{HoldsNumbers, HoldsPoints, shape_of_points, shape_by, HoldsPart, HoldsShape, TakesRead, KeepsWords}
 use Rattle.tsp_read.specs.states.Left.{items_left, ends_word, up_to_first, from}
 use Rattle.tsp_read.specs.states.Onward.{is_over_long, GivesNext, IsReadTo}

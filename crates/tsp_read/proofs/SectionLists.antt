@@ -7,7 +7,7 @@ use Rattle.tsp_format.specs.Nodes.{nodes_to}
 use Rattle.tsp_text.specs.declared.fault.LineFault.TheVariants as row
 use Rattle.tsp_read.proofs.ListSteps.{HasNodes, one_begun, place_open, second_same as second_same_of, second_clean, group_goes_on, group_taken}
 use Rattle.tsp_read.proofs.NumbersReadBack.{no_zero}
-use Rattle.tsp_read.specs.declared.runs.TourList.{TourList}
+use Rattle.tsp_read.specs.declared.long_lists.TourList.{TourList}
 use Rattle.tsp_read.specs.states.HeldParts.{HoldsTours, EndsRunOf}
 use Rattle.tsp_read.specs.states.Parts.{IsNodeOf, IsNewNode, NodesHold, AreReadAs, TriplesHold, WeightsHold}
 

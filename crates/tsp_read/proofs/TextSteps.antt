@@ -9,8 +9,8 @@ use Rattle.tsp_text.proofs.Sections.{by_section, section_of}
 use Rattle.tsp_text.proofs.ValidItems.{is_file}
 use Rattle.tsp_text.specs.declared.fault.LineFault.TheVariants as row
 use Rattle.tsp_read.proofs.KeywordSteps.{still_none}
-use Rattle.tsp_read.specs.declared.line.StepFault.{StepFault}
-use Rattle.tsp_read.specs.declared.line.StepFault.TheVariants as steps
+use Rattle.tsp_read.specs.declared.step_fault.StepFault.{StepFault}
+use Rattle.tsp_read.specs.declared.step_fault.StepFault.TheVariants as steps
 use Rattle.tsp_read.specs.declared.reading.OpenSection.{OpenSection}
 use Rattle.tsp_read.specs.declared.reading.Reading.{Reading}
 use Rattle.tsp_read.specs.states.HeldParts.{shape_by, HoldsPart, HoldsShape}

@@ -6,8 +6,8 @@ ghost use Rattle.std.specs.Prelude.{◌≡◌, ◌<◌, ◌≤◌, ◌^◌, ◌�
 ghost use Rattle.tsp_file.specs.Cost.{origin};
 ghost use Rattle.tsp_read.specs.states.Parts.{are_in_space};
 
-use crate::line::StepFault;
 use crate::section_builder::{is_minus_one, new_node, unmarked_node};
+use crate::step_fault::StepFault;
 use std::alloc::Global;
 use tsp_file::Coords;
 use tsp_io::{Refused, filled};
@@ -53,7 +53,7 @@ fn at_origin(alloc: Global, n: u32, in_space: bool) -> Result<Coords, Refused>
 
 impl PointList {
     ghost use Rattle.tsp_read.specs.Prelude.{decimal_of, IsWhole, coords_by_node, place_by, wants_more, word_fault};
-    ghost use Rattle.tsp_read.specs.declared.line.StepFault.TheVariants.{Memory};
+    ghost use Rattle.tsp_read.specs.declared.step_fault.StepFault.TheVariants.{Memory};
     ghost use Rattle.tsp_read.specs.states.Parts.{Takes, IsNodeOf};
     ghost use Rattle.tsp_read.specs.states.HeldParts.{shape_of_points, HoldsPoints};
 
@@ -235,7 +235,7 @@ pub struct NumberList {
 
 impl NumberList {
     ghost use Rattle.tsp_read.specs.Prelude.{place_of_number, numbers_by_node, IsWhole, wants_more};
-    ghost use Rattle.tsp_read.specs.declared.line.StepFault.TheVariants.{Memory};
+    ghost use Rattle.tsp_read.specs.declared.step_fault.StepFault.TheVariants.{Memory};
     ghost use Rattle.tsp_read.specs.states.Parts.{Takes, IsNodeOf};
     ghost use Rattle.tsp_read.specs.states.HeldParts.{HoldsNumbers};
 

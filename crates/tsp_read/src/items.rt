@@ -7,9 +7,10 @@ ghost use Rattle.tsp_read.specs.states.Holds.{Holds};
 ghost use Rattle.tsp_read.specs.states.Onward.{ReadsOn, is_over_long, is_line_end, GivesNext, TakesItem};
 ghost use Rattle.tsp_read.specs.states.Left.{items_left, item_next, is_in_line, up_to_first, from, is_settled, token_item, token_at, ends_token, most_bytes};
 
+use crate::line::CutLine;
 pub(crate) use crate::line::without_start;
-use crate::line::{CutLine, StepFault};
 use crate::reading::{ReadError, Reading};
+use crate::step_fault::StepFault;
 use arrayvec::ArrayVec;
 use std::alloc::Global;
 use tsp_format::{Keyword, MOST_LINE_BYTES, MOST_WORD_BYTES, is_blank, is_letter};

@@ -1,7 +1,7 @@
 //! Reads TSPLIB 95 files: the file that bytes parse to, or the first fault and its place.
 //!
 //! It reads a text, a reader, or pieces ([`Feed`]), and each gives the same answer. `items` cuts
-//! lines and words from the bytes, `digits` takes runs of numbers at once, `reading` puts them into
+//! lines and words from the bytes, `runs` takes runs of numbers at once, `reading` puts them into
 //! the draft of a file, and `section_builder` holds the list of the open section. The law
 //! [`canonical_texts_are_read_back`] says that the canonical text of a valid file parses to that
 //! file. This crate judges nothing, and opens no files.
@@ -15,34 +15,36 @@
 
 mod api;
 mod by_node;
-mod digits;
 mod examples;
 mod feed;
 mod items;
 mod line;
 mod lists;
+mod long_lists;
 mod memory_lists;
 mod reading;
 mod round_trip;
 mod runs;
 mod section_builder;
+mod step_fault;
 mod tree;
 
 pub use api::{file_of_bytes, file_of_reader, read_bytes, read_from};
 pub use by_node::{NumberList, PointList};
-pub use digits::RunList;
 pub use examples::examples_of_reading;
 pub use feed::Feed;
 pub use line::{
-    CutLine, StepFault, add_comment, add_other, may_open, number_of, says_space, set_name,
-    set_named, without_start,
+    CutLine, add_comment, add_other, may_open, number_of, says_space, set_name, set_named,
+    without_start,
 };
 pub use lists::{DepotList, FixedList};
+pub use long_lists::{Gathered, GatheredNodes, TourList, WeightList};
 pub use memory_lists::{MemoryList, RowList};
 pub use reading::ReadError;
 pub use round_trip::{canonical_texts_are_read_back, written_numbers_are_read_back};
-pub use runs::{Gathered, GatheredNodes, TourList, WeightList};
+pub use runs::RunList;
 pub use section_builder::{SectionBuilder, TripleList};
+pub use step_fault::StepFault;
 pub use tree::{FamilyList, TreeList};
 pub use tsp_file::EndFault;
 pub use tsp_text::{LineFault, ReadFault};

@@ -5,16 +5,17 @@ ghost use Rattle.tsp_read.specs.Prelude.{position, prefix_len, option_map, cond,
 ghost use Rattle.std.specs.Prelude.{◌≡◌};
 ghost use Rattle.tsp_format.specs.declared.keyword.Field.TheVariants.{EdgeWeightTypeKey};
 ghost use Rattle.tsp_text.specs.declared.fault.LineFault.TheVariants.{Number};
-ghost use Rattle.tsp_read.specs.declared.line.StepFault.TheVariants.{Memory, Fault};
+ghost use Rattle.tsp_read.specs.declared.step_fault.StepFault.TheVariants.{Fault};
 ghost use Rattle.tsp_read.specs.states.Holds.{cut_item, NamesValue, GivesNumber, MayOpen, seen, SetsNamed, SetsName, AddsComment, AddsOther};
 
+use crate::step_fault::StepFault;
 use std::alloc::Global;
 use tsp_format::{
     CoordKind, Field, Keyword, MOST_COMMENTS, MOST_KEPT_BYTES, MOST_MATRIX_NODES, MOST_OTHERS,
     Shape, WeightKind, Word, is_blank, is_keyword_byte, value_of,
 };
 use tsp_io::{Refused, copied, push};
-use tsp_number::{NumberFault, parse_whole};
+use tsp_number::parse_whole;
 use tsp_text::LineFault;
 
 /// A word line, cut into its parts.
@@ -370,39 +371,4 @@ fn kept(alloc: Global, line: &CutLine<'_>) -> Result<(Vec<u8>, Vec<u8>), Refused
     let keyword = copied(alloc, line.keyword)?;
     let value = copied(alloc, line.value)?;
     Ok((keyword, value))
-}
-
-// ---- why a line or a word isn't taken: a fault of the text, or no memory
-
-/// Why a line or a word isn't taken.
-#[derive(Clone, Copy, Debug)]
-pub enum StepFault {
-    /// Memory was refused.
-    Memory(Refused),
-    /// It has this fault.
-    Fault(LineFault),
-}
-
-impl From<Refused> for StepFault {
-    ghost from_gives = { λ refused step. step ≡ Memory refused };
-
-    fn from(refused: Refused) -> StepFault {
-        StepFault::Memory(refused)
-    }
-}
-
-impl From<LineFault> for StepFault {
-    ghost from_gives = { λ fault step. step ≡ Fault fault };
-
-    fn from(fault: LineFault) -> StepFault {
-        StepFault::Fault(fault)
-    }
-}
-
-impl From<NumberFault> for StepFault {
-    ghost from_gives = { λ fault step. step ≡ Fault (Number fault) };
-
-    fn from(fault: NumberFault) -> StepFault {
-        StepFault::Fault(LineFault::Number(fault))
-    }
 }

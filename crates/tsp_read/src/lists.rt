@@ -2,8 +2,8 @@
 
 ghost use Rattle.std.specs.Prelude.{◌≡◌, [], ℕ, List, ◌∷◌, ◌++◌, IfErr, false, None, Some};
 
-use crate::line::StepFault;
 use crate::section_builder::{is_minus_one, read_node, read_node_or_end};
+use crate::step_fault::StepFault;
 use std::alloc::Global;
 use tsp_format::{MOST_DEPOTS, MOST_FIXED};
 use tsp_io::push;

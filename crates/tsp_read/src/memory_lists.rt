@@ -3,8 +3,8 @@
 
 ghost use Rattle.std.specs.Prelude.{◌≡◌, [], ℕ, List, ◌∷◌, ◌++◌, ◌<◌, length, OnOk, IfErr, false};
 
-use crate::line::StepFault;
 use crate::section_builder::{is_minus_one, move_to_end, read_node_or_end};
+use crate::step_fault::StepFault;
 use std::alloc::Global;
 use std::mem;
 use tsp_format::{MOST_FAMILY_NODES, MOST_ROWS, RowSets};

@@ -9,10 +9,10 @@ ghost use Rattle.tsp_read.specs.Reads.{Completes};
 ghost use Rattle.tsp_read.specs.states.Holds.{seen, FileOf, LineAnswers, Holds, IsReadFrom, is_either, first_of, HoldsSection, with_section};
 
 use crate::line::{
-    CutLine, StepFault, add_comment, add_other, may_open, number_of, says_space, set_name,
-    set_named,
+    CutLine, add_comment, add_other, may_open, number_of, says_space, set_name, set_named,
 };
 use crate::section_builder::SectionBuilder;
+use crate::step_fault::StepFault;
 use std::alloc::Global;
 use std::marker::Model;
 use tsp_file::{Draft, EndFault, File, end_fault};

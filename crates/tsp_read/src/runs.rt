@@ -1,317 +1,559 @@
-//! The lists that take the words of TOUR_SECTION and EDGE_WEIGHT_SECTION.
+//! The fast path of `Intake::take_items`: a run of plain numbers in a matrix, in tours, in points
+//! or in numbers by node.
+//!
+//! Most words of these sections are plain numbers, in a matrix mostly of a few digits. They are
+//! read in a single pass, which finds the end of a word while it reads the digits. Everything else
+//! is left to `Intake::take_next`.
+//!
+//! A run looks up the list of its section once. One loop serves all lists (`RunList`), with the
+//! counts of lines and words in one struct (`Count`), so that they can stay in registers.
 
-ghost use Rattle.tsp_read.specs.Prelude.{[], ℕ, List, Ok, OnOk, IfOk, IfErr, map, vec_len, vec_capacity, true, false, most_tour_nodes, IsWhole};
-ghost use Rattle.std.specs.Prelude.{◌≡◌, ◌+◌, ◌-◌, ◌≤◌, ◌∷◌, ◌++◌};
+ghost use Rattle.tsp_read.specs.Prelude.{option_map, ℕ, Bool, true, List, length, Some, IfSome, Ok, pos, slice_index_or, false, decimal_of, most_file_bytes, NumberWord, IsWhole};
+ghost use Rattle.std.specs.Prelude.{◌≡◌, ◌+◌, ◌<◌, ◌≤◌, ◌-◌};
+ghost use Rattle.tsp_read.specs.declared.section_builder.SectionBuilder.{SectionBuilder};
+ghost use Rattle.tsp_read.specs.declared.section_builder.SectionBuilder.TheVariants as parts;
+ghost use Rattle.tsp_read.specs.states.Onward.{GivesNext};
+ghost use Rattle.tsp_read.specs.states.HeldParts.{TakesRead, in_group, groups_left, marks_of, KeepsWords};
+ghost use Rattle.tsp_read.specs.states.Parts.{IsNodeOf};
+ghost use Rattle.tsp_read.specs.states.ReadingRun.{RunsTo, StepsTo, front_word, left_from, IsFrontWord, LeavesEnd};
 
-use crate::line::StepFault;
-use crate::section_builder::{move_to_end, read_node_or_end};
+use crate::by_node::{NumberList, PointList};
+use crate::items::{Intake, without_start};
+use crate::long_lists::{Gathered, GatheredNodes, TourList, WeightList};
+use crate::reading::Reading;
+use crate::section_builder::SectionBuilder;
 use std::alloc::Global;
-use std::mem;
-use tsp_format::{MOST_MATRIX_NODES, MOST_NODES, MOST_TOUR_NODES, MOST_WEIGHT};
-use tsp_io::{Refused, push};
-use tsp_number::parse_whole;
-use tsp_text::LineFault;
+use tsp_format::is_blank;
+use tsp_number::{Decimal, front_decimal, front_few, front_whole};
 
-/// The fewest nodes that a run reserves memory for.
-const FEWEST: usize = 8;
+// ---- a number at the beginning of a text
 
-/// What was read of the tours: those that are done, the run of nodes that is open, and how many
-/// nodes came in all.
-#[derive(Drop)]
-pub struct TourList {
-    done: Vec<Vec<u32>>,
-    run: Vec<u32>,
-    count: usize,
+/// The byte that ends a word, and the text after it.
+#[derive(Clone, Copy)]
+pub(crate) enum End<'a> {
+    /// A blank.
+    Blank(&'a [u8]),
+    /// A byte 10, which ends the line too.
+    Line(&'a [u8]),
 }
 
-impl TourList {
-    ghost use Rattle.tsp_text.specs.SectionWords.{place_of_tour, tours_in};
-    ghost use Rattle.tsp_read.specs.states.Parts.{Takes};
-    ghost use Rattle.tsp_read.specs.states.HeldParts.{HoldsTours, EndsRunOf};
+/// The end of a word that a text begins with. Nothing if no word ends here.
+#[inline(always)]
+fn word_end(rest: &[u8]) -> Option<End<'_>>
+    ensures left { IfSome result (λ end. LeavesEnd rest.now (left_from end)) }
+    ensures within { IfSome result (λ end. length (left_from end) ≤ length rest.now) }
+{
+    match rest.split_first() {
+        Some((end, left)) if is_blank(*end) => Some(End::Blank(left)),
+        Some((b'\n', left)) => Some(End::Line(left)),
+        _ => None,
+    }
+}
 
-    /// The section with no words so far.
-    pub fn open(alloc: Global) -> TourList
-        ensures { HoldsTours result [] }
-    {
-        TourList {
-            done: Vec::new(alloc),
-            run: Vec::new(alloc),
-            count: 0,
+/// The end of a word that a text begins with, if a byte 10 ends it. Nothing if none does.
+#[inline(always)]
+fn line_end(rest: &[u8]) -> Option<End<'_>>
+    ensures left { IfSome result (λ end. LeavesEnd rest.now (left_from end)) }
+    ensures within { IfSome result (λ end. length (left_from end) ≤ length rest.now) }
+{
+    match rest.split_first() {
+        Some((b'\n', later)) => Some(End::Line(later)),
+        _ => None,
+    }
+}
+
+/// The whole number of a few digits that a text begins with, and the end of its word; or nothing
+/// if the text begins with no such word whose end has come.
+#[inline(always)]
+fn few_number(text: &[u8]) -> Option<(i64, End<'_>)>
+    ensures { IfSome result (λ found.
+        IsFrontWord text.now (IsWhole (front_word text.now) found.0) (left_from found.1)) }
+{
+    let Some((number, end)) = front_few(text) else {
+        return None;
+    };
+    let rest = text.split_at(end).1;
+    match word_end(rest) {
+        Some(end) => Some((number, end)),
+        None => None,
+    }
+}
+
+/// The result of `few_number`, for a word that a byte 10 ends.
+#[inline(always)]
+fn last_number(text: &[u8]) -> Option<(i64, End<'_>)>
+    ensures { IfSome result (λ found.
+        IsFrontWord text.now (IsWhole (front_word text.now) found.0) (left_from found.1)) }
+{
+    let Some((number, end)) = front_few(text) else {
+        return None;
+    };
+    let rest = text.split_at(end).1;
+    match line_end(rest) {
+        Some(end) => Some((number, end)),
+        None => None,
+    }
+}
+
+/// The whole number at the beginning of a text, and the end of its word. Nothing if the text
+/// begins with no word of at most 18 digits whose end has come.
+#[inline(never)]
+fn front_number(text: &[u8]) -> Option<(i64, End<'_>)>
+    ensures { IfSome result (λ found.
+        IsFrontWord text.now (IsWhole (front_word text.now) found.0) (left_from found.1)) }
+{
+    let filled = without_start(text);
+    let Some((number, end)) = front_whole(filled) else {
+        return None;
+    };
+    let rest = filled.split_at(end).1;
+    match word_end(rest) {
+        Some(end) => Some((number, end)),
+        None => None,
+    }
+}
+
+/// The coordinate at the beginning of a text, and the end of its word. Nothing if the text
+/// begins with no word of at most nine digits, a point and nine more whose end has come.
+#[inline(always)]
+fn front_coordinate(text: &[u8]) -> Option<(Decimal, End<'_>)>
+    ensures { IfSome result (λ found.
+        IsFrontWord text.now (decimal_of (front_word text.now) ≡ Ok found.0) (left_from found.1)) }
+{
+    let filled = without_start(text);
+    let Some(found) = front_decimal(filled) else {
+        return None;
+    };
+    let rest = filled.split_at(found.1).1;
+    match word_end(rest) {
+        Some(end) => Some((found.0, end)),
+        None => None,
+    }
+}
+
+// ---- one item, taken
+
+/// Counts a word that was taken, and the line's end if that ends it. The result is the text
+/// after it.
+#[inline(always)]
+fn count_word<'a>(count: &mut Count, end: End<'a>) -> &'a [u8]
+    requires line { count.old.line + length (left_from end) ≤ most_file_bytes }
+    requires words { count.old.words + length (left_from end) < most_file_bytes }
+    ensures { (old new : SectionBuilder) (text word : List ℕ) → TakesRead old new word
+        → ((inside : Bool) → GivesNext inside text (NumberWord word) true (left_from end.entry))
+        → length (left_from end.entry) < length text
+        → StepsTo old count.old text new count.new (Some result.now) }
+{
+    match end {
+        End::Blank(rest) => {
+            count.words += 1;
+            count.inside = true;
+            rest
+        }
+        End::Line(rest) => {
+            count.line += 1;
+            count.words = 0;
+            count.inside = false;
+            rest
         }
     }
+}
 
-    /// Takes the next word. How many nodes the file has doesn't matter.
-    ///
-    /// # Errors
-    ///
-    /// - `Fault`: the word is neither a node of some file nor a -1 (`Number`), or the tours have as
-    ///   many nodes as a file may have in tours (`Surplus`).
-    /// - `Memory`: memory was refused.
-    ///
-    /// The list has the words from before then.
-    pub fn push(&mut self, alloc: Global, word: &[u8]) -> Result<(), StepFault>
-        ensures takes { (n : ℕ) (words : List (List ℕ)) → HoldsTours self.old words
-            → Takes n (place_of_tour words) word.now
-            (HoldsTours self.new (words ++ word.now ∷ [])) result }
-        ensures kept { IfErr result (λ _. (words : List (List ℕ)) → HoldsTours self.old words
-            → HoldsTours self.new words) }
+/// Takes the whole number that was found at the beginning of a text, if one was, if the list
+/// takes it, and returns the rest.
+#[inline(always)]
+fn take_number<'a, L: RunList>(
+    list: &mut L,
+    count: &mut Count,
+    text: &[u8],
+    found: Option<(i64, End<'a>)>,
+) -> Option<&'a [u8]>
+    requires line { count.old.line + length text.now ≤ most_file_bytes + 1 }
+    requires words { count.old.words + length text.now ≤ most_file_bytes }
+    requires found { IfSome found (λ found.
+        IsFrontWord text.now (IsWhole (front_word text.now) found.0) (left_from found.1)) }
+    ensures { StepsTo (L.part list.old) count.old text.now (L.part list.new) count.new
+        (option_map (λ rest. rest.now) result) }
+{
+    let Some((number, end)) = found else {
+        return None;
+    };
+    if !list.take_whole(number) {
+        return None;
+    }
+    Some(count_word(count, end))
+}
+
+/// Takes the coordinate that a text begins with, if the list takes it, and gives what follows
+/// it.
+#[inline(always)]
+fn take_coordinate<'a, L: RunList>(
+    list: &mut L,
+    count: &mut Count,
+    text: &'a [u8],
+) -> Option<&'a [u8]>
+    requires line { count.old.line + length text.now ≤ most_file_bytes + 1 }
+    requires words { count.old.words + length text.now ≤ most_file_bytes }
+    ensures { StepsTo (L.part list.old) count.old text.now (L.part list.new) count.new
+        (option_map (λ rest. rest.now) result) }
+{
+    let Some(found) = front_coordinate(text) else {
+        return None;
+    };
+    if !list.take_coordinate(found.0) {
+        return None;
+    }
+    Some(count_word(count, found.1))
+}
+
+/// Counts the line's end that a text begins with, and gives what follows it.
+#[inline(always)]
+fn take_line_end<'a>(count: &mut Count, text: &'a [u8]) -> Option<&'a [u8]>
+    requires { count.old.line + length text.now ≤ most_file_bytes + 1 }
+    ensures { (part : SectionBuilder) → StepsTo part count.old text.now part count.new
+        (option_map (λ rest. rest.now) result) }
+{
+    match text.split_first() {
+        Some((b'\n', rest)) => {
+            count.line += 1;
+            count.words = 0;
+            count.inside = false;
+            Some(rest)
+        }
+        _ => None,
+    }
+}
+
+/// Takes the line's end or the number that a text begins with, if it is no number of a few
+/// digits.
+#[inline(always)]
+fn take_other<'a, L: RunList>(list: &mut L, count: &mut Count, text: &'a [u8]) -> Option<&'a [u8]>
+    requires line { count.old.line + length text.now ≤ most_file_bytes + 1 }
+    requires words { count.old.words + length text.now ≤ most_file_bytes }
+    ensures { StepsTo (L.part list.old) count.old text.now (L.part list.new) count.new
+        (option_map (λ rest. rest.now) result) }
+{
+    match take_line_end(count, text) {
+        Some(rest) => Some(rest),
+        None => take_number(list, count, text, front_number(text)),
+    }
+}
+
+/// Takes the number of a few digits that a text begins with. If most words end their line
+/// (`by_line`), such a word is tried first.
+// (so that its line is counted without a look at what else may end a word)
+#[inline(always)]
+fn take_few<'a, L: RunList>(
+    list: &mut L,
+    count: &mut Count,
+    text: &'a [u8],
+    by_line: bool,
+) -> Option<&'a [u8]>
+    requires line { count.old.line + length text.now ≤ most_file_bytes + 1 }
+    requires words { count.old.words + length text.now ≤ most_file_bytes }
+    ensures { StepsTo (L.part list.old) count.old text.now (L.part list.new) count.new
+        (option_map (λ rest. rest.now) result) }
+{
+    if !by_line {
+        return take_number(list, count, text, few_number(text));
+    }
+    match take_number(list, count, text, last_number(text)) {
+        Some(rest) => Some(rest),
+        None => take_number(list, count, text, few_number(text)),
+    }
+}
+
+/// Takes the word or the line's end that a text begins with, if the list takes it, and gives
+/// what follows it.
+#[inline(always)]
+fn take_one<'a, L: RunList>(
+    list: &mut L,
+    count: &mut Count,
+    text: &'a [u8],
+    by_line: bool,
+) -> Option<&'a [u8]>
+    requires line { count.old.line + length text.now ≤ most_file_bytes + 1 }
+    requires words { count.old.words + length text.now ≤ most_file_bytes }
+    ensures { StepsTo (L.part list.old) count.old text.now (L.part list.new) count.new
+        (option_map (λ rest. rest.now) result) }
+{
+    if list.awaits_coordinate() {
+        return take_coordinate(list, count, text);
+    }
+    match take_few(list, count, text, by_line) {
+        Some(rest) => Some(rest),
+        None => take_other(list, count, text),
+    }
+}
+
+// ---- a run
+
+/// Takes the words and line ends at the beginning of a text, as many as the list takes. The result
+/// is their count and the rest of the text.
+#[inline(always)]
+fn take_all<'a, L: RunList>(
+    list: &mut L,
+    count: Count,
+    text: &'a [u8],
+    by_line: bool,
+) -> (Count, &'a [u8])
+    requires line { count.line + length text.now ≤ most_file_bytes + 1 }
+    requires words { count.words + length text.now ≤ most_file_bytes }
+    ensures { RunsTo (L.part list.old) count text.now (L.part list.new) result.0 result.1.now }
+{
+    let mut counted = count;
+    let mut rest = text;
+    'run: while let Some(after) = take_one(list, &mut counted, rest, by_line) {
+        rest = after;
+    }
+    (counted, rest)
+}
+
+/// Does what `take_all` does, over a list that is passed by value.
+// (so that all that changes in the loop can stay in registers)
+#[inline(never)]
+fn take_gathered<'a, L: RunList>(
+    list: L,
+    count: Count,
+    text: &'a [u8],
+    by_line: bool,
+) -> (L, Count, &'a [u8])
+    requires line { count.line + length text.now ≤ most_file_bytes + 1 }
+    requires words { count.words + length text.now ≤ most_file_bytes }
+    ensures { RunsTo (L.part list) count text.now (L.part result.0) result.1 result.2.now }
+{
+    let mut own = list;
+    let (counted, rest) = take_all(&mut own, count, text, by_line);
+    (own, counted, rest)
+}
+
+/// Does what `take_all` does, over the weights of a matrix, which reserve memory first: a word and
+/// its end are two bytes at least.
+fn take_weights<'a>(
+    list: &mut WeightList,
+    alloc: Global,
+    count: Count,
+    text: &'a [u8],
+) -> (Count, &'a [u8])
+    requires line { count.line + length text.now ≤ most_file_bytes + 1 }
+    requires words { count.words + length text.now ≤ most_file_bytes }
+    ensures { RunsTo (parts.Weights list.old) count text.now
+        (parts.Weights list.new) result.0 result.1.now }
+{
+    let gathered = list.gather(alloc, text.len() / 2);
+    let (gathered, counted, rest) = take_gathered(gathered, count, text, false);
+    list.put_back(gathered);
+    (counted, rest)
+}
+
+/// Does what `take_all` does, over the nodes of tours, which reserve memory too.
+fn take_tours<'a>(
+    list: &mut TourList,
+    alloc: Global,
+    count: Count,
+    text: &'a [u8],
+) -> (Count, &'a [u8])
+    requires line { count.line + length text.now ≤ most_file_bytes + 1 }
+    requires words { count.words + length text.now ≤ most_file_bytes }
+    ensures { RunsTo (parts.Tours list.old) count text.now
+        (parts.Tours list.new) result.0 result.1.now }
+{
+    let gathered = list.gather(alloc);
+    let (gathered, counted, rest) = take_gathered(gathered, count, text, true);
+    list.put_back(gathered);
+    (counted, rest)
+}
+
+/// Does what `take_all` does, for the part of any section. A section whose words come in no run
+/// takes none.
+fn take_part<'a>(
+    part: &mut SectionBuilder,
+    alloc: Global,
+    count: Count,
+    text: &'a [u8],
+) -> (Count, &'a [u8])
+    requires line { count.line + length text.now ≤ most_file_bytes + 1 }
+    requires words { count.words + length text.now ≤ most_file_bytes }
+    ensures { RunsTo part.old count text.now part.new result.0 result.1.now }
+{
+    match part {
+        SectionBuilder::Numbers(list) => take_all(list, count, text, false),
+        SectionBuilder::Weights(list) => take_weights(list, alloc, count, text),
+        SectionBuilder::Tours(list) => take_tours(list, alloc, count, text),
+        SectionBuilder::Points(list) => take_all(list, count, text, false),
+        _ => (count, text),
+    }
+}
+
+impl Reading {
+    ghost use Rattle.std.specs.Prelude.{ℕ, List};
+    ghost use Rattle.tsp_read.specs.states.Onward.{IsReadTo};
+    ghost use Rattle.tsp_read.specs.states.ReadingRun.{counted};
+
+    /// Does what `take_part` does, for the section that is open, if one is.
+    fn take_run<'a>(&mut self, alloc: Global, count: Count, text: &'a [u8]) -> (Count, &'a [u8])
+        requires line { count.line + length text.now ≤ most_file_bytes + 1 }
+        requires words { count.words + length text.now ≤ most_file_bytes }
+        ensures read { (bytes : List ℕ) → IsReadTo (counted self.old count) bytes text.now
+            → IsReadTo (counted self.new result.0) bytes result.1.now }
+        ensures line { result.0.line + length result.1.now ≤ count.line + length text.now }
+        ensures words { result.0.words + length result.1.now ≤ count.words + length text.now }
+        ensures shorter { length result.1.now ≤ length text.now }
     {
-        let Some(node) = read_node_or_end(word, MOST_NODES)? else {
-            return Ok(self.end_run(alloc)?);
+        match &mut self.opened {
+            Some(section) => take_part(&mut section.part, alloc, count, text),
+            None => (count, text),
+        }
+    }
+}
+
+impl Intake {
+    ghost use Rattle.std.specs.Prelude.{ℕ, List};
+    ghost use Rattle.tsp_read.specs.states.Onward.{IsReadTo};
+
+    /// Takes a run of plain numbers at the front of a text, and returns the rest.
+    ///
+    /// The open section has to be one of weights, tours, points or numbers by node; if it isn't,
+    /// the whole text is the rest.
+    pub(crate) fn take_run<'a>(&mut self, alloc: Global, text: &'a [u8]) -> &'a [u8]
+        requires line { self.old.line + length text.now ≤ most_file_bytes + 1 }
+        requires words { self.old.words + length text.now ≤ most_file_bytes }
+        ensures read { (bytes : List ℕ) → IsReadTo self.old bytes text.now
+            → IsReadTo self.new bytes result.now }
+        ensures line { self.new.line + length result.now ≤ self.old.line + length text.now }
+        ensures words { self.new.words + length result.now ≤ self.old.words + length text.now }
+        ensures shorter { length result.now ≤ length text.now }
+    {
+        let count = Count {
+            line: self.line,
+            words: self.words,
+            inside: self.inside,
         };
-        if self.count >= MOST_TOUR_NODES {
-            return Err(StepFault::Fault(LineFault::Surplus));
-        }
-        push(&mut self.run, node)?;
-        self.count += 1;
-        Ok(())
-    }
-
-    /// The list for a run of words, with capacity for some nodes more; for none if memory was
-    /// refused, or the tours have as many nodes as a file may have.
-    #[inline(always)]
-    pub fn gather(&mut self, alloc: Global) -> GatheredNodes
-        ensures { (words : List (List ℕ)) → HoldsTours self.old words
-            → HoldsTours result.list words }
-    {
-        GatheredNodes::of(mem::replace(self, TourList::open(alloc)))
-    }
-
-    /// Goes on with the list of a run.
-    #[inline(always)]
-    pub fn put_back(&mut self, gathered: GatheredNodes)
-        ensures { self.new ≡ gathered.list }
-    {
-        let GatheredNodes { list, room: _ } = gathered;
-        let before = mem::replace(self, list);
-        drop(before);
-    }
-
-    /// Ends the run that is open, if one is.
-    fn end_run(&mut self, alloc: Global) -> Result<(), Refused>
-        ensures done { OnOk result ((words : List (List ℕ)) → HoldsTours self.old words
-            → EndsRunOf self.new words) }
-        ensures kept { IfErr result (λ _. (words : List (List ℕ)) → HoldsTours self.old words
-            → HoldsTours self.new words) }
-        ensures count { self.new.count ≡ self.old.count }
-    {
-        if self.run.is_empty() {
-            return Ok(());
-        }
-        move_to_end(alloc, &mut self.done, &mut self.run)
-    }
-
-    /// The tours.
-    ///
-    /// # Errors
-    ///
-    /// Memory was refused. The tours are gone then.
-    pub fn finish(mut self, alloc: Global) -> Result<Vec<Vec<u32>>, Refused>
-        ensures tours { (words : List (List ℕ)) → HoldsTours self words
-            → IfOk result (λ tours. map (λ tour. tour.items) tours.items ≡ tours_in words) }
-    {
-        self.end_run(alloc)?;
-        Ok(self.done)
+        let (counted, rest) = self.reading.take_run(alloc, count, text);
+        self.line = counted.line;
+        self.words = counted.words;
+        self.inside = counted.inside;
+        rest
     }
 }
 
-/// The nodes in a run of words, which has reserved memory for some at once.
-///
-/// By value its vector is in no other place, so a push is a store and three counts.
-#[derive(Drop)]
-pub struct GatheredNodes {
-    list: TourList,
-    /// The free capacity for nodes, in memory and among those that tours may have.
-    room: usize,
-    ghost reserved: { vec_len list.run + room ≤ vec_capacity list.run },
-    ghost within: { room ≤ most_tour_nodes - list.count },
+// ---- the number of the line and of its words, while many words are taken at once
+
+/// The counts of an `Intake`, in a run of words.
+#[derive(Clone, Copy)]
+pub(crate) struct Count {
+    /// The number of the line, from 1 on.
+    pub(crate) line: u32,
+    /// How many of its words were taken.
+    pub(crate) words: u32,
+    /// An item of the line was taken.
+    pub(crate) inside: bool,
 }
 
-impl GatheredNodes {
-    ghost use Rattle.tsp_text.specs.SectionWords.{place_of_tour};
-    ghost use Rattle.tsp_read.specs.states.Parts.{Takes};
-    ghost use Rattle.tsp_read.specs.states.HeldParts.{HoldsTours};
+// ---- the trait of lists that take the numbers of many words in one pass
 
-    /// A list with capacity for some nodes more; for none if memory was refused.
-    ///
-    /// If it grows, it doubles, as it does word by word.
-    #[inline(always)]
-    fn of(mut list: TourList) -> GatheredNodes
-        ensures { (words : List (List ℕ)) → HoldsTours list words → HoldsTours result.list words }
-    {
-        let left = MOST_TOUR_NODES.saturating_sub(list.count);
-        let len = list.run.len();
-        if list.run.capacity() == len {
-            let growth = left.min(len.max(FEWEST));
-            if list.run.reserve_exact(growth).is_err() {
-                return GatheredNodes { list, room: 0 };
-            }
-        }
-        let room = left.min(list.run.capacity() - len);
-        GatheredNodes { list, room }
-    }
+/// A list that takes the numbers of a run of words, each read already.
+pub trait RunList {
+    /// The part of the section that it is.
+    ghost part: { Self → SectionBuilder };
 
-    /// Takes a number as a node, if there is room, and returns whether it was taken.
-    #[inline(always)]
-    pub fn push_read(&mut self, number: i64) -> bool
-        ensures taken { result ≡ true → (n : ℕ) (words : List (List ℕ)) (word : List ℕ)
-            → IsWhole word number → HoldsTours self.old.list words → Takes n
-            (place_of_tour words) word (HoldsTours self.new.list (words ++ word ∷ [])) (Ok tt) }
-        ensures kept { result ≡ false → (words : List (List ℕ)) → HoldsTours self.old.list words
-            → HoldsTours self.new.list words }
-    {
-        let Ok(node) = u32::try_from(number) else {
-            return false;
-        };
-        if node < 1 || node > MOST_NODES || self.room == 0 {
-            return false;
-        }
-        self.room -= 1;
-        self.list.count += 1;
-        self.list.run.push_reserved(node);
-        true
-    }
+    /// Whether the next word is a coordinate.
+    fn awaits_coordinate(&self) -> bool
+        ensures { result ≡ in_group (part self.now) };
+
+    /// Takes the number of a word, if the list takes it at its place. Returns whether it was
+    /// taken.
+    fn take_whole(&mut self, number: i64) -> bool
+        ensures taken { result ≡ true → (word : List ℕ) → IsWhole word number
+            → TakesRead (part self.old) (part self.new) word }
+        ensures kept { result ≡ false → KeepsWords (part self.old) (part self.new) }
+        ensures refused { result ≡ false → 0 < groups_left (part self.old)
+            → in_group (part self.old) ≡ false → (k : ℕ) → number ≡ pos k
+            → IsNodeOf (length (marks_of (part self.old))) k
+            → slice_index_or (marks_of (part self.old)) (k - 1) false ≡ true };
+
+    /// Takes the coordinate of a word, if a group of points has begun. Returns whether it was
+    /// taken.
+    fn take_coordinate(&mut self, coordinate: Decimal) -> bool
+        ensures taken { result ≡ true → (word : List ℕ) → decimal_of word ≡ Ok coordinate
+            → TakesRead (part self.old) (part self.new) word }
+        ensures kept { result ≡ false → KeepsWords (part self.old) (part self.new) }
+        ensures refused { result ≡ false → 0 < groups_left (part self.old)
+            → in_group (part self.old) ≡ false };
 }
 
-// ---- the list that takes the words of EDGE_WEIGHT_SECTION
+impl RunList for Gathered {
+    ghost part = { λ run. parts.Weights run.list };
 
-/// What was read of the weights.
-#[derive(Drop)]
-pub struct WeightList {
-    weights: Vec<i64>,
-    most: usize,
-    ghost few: { vec_len weights ≤ most },
-}
-
-impl WeightList {
-    ghost use Rattle.tsp_text.specs.SectionWords.{place_of_weight, weights_in};
-    ghost use Rattle.tsp_read.specs.states.Parts.{Takes};
-    ghost use Rattle.tsp_read.specs.states.HeldParts.{HoldsWeights};
-
-    /// The section with no words so far, in a file of `n` nodes.
-    pub fn open(alloc: Global, n: u32) -> WeightList
-        requires { n ≤ MOST_MATRIX_NODES }
-        ensures { HoldsWeights result n [] }
-    {
-        WeightList {
-            weights: Vec::new(alloc),
-            most: n as usize * n as usize,
-        }
-    }
-
-    /// Takes the next word.
-    ///
-    /// # Errors
-    ///
-    /// - `Fault`: the word is no weight (`Number`), or there are `n * n` weights (`Surplus`).
-    /// - `Memory`: memory was refused.
-    ///
-    /// The list has the words from before then.
-    pub fn push(&mut self, word: &[u8]) -> Result<(), StepFault>
-        ensures takes { (n : ℕ) (words : List (List ℕ)) → HoldsWeights self.old n words
-            → Takes n (place_of_weight n words) word.now
-            (HoldsWeights self.new n (words ++ word.now ∷ [])) result }
-        ensures kept { IfErr result (λ _. (n : ℕ) (words : List (List ℕ))
-            → HoldsWeights self.old n words → HoldsWeights self.new n words) }
-    {
-        if self.weights.len() >= self.most {
-            return Err(StepFault::Fault(LineFault::Surplus));
-        }
-        let weight = parse_whole(word, -MOST_WEIGHT, MOST_WEIGHT)?;
-        push(&mut self.weights, weight)?;
-        Ok(())
-    }
-
-    /// The list for a run of weights, with memory reserved for `more` of them.
-    ///
-    /// It reserves no more than the matrix still needs, and nothing if memory was refused.
     #[inline(always)]
-    pub fn gather(&mut self, alloc: Global, more: usize) -> Gathered
-        ensures { (n : ℕ) (words : List (List ℕ)) → HoldsWeights self.old n words
-            → HoldsWeights result.list n words }
-    {
-        let empty = WeightList {
-            weights: Vec::new(alloc),
-            most: 0,
-        };
-        Gathered::of(mem::replace(self, empty), more)
+    fn awaits_coordinate(&self) -> bool {
+        false
     }
 
-    /// Goes on with the list of a run.
     #[inline(always)]
-    pub fn put_back(&mut self, gathered: Gathered)
-        ensures { self.new ≡ gathered.list }
-    {
-        let Gathered { list, room: _ } = gathered;
-        let before = mem::replace(self, list);
-        drop(before);
+    fn take_whole(&mut self, number: i64) -> bool {
+        self.push_read(number)
     }
 
-    /// The weights.
-    pub fn finish(self) -> Vec<i64>
-        ensures { (n : ℕ) (words : List (List ℕ)) → HoldsWeights self n words
-            → result.items ≡ weights_in words }
-    {
-        self.weights
+    #[inline(always)]
+    fn take_coordinate(&mut self, _coordinate: Decimal) -> bool {
+        false
     }
 }
 
-/// The weights in a run of words, which has reserved memory for many at once.
-///
-/// By value its vector is in no other place, so a push is a store and two counts.
-#[derive(Drop)]
-pub struct Gathered {
-    list: WeightList,
-    /// The free capacity for weights, in memory and in the matrix.
-    room: usize,
-    ghost reserved: { vec_len list.weights + room ≤ vec_capacity list.weights },
-    ghost within: { vec_len list.weights + room ≤ list.most },
-}
+impl RunList for GatheredNodes {
+    ghost part = { λ run. parts.Tours run.list };
 
-impl Gathered {
-    ghost use Rattle.tsp_read.specs.Prelude.{unsigned_abs, most_weight, place_of_weight};
-    ghost use Rattle.std.specs.Prelude.{◌<◌};
-    ghost use Rattle.tsp_read.specs.states.Parts.{Takes};
-    ghost use Rattle.tsp_read.specs.states.HeldParts.{HoldsWeights};
-
-    /// A list with capacity for this many more weights, or for all that the matrix still needs; for
-    /// none if memory was refused.
-    ///
-    /// If it grows, it doubles, and never past the matrix's size. So the request depends on the
-    /// weights that have come and on `more`, and not on the dimension alone.
     #[inline(always)]
-    fn of(mut list: WeightList, more: usize) -> Gathered
-        ensures { (n : ℕ) (words : List (List ℕ)) → HoldsWeights list n words
-            → HoldsWeights result.list n words }
-    {
-        let len = list.weights.len();
-        let left = list.most.saturating_sub(len);
-        let room = more.min(left);
-        if list.weights.capacity() < len + room {
-            let growth = room.max(len.min(left));
-            if list.weights.reserve_exact(growth).is_err() {
-                return Gathered { list, room: 0 };
-            }
-        }
-        Gathered { list, room }
+    fn awaits_coordinate(&self) -> bool {
+        false
     }
 
-    /// Takes a number as a weight, if there is room, and returns whether it was taken.
     #[inline(always)]
-    pub fn push_read(&mut self, weight: i64) -> bool
-        ensures taken { result ≡ true → (n : ℕ) (words : List (List ℕ)) (word : List ℕ)
-            → IsWhole word weight → HoldsWeights self.old.list n words
-            → Takes n (place_of_weight n words) word
-            (HoldsWeights self.new.list n (words ++ word ∷ [])) (Ok tt) }
-        ensures kept { result ≡ false → (n : ℕ) (words : List (List ℕ))
-            → HoldsWeights self.old.list n words → HoldsWeights self.new.list n words }
-        ensures refused { result ≡ false → 0 < self.old.room → most_weight < unsigned_abs weight }
-    {
-        if self.room == 0 || weight < -MOST_WEIGHT || weight > MOST_WEIGHT {
-            return false;
-        }
-        self.room -= 1;
-        self.list.weights.push_reserved(weight);
-        true
+    fn take_whole(&mut self, number: i64) -> bool {
+        self.push_read(number)
+    }
+
+    #[inline(always)]
+    fn take_coordinate(&mut self, _coordinate: Decimal) -> bool {
+        false
+    }
+}
+
+impl RunList for NumberList {
+    ghost part = { λ list. parts.Numbers list };
+
+    #[inline(always)]
+    fn awaits_coordinate(&self) -> bool {
+        false
+    }
+
+    #[inline(always)]
+    fn take_whole(&mut self, number: i64) -> bool {
+        self.push_read(number)
+    }
+
+    #[inline(always)]
+    fn take_coordinate(&mut self, _coordinate: Decimal) -> bool {
+        false
+    }
+}
+
+impl RunList for PointList {
+    ghost part = { λ list. parts.Points list };
+
+    #[inline(always)]
+    fn awaits_coordinate(&self) -> bool {
+        self.wants_coordinate()
+    }
+
+    #[inline(always)]
+    fn take_whole(&mut self, number: i64) -> bool {
+        self.push_read(number)
+    }
+
+    #[inline(always)]
+    fn take_coordinate(&mut self, coordinate: Decimal) -> bool {
+        self.push_coordinate(coordinate)
     }
 }

@@ -7,10 +7,10 @@ ghost use Rattle.std.specs.Prelude.{◌≡◌, ◌≤◌, ◌∷◌, ◌++◌, �
 ghost use Rattle.tsp_read.specs.states.Parts.{as_number, as_node_or_end, as_index_or_leaf, IsNodeOf, IsNewNode};
 
 use crate::by_node::{NumberList, PointList};
-use crate::line::StepFault;
 use crate::lists::{DepotList, FixedList};
+use crate::long_lists::{TourList, WeightList};
 use crate::memory_lists::{MemoryList, RowList};
-use crate::runs::{TourList, WeightList};
+use crate::step_fault::StepFault;
 use crate::tree::{FamilyList, TreeList};
 use std::alloc::Global;
 use std::mem;

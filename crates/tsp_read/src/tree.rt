@@ -3,10 +3,10 @@
 
 ghost use Rattle.std.specs.Prelude.{◌≡◌, [], ℕ, List, ◌∷◌, ◌++◌, ◌<◌, length, OnOk, IfErr, false, ◌≢◌, ◌+◌, ◌≤◌, None, Some, true};
 
-use crate::line::StepFault;
 use crate::section_builder::{
     is_minus_one, move_to_end, read_index_or_leaf, read_node, read_node_or_end,
 };
+use crate::step_fault::StepFault;
 use std::alloc::Global;
 use std::mem;
 use tsp_format::{

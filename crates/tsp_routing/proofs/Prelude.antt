@@ -21,7 +21,7 @@ pub use Rattle.tsp_cases.specs.Crossings.{AreSetsOf, families_in, has, lists_of}
 pub use Rattle.tsp_cases.specs.Families.{Comb, Family, HasEachOnce, IsFamily, comb_with, families_with, family_crossings, family_with}
 pub use Rattle.tsp_cases.specs.ListedCases.{BeginsWithin, IsFirstBadBranch, IsGoodAtBy, IsStepOf, as_leaf_numbers, branch_pairs, listed_steps, no_numbers_of, split_at}
 pub use Rattle.tsp_cases.specs.declared.family.Crossings.{Crossings}
-pub use Rattle.tsp_cases.specs.declared.open_case.Decision.{Decision}
+pub use Rattle.tsp_cases.specs.declared.decision.Decision.{Decision}
 pub use Rattle.tsp_cases.specs.states.OpenCases.{bears_on, decisions_in, stack_of}
 pub use Rattle.tsp_cases.specs.states.Sets.{IsApart, IsPlaceIn, IsSetTable, inside_both, lent_in, multipliers_at, places_with, set_crossings, set_weight}
 pub use Rattle.tsp_format.specs.Limits.{most_demand, most_nodes, most_potential, most_scale, most_weight}

@@ -6,7 +6,7 @@ pub use Rattle.tsp_cases.specs.Cases.{CaseStep, LeafNumbers, are_case_trees, cas
 pub use Rattle.tsp_cases.specs.Crossings.{AreFamiliesOf, AreSetsOf, families_in, has, lists_of}
 pub use Rattle.tsp_cases.specs.Families.{Family, HasEachOnce, families_with, family_crossings, family_with}
 pub use Rattle.tsp_cases.specs.ListedCases.{AreGoodLeavesBy, BeginsWithin, IsFirstBadBranch, IsFirstBadLeafBy, IsStepOf, as_leaf_numbers, branch_pairs, listed_steps}
-pub use Rattle.tsp_cases.specs.declared.open_case.Decision.{Decision}
+pub use Rattle.tsp_cases.specs.declared.decision.Decision.{Decision}
 pub use Rattle.tsp_cases.specs.states.Sets.{AreSmallDifferences, IsSetTable, lent_in, multipliers_at, set_crossings, set_weight}
 pub use Rattle.tsp_format.specs.Limits.{most_capacity, most_demand, most_nodes, most_potential}
 pub use Rattle.tsp_format.specs.Nodes.{IsNode}

@@ -8,7 +8,7 @@ use Rattle.std.specs.Ordering.{is_eq, nat_cmp}
 use Rattle.std.specs.declared.cmp.Ordering.{Ordering}
 use Rattle.std.specs.declared.cmp.Ordering.TheVariants.{Less, Equal, Greater}
 use Rattle.tsp_bound.proofs.LoweredWeights.{straight, crossed}
-use Rattle.tsp_cases.specs.declared.open_case.Decision.{Decision}
+use Rattle.tsp_cases.specs.declared.decision.Decision.{Decision}
 use Rattle.tsp_cases.specs.states.OpenCases.{IsDecision}
 use Rattle.tsp_verdict.specs.Certificates.{each_once, IsListedEitherWay, pair_at, IsUnlisted, IsPairRepeated}
 use Rattle.tsp_verdict.specs.Solutions.{IsFirstPlace}

@@ -6,7 +6,7 @@ use Rattle.tsp_format.specs.Steps as listed
 use Rattle.tsp_format.specs.declared.kinds.Kind.TheVariants as kinds
 use Rattle.tsp_cases.specs.CaseTrees.{IsCaseTree, IsCaseTreeBound, BoundsIfAny, CaseTreesBoundCycles}
 use Rattle.tsp_cases.specs.Crossings.{AreSetsOf, AreFamiliesOf, lists_of, families_in}
-use Rattle.tsp_cases.specs.declared.open_case.Decision.{Decision}
+use Rattle.tsp_cases.specs.declared.decision.Decision.{Decision}
 use Rattle.tsp_branch.proofs.Judging.{costs_for}
 use Rattle.tsp_branch.specs.BranchVerdicts.{IsBranchVerdict}
 use Rattle.tsp_branch.specs.declared.verdict.BranchVerdict.{BranchVerdict}

@@ -9,7 +9,7 @@ use Rattle.tsp_cases.specs.CaseTrees.{IsCaseTree, IsCaseTreeBound}
 use Rattle.tsp_cases.specs.Families.{Family, IsFamily, families_with, IsGoodFamily}
 use Rattle.tsp_cases.specs.ListedCases.{IsFirstBadBranch, listed_steps, IsFirstBadLeaf, IsFirstTwice}
 use Rattle.tsp_cases.specs.declared.family.Crossings.{Crossings}
-use Rattle.tsp_cases.specs.declared.open_case.Decision.{Decision}
+use Rattle.tsp_cases.specs.declared.decision.Decision.{Decision}
 use Rattle.tsp_routing.specs.PlanVerdicts.{IsFirstBadSet, IsFirstBadPlanBranch, IsFirstBadPlanLeaf, HasTooManyLoads, IsBoundFound}
 use Rattle.tsp_verdict.specs.Solutions.{IsFirstPlace}
 

@@ -17,10 +17,8 @@ use crate::potentials_certificate::{bound_by_duals, bound_by_nodes};
 use crate::tour::{TourCosts, is_directed};
 use std::alloc::Global;
 use std::collections::BTreeSet;
-use tsp_branch::{
-    BranchVerdict, BranchingCertificate, Decision, case_trees_bound_cycles, judge_branches,
-    numbers_are_unique,
-};
+use tsp_branch::{BranchVerdict, judge_branches};
+use tsp_cases::{BranchingCertificate, Decision, case_trees_bound_cycles, numbers_are_unique};
 use tsp_cost::{Costs, Instance, View};
 use tsp_file::{File, TreeData};
 use tsp_format::Kind;

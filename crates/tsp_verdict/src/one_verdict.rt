@@ -2,7 +2,7 @@
 
 ghost use Rattle.tsp_verdict.specs.SolutionVerdict.{FilesHaveOneVerdict, FilesHaveOneBound, FilesHaveOneKnownBound, SolutionsHaveOneVerdict};
 
-use tsp_branch::{case_tree_bounds_are_unique, numbers_are_unique};
+use tsp_cases::{case_tree_bounds_are_unique, numbers_are_unique};
 use tsp_routing::plan_bounds_are_unique;
 
 /// Files have one verdict, whichever TYPE, certificate and claim; so has an instance with a

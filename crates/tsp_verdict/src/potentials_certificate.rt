@@ -15,15 +15,13 @@ ghost use Rattle.tsp_report.specs.declared.task.CertificateKind.TheVariants as c
 use crate::certificate::key_of;
 use std::alloc::Global;
 use std::collections::BTreeSet;
-use tsp_bound::{
-    Duals, Infeasible, Multipliers, Potentials, adjusted_bounds_bound_cycles, dual_bound,
-    duals_bound_cycles, least_one_tree,
-};
+use tsp_bound::{Duals, Infeasible, Multipliers, Potentials, dual_bound, least_one_tree};
 use tsp_cost::{Costs, Instance, Symmetric, SymmetricView, View};
 use tsp_file::File;
 use tsp_format::Kind;
 use tsp_io::{Refused, insert};
 use tsp_report::{BoundVerdict, Reason};
+use tsp_theory::{adjusted_bounds_bound_cycles, duals_bound_cycles};
 
 /// The potentials of nodes that a certificate holds, and its multipliers of fixed pairs.
 #[derive(Clone, Copy)]

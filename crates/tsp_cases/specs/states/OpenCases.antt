@@ -2,7 +2,7 @@
 use Rattle.tsp_cases.specs.Prelude.{Vec, w64, int_wrap, All, filter, ℕ, Bool, true, false, List, [], reverse, Some, None, ℤ, pos, neg_ℤ, not, length, slice_index_or, IsNode, IsFromTo, is_same_pair, adjusted, sum_int_by}
 use Rattle.std.specs.Prelude.{◌≡◌, ◌≢◌, ◌<◌, if◌then◌else◌, ◌+ℤ◌, ◌⊎◌, ◌==◌, ◌||◌, ◌&&◌, ◌+◌, ◌≤◌, ◌∷◌, ◌++◌}
 use Rattle.tsp_cases.specs.Cases.{on_taken, on_avoided, decided_number, next_stack}
-use Rattle.tsp_cases.specs.declared.open_case.Decision.{Decision}
+use Rattle.tsp_cases.specs.declared.decision.Decision.{Decision}
 use Rattle.tsp_cases.specs.declared.open_case.NodeDecisions.{NodeDecisions}
 use Rattle.tsp_cases.specs.declared.open_case.OpenCase.{OpenCase}
 

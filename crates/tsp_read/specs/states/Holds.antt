@@ -14,8 +14,8 @@ use Rattle.tsp_file.specs.declared.rules.EndFault.{EndFault}
 use Rattle.tsp_text.specs.declared.fault.LineFault.{LineFault}
 use Rattle.tsp_text.specs.declared.fault.LineFault.TheVariants as row
 use Rattle.tsp_read.specs.declared.line.CutLine.{CutLine}
-use Rattle.tsp_read.specs.declared.line.StepFault.{StepFault}
-use Rattle.tsp_read.specs.declared.line.StepFault.TheVariants as steps
+use Rattle.tsp_read.specs.declared.step_fault.StepFault.{StepFault}
+use Rattle.tsp_read.specs.declared.step_fault.StepFault.TheVariants as steps
 use Rattle.tsp_read.specs.declared.reading.FinishFault.{FinishFault}
 use Rattle.tsp_read.specs.declared.reading.FinishFault.TheVariants as faults
 use Rattle.tsp_read.specs.declared.reading.OpenSection.{OpenSection}

@@ -8,8 +8,8 @@ use Rattle.tsp_read.specs.declared.feed.Stage.TheVariants.{Going, Ended, Refused
 use Rattle.tsp_read.specs.declared.items.Begun.{Begun}
 use Rattle.tsp_read.specs.declared.items.Intake.{Intake}
 use Rattle.tsp_read.specs.declared.items.Token.{Token}
-use Rattle.tsp_read.specs.declared.line.StepFault.{StepFault}
-use Rattle.tsp_read.specs.declared.line.StepFault.TheVariants as steps
+use Rattle.tsp_read.specs.declared.step_fault.StepFault.{StepFault}
+use Rattle.tsp_read.specs.declared.step_fault.StepFault.TheVariants as steps
 use Rattle.tsp_read.specs.declared.reading.Reading.{Reading}
 use Rattle.tsp_read.specs.states.Holds.{Holds}
 use Rattle.tsp_read.specs.states.Left.{items_left, ends_word, from, token_at, ends_token}

@@ -9,8 +9,8 @@ use Rattle.tsp_file.specs.declared.coords.Coords.TheVariants.{Plane, Space}
 use Rattle.tsp_file.specs.Cost.{origin}
 use Rattle.tsp_text.specs.declared.fault.LineFault.{LineFault}
 use Rattle.tsp_text.specs.declared.fault.LineFault.TheVariants as row
-use Rattle.tsp_read.specs.declared.line.StepFault.{StepFault}
-use Rattle.tsp_read.specs.declared.line.StepFault.TheVariants as steps
+use Rattle.tsp_read.specs.declared.step_fault.StepFault.{StepFault}
+use Rattle.tsp_read.specs.declared.step_fault.StepFault.TheVariants as steps
 
 -- ---- a word at its place
 

@@ -6,9 +6,9 @@ use Rattle.tsp_file.specs.declared.draft.Draft.{Draft}
 use Rattle.tsp_read.specs.declared.items.Intake.{Intake}
 use Rattle.tsp_read.specs.declared.section_builder.SectionBuilder.{SectionBuilder}
 use Rattle.tsp_read.specs.declared.reading.Reading.{Reading}
-use Rattle.tsp_read.specs.declared.digits.Count.{Count}
-use Rattle.tsp_read.specs.declared.digits.End.{End}
-use Rattle.tsp_read.specs.declared.digits.End.TheVariants.{Blank, Line}
+use Rattle.tsp_read.specs.declared.runs.Count.{Count}
+use Rattle.tsp_read.specs.declared.runs.End.{End}
+use Rattle.tsp_read.specs.declared.runs.End.TheVariants.{Blank, Line}
 use Rattle.tsp_read.specs.states.Left.{ends_word, up_to_first}
 use Rattle.tsp_read.specs.states.Onward.{IsReadTo, GivesNext}
 

@@ -3,7 +3,7 @@
 use Rattle.tsp_cases.proofs.Prelude.{◌∙◌, ◌+◌, ℕ, Bool, true, false, List, drop, arith, sym, subst, All, ∥∥₁_elim, props, TreeStep, steps_of}
 use Rattle.tsp_format.specs.declared.steps.TreeStep.TheVariants as code
 use Rattle.tsp_format.specs.Steps as listed
-use Rattle.tsp_cases.specs.declared.open_case.Decision.{Decision}
+use Rattle.tsp_cases.specs.declared.decision.Decision.{Decision}
 use Rattle.tsp_cases.specs.states.OpenCases.{IsDecision, IsNextStack, stack_of, IsOpenCase}
 use Rattle.tsp_cases.proofs.TreeBranches.{IsOnceSoFar, once_at_start, once_next, once_pushed, twice_found, once_at_leaf, once_at_last, once_at_end, decided_here}
 use Rattle.tsp_cases.proofs.Passes.{own_step}

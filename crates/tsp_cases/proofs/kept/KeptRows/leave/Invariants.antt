@@ -1,6 +1,6 @@
 -- The loop of `KeptRows::leave` in src/kept.rt, which moves the marks of decisions to the next case.
 use Rattle.tsp_cases.proofs.Prelude.{◌≡◌, ◌≤◌, ◌++◌, ℕ, List, false, take, length, ℤ, All}
-use Rattle.tsp_cases.specs.declared.open_case.Decision.{Decision}
+use Rattle.tsp_cases.specs.declared.decision.Decision.{Decision}
 use Rattle.tsp_cases.specs.Cases.{next_stack}
 use Rattle.tsp_cases.specs.states.OpenCases.{IsDecision, marks_in, stack_of}
 use Rattle.tsp_cases.specs.states.Kept.{HoldsRows}

@@ -1,7 +1,7 @@
 -- The goals of `KeptRows::mark_given` in src/kept.rt, which marks the given decisions in the kept rows: its loop, what
 -- its calls require and what it ensures.
 use Rattle.tsp_cases.proofs.Prelude.{◌≡◌, ◌∙◌, ◌+◌, ◌-◌, ◌<◌, ℕ, List, ◌∷◌, false, drop, get_or, length, ap, sym, subst, arith, drop-cons, add-one, drop_all}
-use Rattle.tsp_cases.specs.declared.open_case.Decision.{Decision}
+use Rattle.tsp_cases.specs.declared.decision.Decision.{Decision}
 use Rattle.tsp_cases.specs.states.OpenCases.{IsDecision, marks_in}
 use Rattle.tsp_cases.specs.states.Kept.{HoldsRows}
 use Rattle.tsp_cases.proofs.kept.KeptRows.mark_given.Goals as goal

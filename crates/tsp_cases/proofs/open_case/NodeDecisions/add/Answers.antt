@@ -1,6 +1,6 @@
 -- The goals of `NodeDecisions::add` in src/open_case.rt: what it ensures.
 use Rattle.std.proofs.Common.{◌∙◌, ◌∷◌, inl, inr, refl, sym, ap}
-use Rattle.tsp_cases.specs.declared.open_case.Decision.{Decision}
+use Rattle.tsp_cases.specs.declared.decision.Decision.{Decision}
 use Rattle.tsp_cases.specs.states.OpenCases.{stack_of}
 use Rattle.tsp_cases.proofs.OpenCases.{ListsNow, now_more, taken_more, filter_out, is_taken, by_node_now}
 use Rattle.tsp_cases.proofs.open_case.NodeDecisions.add.Goals as goal

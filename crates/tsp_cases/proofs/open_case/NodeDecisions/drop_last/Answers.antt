@@ -1,6 +1,6 @@
 -- The goals of `NodeDecisions::drop_last` in src/open_case.rt: what it ensures.
 use Rattle.std.proofs.Common.{◌∙◌, ◌≡◌, length, inl, inr, refl, sym, ap, arith}
-use Rattle.tsp_cases.specs.declared.open_case.Decision.{Decision}
+use Rattle.tsp_cases.specs.declared.decision.Decision.{Decision}
 use Rattle.tsp_cases.specs.states.OpenCases.{stack_of}
 use Rattle.tsp_cases.proofs.OpenCases.{ListsNow, now_less, taken_less, filter_out, is_taken, by_node_now}
 use Rattle.tsp_cases.proofs.open_case.NodeDecisions.drop_last.Goals as goal

@@ -1,7 +1,7 @@
 -- The goals of `OpenCase::decides` in src/open_case.rt, which tests whether a pair is decided: what its calls require
 -- and what it ensures.
 use Rattle.tsp_cases.proofs.Prelude.{◌∙◌, Bool, false, sym, arith, list_any_at, list_any_none}
-use Rattle.tsp_cases.specs.declared.open_case.Decision.{Decision}
+use Rattle.tsp_cases.specs.declared.decision.Decision.{Decision}
 use Rattle.tsp_cases.specs.Cases.{is_same}
 use Rattle.tsp_cases.specs.states.OpenCases.{decisions_in}
 use Rattle.tsp_cases.proofs.OpenCases.{decided_at}

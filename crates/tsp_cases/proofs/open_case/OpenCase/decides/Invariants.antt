@@ -1,6 +1,6 @@
 -- The loop of `OpenCase::decides` in src/open_case.rt, which tests whether a pair is decided.
 use Rattle.tsp_cases.proofs.Prelude.{◌≡◌, ◌<◌, ℕ, false, slice_index_or}
-use Rattle.tsp_cases.specs.declared.open_case.Decision.{Decision}
+use Rattle.tsp_cases.specs.declared.decision.Decision.{Decision}
 use Rattle.tsp_cases.specs.Cases.{is_same}
 use Rattle.tsp_cases.proofs.open_case.OpenCase.decides.Given as goal
 

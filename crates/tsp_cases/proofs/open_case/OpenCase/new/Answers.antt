@@ -1,7 +1,7 @@
 -- The goals of `OpenCase::new` in src/open_case.rt, which opens the case of the given decisions: its loop and what its
 -- calls require.
 use Rattle.std.proofs.Common.{◌≡◌, ◌∙◌, ◌+◌, ◌-◌, ◌<◌, ℕ, List, ◌∷◌, false, drop, get_or, length, ap, sym, subst, arith, drop-cons, add-one}
-use Rattle.tsp_cases.specs.declared.open_case.Decision.{Decision}
+use Rattle.tsp_cases.specs.declared.decision.Decision.{Decision}
 use Rattle.tsp_cases.specs.states.OpenCases.{AreByNode}
 use Rattle.tsp_cases.proofs.open_case.OpenCase.new.Goals as goal
 

@@ -1,7 +1,7 @@
 -- The goals of `OpenCase::next` in src/open_case.rt, which goes from a leaf to the next open case: its loop, what its
 -- calls require and what it ensures.
 use Rattle.tsp_cases.proofs.Prelude.{◌∙◌, ◌∷◌, [], List, false, length, refl, ap, subst, arith, length-append, append-nil}
-use Rattle.tsp_cases.specs.declared.open_case.Decision.{Decision}
+use Rattle.tsp_cases.specs.declared.decision.Decision.{Decision}
 use Rattle.tsp_cases.specs.declared.open_case.OpenCase.{OpenCase}
 use Rattle.tsp_cases.specs.Cases.{next_stack}
 use Rattle.tsp_cases.specs.states.OpenCases.{IsDecision, stack_of, AreByNode, decisions_in}

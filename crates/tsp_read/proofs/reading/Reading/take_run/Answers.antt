@@ -1,4 +1,4 @@
--- The goals of `Reading::take_run` in src/digits.rt, which takes the words of a part of a text, in the open section:
+-- The goals of `Reading::take_run` in src/runs.rt, which takes the words of a part of a text, in the open section:
 -- what it ensures.
 use Rattle.tsp_read.proofs.RunSteps.{opened_run}
 use Rattle.tsp_read.proofs.reading.Reading.take_run.Goals as goal
