@@ -117,14 +117,12 @@ fn lists_of(alloc: Global, lists: &[&[u32]]) -> Result<Vec<Vec<u32>>, AllocError
 /// A subset row without further nodes, and one with two.
 fn two_rows(alloc: Global) -> Result<Vec<RowSets>, AllocError> {
     let mut rows = Vec::new(alloc);
-    rows.push(RowSets {
-        set: Vec::from_slice(alloc, &[2u32, 3])?,
-        further: Vec::new(alloc),
-    })?;
-    rows.push(RowSets {
-        set: Vec::from_slice(alloc, &[4u32])?,
-        further: Vec::from_slice(alloc, &[2u32, 3])?,
-    })?;
+    let set = Vec::from_slice(alloc, &[2u32, 3])?;
+    let further = Vec::new(alloc);
+    rows.push(RowSets { set, further })?;
+    let set = Vec::from_slice(alloc, &[4u32])?;
+    let further = Vec::from_slice(alloc, &[2u32, 3])?;
+    rows.push(RowSets { set, further })?;
     Ok(rows)
 }
 
