@@ -49,7 +49,7 @@ enum {
 };
 
 /* How a certificate gives a bound. The last two are for tsp_bound and tsp_bound_result alone: they also reject an instance
- * with an unknown keyword, after all other reasons. */
+ * with a line that isn't judged, after all other reasons: TSP_NOT_JUDGED or TSP_NOT_USED. */
 enum {
     TSP_BY_NONE = 0,
     TSP_BY_POTENTIALS = 1,
@@ -61,7 +61,7 @@ enum {
 /* The flags of a check. Join them by |; 0 is none. */
 enum {
     TSP_CLAIMED = 1, /* a solution of another length than `claimed` is a no; without this flag `claimed` counts for nothing */
-    TSP_STRICT = 2   /* an instance with an unknown keyword is a no, after all other reasons */
+    TSP_STRICT = 2   /* an instance with a line that isn't judged is a no, after all other reasons */
 };
 
 /* Layouts of the weights. */
@@ -181,7 +181,7 @@ struct tsp_result {
     uint32_t line;   /* the line, from 1, if the fault is one of a line */
     uint32_t word;   /* the word in it, from 1; 0 is the line as a whole */
     uint32_t number; /* of a TSP_NUMBER: one of TSP_LONG_WORD, .. */
-    uint32_t field;  /* of a TSP_MISSING or TSP_INCOMPLETE: one of TSP_FIELD_NAME, .. */
+    uint32_t field;  /* of a TSP_MISSING, TSP_INCOMPLETE or TSP_NOT_USED: one of TSP_FIELD_NAME, .. */
 };
 
 /* The bound of a result, for all that need only 64 bits: TSP_YES, and *bound is it; TSP_NO if the result has no bound;
@@ -242,7 +242,8 @@ enum {
     TSP_BRANCH_TWICE = 27,
     TSP_BAD_LEAF = 28,
     TSP_TOO_MANY_LOADS = 29,
-    TSP_NOT_JUDGED = 30
+    TSP_NOT_JUDGED = 30,
+    TSP_NOT_USED = 34
 };
 
 /* Faults. Those up to TSP_LATE_SPACE are of a line, those up to TSP_WRONG_COUNT of the end of a text. */

@@ -21,7 +21,7 @@ export type EdgeWeightType = "EUC_2D" | "CEIL_2D" | "MAN_2D" | "MAX_2D" | "ATT" 
 
 /**
  * A certificate, of which there is at most one, whether the report is explained, and whether an unknown keyword of the
- * instance is a reason.
+ * instance, or a field that it doesn't use, is a reason.
  */
 export interface CertificateOptions {
     potentials?: Source;
@@ -120,6 +120,8 @@ export interface Basis {
     /** Why no solution is accepted: against the instance or the certificate. */
     readonly reason: string | null;
     readonly numbers: readonly (number | bigint)[];
+    /** The field of the reason `NotUsed`, as `CAPACITY`. */
+    readonly field: string | null;
 }
 
 /** Many solutions of one instance. */

@@ -75,7 +75,7 @@ _OPTIONS: Dict[str, Dict[str, Any]] = {
     "--potentials": {"metavar": "P", "help": "a file of potentials"},
     "--branches": {"metavar": "B", "help": "a file of branches"},
     "--length": {"metavar": "L", "help": "claim the length L; another one is a no"},
-    "--strict": {"action": "store_true", "help": "a no where the instance has an unknown keyword, after all other reasons"},
+    "--strict": {"action": "store_true", "help": "a no where a line of the instance isn't judged, after all other reasons"},
     "--no-foreign": {"dest": "foreign", "action": "store_false", "help": "T has to be of TYPE TOUR, as for tsp"},
     "--foreign": {"action": "store_true", "default": None, "help": "T may have any form of another program, as a list of nodes"},
     "--first": {"metavar": "0|1", "type": int, "choices": (0, 1), "help": "the number of a list's first node; of routes in JSON 0 reads customers"},

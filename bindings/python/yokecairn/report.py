@@ -141,7 +141,7 @@ class Report:
         cls, result: _library.Result, text: str, explanation: str = "", claimed: Optional[int] = None
     ) -> "Report":
         """The report of a result in numbers, whose text this is."""
-        reason, numbers = REASONS[result.reason - 1] if result.reason else (None, 0)
+        reason, numbers = REASONS[result.reason] if result.reason else (None, 0)
         is_routes = result.verdict == _library.ROUTES
         length = result.length if is_routes or result.verdict == _library.TOUR else None
         gap = None if result.bound is None or length is None else length - result.bound
@@ -221,7 +221,8 @@ def check(
     a networkx graph that is the tour. With a certificate, `potentials` or `branches`, the report has a
     bound. With `length`, another length than this is a no. With `explain`, a no is explained, and a
     yes whose solution has a comment with another length. With `strict`, an instance with an unknown keyword, one of
-    `Report.not_judged`, is a no after all other reasons: `NotJudged`.
+    `Report.not_judged`, is a no after all other reasons: `NotJudged`. So is one with a field that it doesn't use:
+    `NotUsed`.
 
     A solution of CVRPLIB (`.sol`), OR-Tools or in JSON is read as `read_solution` reads it; with `foreign` each form
     is, and with `foreign=False` none. Then the length that it claims is taken as `length`, where none is named;

@@ -1,6 +1,6 @@
 -- Circle 2 of docs/trust.md.
 -- Runs of `tsp show` and `tsp convert`, the meaning of `yes` over bytes, and a task done on its readers.
-use Rattle.tsp_judge.specs.Prelude.{Result, Ok, Err, Option, None, Some, ℕ, Bool, true, false, List, [], ℤ, ReadTrace, Sink, IsUnwritten, HasWritten, HasStopped, TakesAtMost, read_trace_of, Fields, IsFile, StopsAt, most_taken, IsReadOn, is_yes, is_bound_yes, CertificateKind}
+use Rattle.tsp_judge.specs.Prelude.{Result, Ok, Err, Option, None, Some, ℕ, Bool, true, false, List, ℤ, ReadTrace, Sink, IsUnwritten, HasWritten, HasStopped, TakesAtMost, read_trace_of, Fields, IsFile, StopsAt, most_taken, IsReadOn, is_yes, is_bound_yes, CertificateKind, IsJudgedWhole}
 use Rattle.std.specs.Prelude.{◌≡◌}
 use Rattle.std.specs.declared.io.Error.{Error}
 use Rattle.tsp_io.specs.declared.piece.WriteFault.TheVariants as write_faults
@@ -64,7 +64,7 @@ IsConvertRun to read_trace sink (Err other) = ⊥
 -- ---- a run of `tsp check` with the meaning of its line `yes`
 
 -- At `yes` the bytes that were read parse to these files, the whole report was written, and it means that the solution
--- is accepted. Where unknown keywords are a reason, the instance has none.
+-- is accepted. Where lines that aren't judged are a reason, each is judged.
 pub record SaysYes (given : Given) (claimed : Option ℤ) (strict : Bool) (first second : ReadTrace) (sink : Sink) : Type 0 where
   pub instance : Fields
   pub solution : Fields
@@ -73,7 +73,7 @@ pub record SaysYes (given : Given) (claimed : Option ℤ) (strict : Bool) (first
   pub read : AreRead given first second instance solution certificate
   pub written : HasWritten sink report
   pub meaning : IsAccepted certificate claimed instance solution report
-  pub all_judged : strict ≡ true → instance.others ≡ []
+  pub all_judged : strict ≡ true → IsJudgedWhole instance
 
 -- the result of a check, which is whether the solution is accepted, and what its line `yes` means
 abbrev pub IsCheckOf : Given → Option ℤ → Bool → ReadTrace → ReadTrace → Sink → Result Bool RunFault → Type 0

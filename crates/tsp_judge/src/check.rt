@@ -23,7 +23,8 @@ use tsp_verdict::{CertificateKind, Verdict, is_bounded, judge, strict_verdict};
 /// the instance is shorter than the bound of an accepted tour. Where it isn't, that reader isn't
 /// read. Where a length is claimed, a solution of another length is rejected with `LengthClaimed`:
 /// after all other reasons against the solution, and before those against the certificate. With
-/// `strict`, an instance with an unknown keyword is rejected with `NotJudged`, after all reasons.
+/// `strict`, an instance with a line that isn't judged is rejected with `NotJudged` or `NotUsed`,
+/// after all reasons.
 ///
 /// Each file is read whole before the next, and the first file that is none decides. Nothing is
 /// written before the verdict exists.
