@@ -48,8 +48,8 @@ enum {
     TSP_TOO_SMALL = 6      /* the buffer is too small, and is unchanged */
 };
 
-/* The kind of certificate. The last two are only for tsp_bound and tsp_bound_result: they also reject an instance with an
- * unknown keyword, after all other reasons. */
+/* The kind of certificate. The last two are only for tsp_bound and tsp_bound_result: they also reject an instance with a
+ * line that isn't judged (TSP_NOT_JUDGED or TSP_NOT_USED), after all other reasons. */
 enum {
     TSP_BY_NONE = 0,
     TSP_BY_POTENTIALS = 1,
@@ -61,7 +61,7 @@ enum {
 /* The flags of a check. Join them with |; 0 is none. */
 enum {
     TSP_CLAIMED = 1, /* reject a solution whose length isn't `claimed`; without this flag `claimed` is ignored */
-    TSP_STRICT = 2   /* reject an instance with an unknown keyword, after all other reasons */
+    TSP_STRICT = 2   /* reject an instance with a line that isn't judged, after all other reasons */
 };
 
 /* Layouts of the weights. */
@@ -181,7 +181,7 @@ struct tsp_result {
     uint32_t line;   /* the line, counted from 1, if the fault is in a line */
     uint32_t word;   /* the word in the line, counted from 1; 0 is the line as a whole */
     uint32_t number; /* for TSP_NUMBER: one of TSP_LONG_WORD, .. */
-    uint32_t field;  /* for TSP_MISSING or TSP_INCOMPLETE: one of TSP_FIELD_NAME, .. */
+    uint32_t field;  /* for TSP_MISSING, TSP_INCOMPLETE or TSP_NOT_USED: one of TSP_FIELD_NAME, .. */
 };
 
 /* The bound of a result, if 64 bits are enough for it: TSP_YES, and *bound is the bound; TSP_NO if the result has no bound;
@@ -242,7 +242,8 @@ enum {
     TSP_BRANCH_TWICE = 27,
     TSP_BAD_LEAF = 28,
     TSP_TOO_MANY_LOADS = 29,
-    TSP_NOT_JUDGED = 30
+    TSP_NOT_JUDGED = 30,
+    TSP_NOT_USED = 34
 };
 
 /* Faults. Those up to TSP_LATE_SPACE are of a line, those up to TSP_WRONG_COUNT of the end of a text. */

@@ -105,7 +105,8 @@ function written(exports, slices, capacity, call) {
 }
 
 /**
- * A claimed length, and whether there is one, with 2 more where unknown keywords are a reason, as a call takes them.
+ * A claimed length, and whether there is one, with 2 more where lines that aren't judged are a reason, as a call takes
+ * them.
  *
  * @param {bigint | null} claimed
  * @param {boolean} [strict]

@@ -16,13 +16,28 @@ const NO_TOUR = new TextEncoder().encode("TYPE : TOUR\nTOUR_SECTION\nEOF\n");
 /** The reasons that are of the instance alone. */
 const OF_INSTANCE = ["TooFewNodes", "NotSymmetric", "DepotCount", "DepotDemand", "FixedEdgesInRoutes"];
 
+/** The fields that every instance uses, or that only draw it, and the end of a text. */
+const USED = [
+    "NAME",
+    "TYPE",
+    "COMMENT",
+    "DIMENSION",
+    "EDGE_WEIGHT_TYPE",
+    "NODE_COORD_TYPE",
+    "DISPLAY_DATA_TYPE",
+    "NODE_COORD_SECTION",
+    "DISPLAY_DATA_SECTION",
+    "FIXED_EDGES_SECTION",
+    "EOF",
+];
+
 /**
  * What holds for all solutions, before any is read; null where a text has a fault.
  *
  * @param {import("./library.mjs").Library} library
  * @param {import("./judge.mjs").Judge} judge
  * @param {Uint8Array} instance
- * @param {boolean} [strict] whether an unknown keyword of the instance is a reason
+ * @param {boolean} [strict] whether lines of the instance that aren't judged are a reason
  * @returns {Basis | null}
  */
 export function basisOf(library, judge, instance, strict = false) {
@@ -36,7 +51,7 @@ export function basisOf(library, judge, instance, strict = false) {
     const report = reportOf(result, new TextDecoder().decode(bytes));
     const { type, notJudged } = report;
     /** @type {Basis} */
-    const basis = { type, nodes: result.nodes, notJudged, least: null, bound: null, noTour: false, reason: null, numbers: [] };
+    const basis = { type, nodes: result.nodes, notJudged, least: null, bound: null, noTour: false, reason: null, numbers: [], field: null };
     if (OF_INSTANCE.includes(report.reason)) {
         return { ...basis, reason: report.reason, numbers: report.numbers };
     }
@@ -46,9 +61,32 @@ export function basisOf(library, judge, instance, strict = false) {
     if (strict && notJudged.length > 0) {
         return { ...basis, reason: "NotJudged" };
     }
-    const least = type === "CVRP" ? leastOf(new TextDecoder().decode(library.convert(instance).bytes)) : null;
+    const text = strict || type === "CVRP" ? new TextDecoder().decode(library.convert(instance).bytes) : "";
+    const field = strict ? unusedIn(text) : null;
+    if (field !== null) {
+        return { ...basis, reason: "NotUsed", field };
+    }
+    const least = type === "CVRP" ? leastOf(text) : null;
     const known = { ...basis, least };
     return judge.bound === null ? known : { ...known, bound: judge.bound.bound, noTour: judge.bound.verdict === Verdict.NO_TOUR };
+}
+
+/**
+ * The first field of an instance that its TYPE or its EDGE_WEIGHT_TYPE doesn't use, if there is one.
+ *
+ * @param {string} text of an instance without unknown keywords, as the library writes it
+ * @returns {string | null}
+ */
+function unusedIn(text) {
+    const used = new Set(USED);
+    if (/^TYPE : CVRP$/m.test(text)) {
+        ["CAPACITY", "DEMAND_SECTION", "DEPOT_SECTION"].forEach((it) => used.add(it));
+    }
+    if (/^EDGE_WEIGHT_(TYPE : EXPLICIT|FORMAT : FUNCTION)$/m.test(text)) {
+        ["EDGE_WEIGHT_FORMAT", "EDGE_WEIGHT_SECTION"].forEach((it) => used.add(it));
+    }
+    const keywords = Array.from(text.matchAll(/^[A-Z][A-Z_]*/gm), ([word]) => word);
+    return keywords.find((word) => !used.has(word)) ?? null;
 }
 
 /**
@@ -79,10 +117,10 @@ export class Comparison {
 
     /** What `tsp compare` prints. */
     toString() {
-        const { type, nodes, notJudged, least, bound, noTour, reason, numbers } = this.basis;
+        const { type, nodes, notJudged, least, bound, noTour, reason, numbers, field } = this.basis;
         const lines = [`type ${type}`, `nodes ${nodes}`, ...notJudged.map((it) => `not judged ${it}`)];
         if (reason !== null) {
-            lines.push(["no", reason, ...numbers, ...(reason === "NotJudged" ? notJudged.slice(0, 1) : [])].join(" "));
+            lines.push(["no", reason, ...numbers, ...(reason === "NotJudged" ? notJudged.slice(0, 1) : field === null ? [] : [field])].join(" "));
         } else if (noTour) {
             lines.push("bound none");
         } else {

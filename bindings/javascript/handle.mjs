@@ -66,7 +66,7 @@ export class Handle {
      *
      * @param {Uint8Array} solution
      * @param {bigint | null} claimed
-     * @param {boolean} [strict] whether unknown keywords of the instance are a reason
+     * @param {boolean} [strict] whether lines of the instance that aren't judged are a reason
      * @returns {Judged}
      */
     check(solution, claimed, strict = false) {

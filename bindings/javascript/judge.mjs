@@ -38,7 +38,7 @@ export class Judge {
      *
      * @param {Uint8Array} solution
      * @param {bigint | null} claimed
-     * @param {boolean} [strict] whether unknown keywords of the instance are a reason
+     * @param {boolean} [strict] whether lines of the instance that aren't judged are a reason
      * @returns {import("./answers.mjs").Judged}
      */
     check(solution, claimed, strict = false) {

@@ -68,7 +68,7 @@ export class Library {
      * @param {Uint8Array} certificate
      * @param {number} by
      * @param {bigint | null} claimed
-     * @param {boolean} [strict] whether unknown keywords of the instance are a reason
+     * @param {boolean} [strict] whether lines of the instance that aren't judged are a reason
      * @returns {Judged}
      */
     check(instance, solution, certificate, by, claimed, strict = false) {
@@ -81,7 +81,7 @@ export class Library {
      * @param {Uint8Array} instance
      * @param {Uint8Array} certificate
      * @param {number} by
-     * @param {boolean} [strict] whether unknown keywords of the instance are a reason
+     * @param {boolean} [strict] whether lines of the instance that aren't judged are a reason
      * @returns {Judged}
      */
     bound(instance, certificate, by, strict = false) {
@@ -98,7 +98,7 @@ export class Library {
      * @param {string[]} names
      * @param {number} number how the call gets its bound, or its layout
      * @param {bigint | null} claimed
-     * @param {boolean} [strict] whether unknown keywords of the instance are a reason
+     * @param {boolean} [strict] whether lines of the instance that aren't judged are a reason
      * @returns {Answer}
      */
     explain(call, texts, names, number, claimed, strict = false) {

@@ -68,7 +68,7 @@ export class Report {
  * @property {[Given, Given, Given]} files of the instance, the solution and the certificate
  * @property {number} number how it gets its bound, or its layout
  * @property {bigint | null} claimed
- * @property {boolean} [strict] whether unknown keywords of the instance are a reason
+ * @property {boolean} [strict] whether lines of the instance that aren't judged are a reason
  */
 
 /** @type {Given} */

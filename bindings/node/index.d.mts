@@ -20,7 +20,8 @@ export type Layout =
 export type EdgeWeightType = "EUC_2D" | "CEIL_2D" | "MAN_2D" | "MAX_2D" | "ATT" | "EUC_3D" | "MAN_3D" | "MAX_3D";
 
 /**
- * At most one certificate, whether to explain the report, and whether to reject an instance with an unknown keyword.
+ * At most one certificate, whether to explain the report, and whether to reject an instance with an unknown keyword or a
+ * field that it doesn't use.
  */
 export interface CertificateOptions {
     potentials?: Source;
@@ -119,6 +120,8 @@ export interface Basis {
     /** A reason against the instance or the certificate, so that no solution is accepted. */
     readonly reason: string | null;
     readonly numbers: readonly (number | bigint)[];
+    /** The field of the reason `NotUsed`, as `CAPACITY`. */
+    readonly field: string | null;
 }
 
 /** Many solutions of one instance. */

@@ -130,9 +130,28 @@ class Judge:
         return found, count
 
     def against_keywords(self, strict: bool) -> None:
-        """With `strict`, raises the reason against an instance with an unknown keyword."""
-        for keyword, _ in self.instance.others if strict else []:
+        """With `strict`, raises the reason against an instance with an unknown keyword, or with a field that it doesn't use."""
+        if not strict:
+            return
+        for keyword, _ in self.instance.others:
             raise No(f"NotJudged {keyword.decode('latin-1')}")
+        for keyword in self.fields():
+            if not self.is_used(keyword):
+                raise No(f"NotUsed {keyword}")
+
+    def fields(self) -> list[str]:
+        """The fields that the instance has, in canonical order."""
+        keywords = [line.partition(b" ")[0].decode("latin-1") for line in canonical(self.instance).split(b"\n")]
+        return [keyword for keyword in keywords if keyword[:1].isalpha() and keyword not in ("COMMENT", "EOF")]
+
+    def is_used(self, keyword: str) -> bool:
+        """Whether the verdict depends on a field, or the field only draws the instance."""
+        if keyword in ("CAPACITY", "DEMAND_SECTION", "DEPOT_SECTION"):
+            return self.routes
+        if keyword in ("EDGE_WEIGHT_FORMAT", "EDGE_WEIGHT_SECTION"):
+            return self.instance.values["EDGE_WEIGHT_TYPE"] == "EXPLICIT" or self.instance.values["EDGE_WEIGHT_FORMAT"] == "FUNCTION"
+        others = ("SCALE", "LOAD_UNIT", "TOUR_SECTION", "COMB_SECTION", "BRANCH_SECTION")
+        return keyword not in others and not keyword.endswith("_POTENTIAL_SECTION")
 
     def least(self) -> int:
         """The least number of vehicles that carry all demands."""

@@ -60,13 +60,14 @@ def header_of(text: str) -> Header:
     return Header(numbers, structs, calls)
 
 
-def reasons_of(reasons: list[tuple[str, str, int]]) -> str:
-    """The table of reasons, and the class of their names. A reason has its name, the same in capitals, and how many numbers."""
-    pairs = "".join(f'    ("{name}", {count}),\n' for name, _, count in reasons)
-    names = "".join(f'    {capitals} = "{name}"\n' for name, capitals, _ in reasons)
+def reasons_of(reasons: list[tuple[int, str, str, int]]) -> str:
+    """The table of reasons, and the class of their names. A reason has its number, its name, the same in capitals, and how many
+    numbers."""
+    pairs = "".join(f'    {number}: ("{name}", {count}),\n' for number, name, _, count in reasons)
+    names = "".join(f'    {capitals} = "{name}"\n' for _, name, capitals, _ in reasons)
     return (
-        "# Each reason, in the order of its number from 1, with how many numbers it has.\n"
-        f"REASONS = (\n{pairs})\n\n\n"
+        "# Each reason by its number, with how many numbers it has.\n"
+        f"REASONS: Dict[int, Tuple[str, int]] = {{\n{pairs}}}\n\n\n"
         "class Reason(str, Enum):\n"
         '    """Why a solution is rejected, or a certificate shows nothing; docs/format.md says when. `Report.reason` is\n'
         '    its text: `report.reason == Reason.REPEATED_NODE`."""\n\n'
@@ -74,7 +75,7 @@ def reasons_of(reasons: list[tuple[str, str, int]]) -> str:
     )
 
 
-def module_of(header: Header, reasons: list[tuple[str, str, int]]) -> str:
+def module_of(header: Header, reasons: list[tuple[int, str, str, int]]) -> str:
     """Python's module."""
     numbers = "".join(f"{name.removeprefix('TSP_')} = {number}\n" for name, number in header.numbers.items())
     structs = ""

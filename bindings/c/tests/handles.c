@@ -20,6 +20,8 @@ static const char LOADED[] = "TYPE : CVRP\nDIMENSION : 3\nCAPACITY : 5\nEDGE_WEI
 static const char OF_FOUR[] = "TYPE : TOUR\nDIMENSION : 4\nTOUR_SECTION\n2 3 -1\nEOF\n";
 static const char LIMITED[] = "TYPE : TSP\nDISTANCE : 9\nDIMENSION : 4\nEDGE_WEIGHT_TYPE : EUC_2D\n"
                               "NODE_COORD_SECTION\n1 0 0\n2 3 0\n3 3 4\n4 0 4\nEOF\n";
+static const char NARROW[] = "TYPE : TSP\nCAPACITY : 9\nDIMENSION : 4\nEDGE_WEIGHT_TYPE : EUC_2D\n"
+                             "NODE_COORD_SECTION\n1 0 0\n2 3 0\n3 3 4\n4 0 4\nEOF\n";
 static const char AROUND[] = "TYPE : TOUR\nTOUR_SECTION\n1 2 3 4 -1\nEOF\n";
 static const char NO_FILE[] = "TYPE : TSP\nDIMENSION : 4\n7\n";
 
@@ -161,6 +163,10 @@ static void known(void) {
     expect(tsp_instance_check(&handle, TEXT(AROUND), 0, TSP_STRICT, &r, out, sizeof out, &written) == TSP_NO
                && says("type TSP\nnodes 4\nnot judged DISTANCE\nno NotJudged DISTANCE\n") && r.reason == TSP_NOT_JUDGED, "an unknown keyword");
     expect(check(&handle, AROUND, &r) == TSP_YES && r.length == 14, "which is no reason where that isn't asked");
+    tsp_open(TEXT(NARROW), &handle, &r);
+    expect(tsp_instance_check(&handle, TEXT(AROUND), 0, TSP_STRICT, &r, out, sizeof out, &written) == TSP_NO
+               && says("type TSP\nnodes 4\nno NotUsed CAPACITY\n") && r.reason == TSP_NOT_USED && r.field == TSP_FIELD_CAPACITY, "an unused field");
+    expect(check(&handle, AROUND, &r) == TSP_YES && r.field == 0, "which is none where that isn't asked");
     tsp_close(&handle);
 }
 

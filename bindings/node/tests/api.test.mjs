@@ -75,6 +75,13 @@ test("claims, reasons and explanations", () => {
     const compared = [true, false].map((strict) => compare({ text: limited }, [[1, 2, 3, 4]], { strict }));
     assert.deepEqual(compared.map((it) => [it.basis.reason, it.outcomes.length]), [["NotJudged", 0], [null, 1]]);
     assert.match(String(compared[0]), /\nno NotJudged DISTANCE\n$/);
+    const unused = RECTANGLE.replace("DIMENSION", "CAPACITY : 9\nDIMENSION");
+    assert.equal(check({ text: unused }, [1, 2, 3, 4], { strict: true }).reason, "NotUsed");
+    assert.equal(check({ text: unused }, [1, 2, 3, 4]).yes, true);
+    const narrow = [true, false].map((strict) => compare({ text: unused }, [[1, 2, 3, 4]], { strict }));
+    assert.deepEqual(narrow.map((it) => [it.basis.reason, it.basis.field, it.outcomes.length]), [["NotUsed", "CAPACITY", 0], [null, null, 1]]);
+    assert.match(String(narrow[0]), /\nnodes 4\nno NotUsed CAPACITY\n$/);
+    assert.equal(compare({ text: RECTANGLE }, [[1, 2, 3, 4]], { strict: true }).basis.field, null);
     const twice = check({ text: RECTANGLE }, [1, 2, 3, 3], { explain: true });
     assert.deepEqual([twice.reason, twice.numbers, twice.length], ["RepeatedNode", [4], null]);
     assert.match(twice.explanation, /Node 4 is missing/);

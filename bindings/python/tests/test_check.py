@@ -130,6 +130,27 @@ class Claims(unittest.TestCase):
         self.assertEqual(yokecairn.check(limited, [1, 2, 3, 3], strict=True).reason, "RepeatedNode")
         self.assertTrue(yokecairn.check(RECTANGLE.encode(), [1, 2, 3, 4], strict=True))
 
+    def test_strict_fields(self):
+        """A field that the instance doesn't use is a reason, where that is asked for; `compare` names the same one."""
+        for field, more in (("CAPACITY", "CAPACITY : 9\n"), ("SCALE", "SCALE : 2\n"), ("DEPOT_SECTION", "DEPOT_SECTION\n1 -1\n")):
+            unused = RECTANGLE.replace("NODE_COORD_SECTION", more + "NODE_COORD_SECTION").encode()
+            report = yokecairn.check(unused, [1, 2, 3, 4], strict=True, explain=True)
+            self.assertEqual((report.yes, report.reason, report.numbers), (False, yokecairn.Reason.NOT_USED, ()))
+            self.assertTrue(report.text.endswith(f"nodes 4\nno NotUsed {field}\n"), report.text)
+            self.assertIn("--strict", report.explanation)
+            self.assertTrue(yokecairn.check(unused, [1, 2, 3, 4]))
+            found = yokecairn.compare(unused, [[1, 2, 3, 4]], strict=True)
+            self.assertEqual((found.basis.reason, found.basis.field, len(found)), ("NotUsed", field, 0))
+            self.assertTrue(found.basis.text.endswith(f"no NotUsed {field}\n"))
+            self.assertEqual(yokecairn.compare(unused, [[1, 2, 3, 4]]).basis.reason, None)
+
+    def test_fields_in_use(self):
+        """Fields that are used, and those that only draw an instance, are none."""
+        for more in ("", "EDGE_WEIGHT_FORMAT : FUNCTION\n", "DISPLAY_DATA_TYPE : NO_DISPLAY\n", "FIXED_EDGES_SECTION\n1 2 -1\n"):
+            used = RECTANGLE.replace("NODE_COORD_SECTION", more + "NODE_COORD_SECTION").encode()
+            self.assertTrue(yokecairn.check(used, [1, 2, 3, 4], strict=True), more)
+            self.assertEqual(yokecairn.compare(used, [[1, 2, 3, 4]], strict=True).basis.field, None, more)
+
     def test_strict_bounds(self):
         zeros = b"TYPE : POTENTIALS\nDIMENSION : 4\nNODE_POTENTIAL_SECTION\n1 0\n2 0\n3 0\n4 0\nEOF\n"
         limited = RECTANGLE.replace("DIMENSION", "DISTANCE : 9\nDIMENSION", 1).encode()

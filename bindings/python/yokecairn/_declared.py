@@ -83,6 +83,7 @@ BRANCH_TWICE = 27
 BAD_LEAF = 28
 TOO_MANY_LOADS = 29
 NOT_JUDGED = 30
+NOT_USED = 34
 LONG_LINE = 1
 UNKNOWN_LINE = 2
 REPEATED = 3
@@ -200,39 +201,40 @@ CALLS: Dict[str, Tuple[Any, List[Any]]] = {
     "tsp_version": (c_uint32, []),
 }
 
-# Each reason, in the order of its number from 1, with how many numbers it has.
-REASONS = (
-    ("NotASolution", 0),
-    ("TooFewNodes", 0),
-    ("NotSymmetric", 2),
-    ("Dimension", 0),
-    ("TourCount", 0),
-    ("TourLength", 0),
-    ("DepotCount", 0),
-    ("DepotDemand", 0),
-    ("FixedEdgesInRoutes", 0),
-    ("DepotInRoute", 1),
-    ("NodeOutOfRange", 1),
-    ("RepeatedNode", 1),
-    ("FixedEdgeUnused", 1),
-    ("Unserved", 1),
-    ("Overload", 1),
-    ("LengthClaimed", 1),
-    ("NotPotentials", 0),
-    ("PotentialsDimension", 0),
-    ("PotentialsKind", 0),
-    ("MultiplierNotFixed", 1),
-    ("MultiplierRepeated", 1),
-    ("DualInfeasible", 2),
-    ("NotBranches", 0),
-    ("BranchesDimension", 0),
-    ("BadComb", 1),
-    ("BadBranch", 1),
-    ("BranchTwice", 1),
-    ("BadLeaf", 1),
-    ("TooManyLoads", 0),
-    ("NotJudged", 0),
-)
+# Each reason by its number, with how many numbers it has.
+REASONS: Dict[int, Tuple[str, int]] = {
+    1: ("NotASolution", 0),
+    2: ("TooFewNodes", 0),
+    3: ("NotSymmetric", 2),
+    4: ("Dimension", 0),
+    5: ("TourCount", 0),
+    6: ("TourLength", 0),
+    7: ("DepotCount", 0),
+    8: ("DepotDemand", 0),
+    9: ("FixedEdgesInRoutes", 0),
+    10: ("DepotInRoute", 1),
+    11: ("NodeOutOfRange", 1),
+    12: ("RepeatedNode", 1),
+    13: ("FixedEdgeUnused", 1),
+    14: ("Unserved", 1),
+    15: ("Overload", 1),
+    16: ("LengthClaimed", 1),
+    17: ("NotPotentials", 0),
+    18: ("PotentialsDimension", 0),
+    19: ("PotentialsKind", 0),
+    20: ("MultiplierNotFixed", 1),
+    21: ("MultiplierRepeated", 1),
+    22: ("DualInfeasible", 2),
+    23: ("NotBranches", 0),
+    24: ("BranchesDimension", 0),
+    25: ("BadComb", 1),
+    26: ("BadBranch", 1),
+    27: ("BranchTwice", 1),
+    28: ("BadLeaf", 1),
+    29: ("TooManyLoads", 0),
+    30: ("NotJudged", 0),
+    34: ("NotUsed", 0),
+}
 
 
 class Reason(str, Enum):
@@ -269,3 +271,4 @@ class Reason(str, Enum):
     BAD_LEAF = "BadLeaf"
     TOO_MANY_LOADS = "TooManyLoads"
     NOT_JUDGED = "NotJudged"
+    NOT_USED = "NotUsed"

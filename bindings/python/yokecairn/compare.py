@@ -55,6 +55,7 @@ class Basis:
         bound: a lower bound on the length of every tour; None without a certificate.
         no_tour: whether the certificate shows that the instance has no tour.
         reason, numbers: a reason against the instance or the certificate, so that no solution is accepted; else None.
+        field: the field of the reason `NotUsed`, such as `CAPACITY`; else None.
     """
 
     type: str
@@ -65,14 +66,15 @@ class Basis:
     no_tour: bool = False
     reason: Optional[str] = None
     numbers: Tuple[int, ...] = ()
+    field: Optional[str] = None
 
     @property
     def text(self) -> str:
         """The first lines of `tsp compare`, each with its line end."""
         lines = [f"type {self.type}", f"nodes {self.nodes}", *(f"not judged {it}" for it in self.not_judged)]
         if self.reason is not None:
-            unknown = self.not_judged[:1] if self.reason == "NotJudged" else ()
-            lines.append(_words("no", self.reason, *self.numbers, *unknown))
+            keyword = self.not_judged[:1] if self.reason == "NotJudged" else () if self.field is None else (self.field,)
+            lines.append(_words("no", self.reason, *self.numbers, *keyword))
         elif self.no_tour:
             lines.append("bound none")
         else:
@@ -164,10 +166,12 @@ class Judge:
         if report.reason in _OF_INSTANCE:
             known.update(reason=report.reason, numbers=report.numbers)
         elif bound is not None and bound.reason:
-            reason, count = REASONS[bound.reason - 1]
+            reason, count = REASONS[bound.reason]
             known.update(reason=reason, numbers=(bound.first, bound.second)[:count])
         elif self.is_strict and report.not_judged:
             known.update(reason="NotJudged")
+        elif self.is_strict and (field := parse(self.instance).unused_field()) is not None:
+            known.update(reason="NotUsed", field=field)
         else:
             if report.type == "CVRP":
                 known.update(least=_least(parse(self.instance)))
@@ -519,8 +523,8 @@ def compare(
     Each solution is what `check` takes: a path, the bytes of its text, a `Problem`, a list of nodes, or for routes a
     list of such lists. `solutions` may map names to them. The instance and the certificate, `potentials` or
     `branches`, are read once. `best` is the best-known length, a mapping from NAMEs to lengths, or a file with lines
-    `NAME LENGTH`. `foreign` and `claims` are as in `check`. With `strict`, an instance with an unknown keyword is a
-    reason against all solutions, and none is read.
+    `NAME LENGTH`. `foreign` and `claims` are as in `check`. With `strict`, an unknown keyword of
+    the instance, or a field that it doesn't use, is a reason against all solutions, and none is read.
 
     `progress(done, name, outcome)` is called after each solution, in order.
 

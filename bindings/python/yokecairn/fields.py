@@ -45,6 +45,19 @@ SECTIONS = {
     "branches": "BRANCH_SECTION",
 }
 WHOLE = ("dimension", "capacity", "scale", "load_unit")
+# The fields that an instance of any TYPE uses, or that are only for display.
+USED = (
+    "NAME",
+    "TYPE",
+    "COMMENT",
+    "DIMENSION",
+    "EDGE_WEIGHT_TYPE",
+    "NODE_COORD_TYPE",
+    "DISPLAY_DATA_TYPE",
+    "NODE_COORD_SECTION",
+    "DISPLAY_DATA_SECTION",
+    "FIXED_EDGES_SECTION",
+)
 
 _NAMES = {keyword: name for name, keyword in KEYWORDS.items()}
 _LETTER = re.compile(rb"\n(?=[A-Za-z])")

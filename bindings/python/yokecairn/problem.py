@@ -300,6 +300,17 @@ class Problem:
         found = {keywords[name]: value for name, value in self.as_name_dict().items()}
         return {**found, **dict(self.others)}
 
+    def unused_field(self) -> Optional[str]:
+        """The first field of an instance that its TYPE or its EDGE_WEIGHT_TYPE doesn't use, which `strict` of `check` rejects
+        with `NotUsed`, by its keyword or section; None where each is used."""
+        used = {*canonical_fields.USED}
+        if self.type == "CVRP":
+            used |= {"CAPACITY", "DEMAND_SECTION", "DEPOT_SECTION"}
+        if self.edge_weight_type == "EXPLICIT" or self.edge_weight_format == "FUNCTION":
+            used |= {"EDGE_WEIGHT_FORMAT", "EDGE_WEIGHT_SECTION"}
+        keywords = {**canonical_fields.KEYWORDS, **canonical_fields.SECTIONS}
+        return next((keywords[name] for name in self.as_name_dict() if keywords[name] not in used), None)
+
     def as_dict(self, by_keyword: bool = False, *, json: bool = False) -> Dict[str, Any]:
         """The fields in the file, by their names, or by their keywords and sections.
 

@@ -140,7 +140,7 @@ class Report:
         cls, result: _library.Result, text: str, explanation: str = "", claimed: Optional[int] = None
     ) -> "Report":
         """The report of a result in numbers, whose text this is."""
-        reason, numbers = REASONS[result.reason - 1] if result.reason else (None, 0)
+        reason, numbers = REASONS[result.reason] if result.reason else (None, 0)
         is_routes = result.verdict == _library.ROUTES
         length = result.length if is_routes or result.verdict == _library.TOUR else None
         gap = None if result.bound is None or length is None else length - result.bound
@@ -221,8 +221,8 @@ def check(
 
     With a certificate, `potentials` or `branches`, the report has a bound. With `length`, a solution of another length is
     rejected. With `explain`, the report explains a `no`, and a `yes` whose solution has a comment with another length. With
-    `strict`, an instance with an unknown keyword (one of `Report.not_judged`) is rejected with `NotJudged`, after all other
-    reasons.
+    `strict`, an instance with an unknown keyword (one of `Report.not_judged`) is rejected with `NotJudged`, and one with a
+    field that it doesn't use with `NotUsed`, after all other reasons.
 
     A solution in the form of CVRPLIB (`.sol`), OR-Tools or JSON is read as `read_solution` reads it. With `foreign=True`
     every form is read, and with `foreign=False` only TYPE TOUR. If such a solution claims a length, this is used as

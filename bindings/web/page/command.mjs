@@ -19,7 +19,7 @@ import { By } from "../../javascript/codes.mjs";
  * @property {Given | null} [other] a solution whose edges are compared with those of the one that is shown
  * @property {boolean} [foreign] whether a solution may have the form of another program
  * @property {boolean} [claims] whether the length that a solution claims itself counts, where none is claimed otherwise
- * @property {boolean} [strict] whether an unknown keyword of the instance is a reason
+ * @property {boolean} [strict] whether lines of the instance that aren't judged are a reason
  */
 
 /**

@@ -15,9 +15,10 @@ use Rattle.tsp_format.specs.declared.kinds.WeightKind.{WeightKind}
 use Rattle.tsp_file.specs.declared.relayout.RelayoutFault.{RelayoutFault}
 use Rattle.tsp_text.specs.declared.fault.ReadFault.TheVariants as read_faults
 use Rattle.tsp_report.specs.Report.{report_of, IsSized}
+use Rattle.tsp_report.specs.declared.verdict.Reason.{Reason}
 use Rattle.tsp_report.specs.declared.verdict.Verdict.TheVariants.{Tour, Routes, No}
-use Rattle.tsp_verdict.specs.SolutionVerdict.{is_unjudged, strict_verdict}
-use Rattle.tsp_judge.proofs.Yeses.{none_unknown}
+use Rattle.tsp_verdict.specs.Strict.{IsJudgedWhole, strict_reason, strict_verdict}
+use Rattle.tsp_verdict.proofs.Unjudged.{accepted_before, judged_whole}
 use Rattle.tsp_judge.proofs.opened.Opened.TheLaws as opened
 use Rattle.tsp_judge.specs.Accepted.{IsAccepted}
 use Rattle.tsp_judge.specs.contracts.opened.Opened
@@ -282,35 +283,27 @@ are_spelled opened claimed one two given verdict is texts_are = record {
 abbrev pub Means : Open → Option ℤ → Bool → Fields → Verdict → Type 0
 Means opened claimed strict solution verdict = true ≡ is_yes verdict
     → IsAccepted opened.certificate claimed opened.instance solution (report_of opened.instance verdict)
-    × (strict ≡ true → opened.instance.others ≡ [])
-
--- an accepted solution is accepted without unknown keywords as a reason
-yes_kept : (refused : Bool) (plain : Verdict) → true ≡ is_yes (strict_verdict refused plain)
-    → (refused ≡ false) × (strict_verdict refused plain ≡ plain)
-yes_kept false plain agrees = (refl, refl)
-yes_kept true (Tour length_is bound) agrees = absurd (false≢true (sym agrees))
-yes_kept true (Routes length_is routes least bound) agrees = absurd (false≢true (sym agrees))
-yes_kept true (No reason) agrees = absurd (false≢true (sym agrees))
+    × (strict ≡ true → IsJudgedWhole opened.instance)
 
 pub means_asked : (opened : Open) (claimed : Option ℤ) (strict : Bool) (solution : Fields) (plain verdict : Verdict)
     → (true ≡ is_yes plain → IsAccepted opened.certificate claimed opened.instance solution (report_of opened.instance plain))
-    → verdict ≡ strict_verdict (is_unjudged strict opened.instance) plain → Means opened claimed strict solution verdict
+    → verdict ≡ strict_verdict (strict_reason strict opened.instance) plain → Means opened claimed strict solution verdict
 means_asked opened claimed strict solution plain verdict accepts asked agrees =
-    let kept = yes_kept (is_unjudged strict opened.instance) plain (agrees ∙ ap is_yes asked) in
-    let same : verdict ≡ plain = asked ∙ kept.1 in (
+    let kept = accepted_before (strict_reason strict opened.instance) plain (sym (agrees ∙ ap is_yes asked)) in
+    let same : verdict ≡ plain = asked ∙ kept.0 in (
       subst (λ (v : Verdict). IsAccepted opened.certificate claimed opened.instance solution (report_of opened.instance v))
           (sym same) (accepts (agrees ∙ ap is_yes same)),
-      none_unknown strict opened.instance.others kept.0,
+      judged_whole strict opened.instance kept.1,
     )
 
-pub sized_asked : (refused : Bool) (plain verdict : Verdict) → IsSized plain → verdict ≡ strict_verdict refused plain → IsSized verdict
-sized_asked refused plain verdict is asked = subst IsSized (sym asked) (kept refused plain is)
+pub sized_asked : (strict : Option Reason) (plain verdict : Verdict) → IsSized plain → verdict ≡ strict_verdict strict plain → IsSized verdict
+sized_asked strict plain verdict is asked = subst IsSized (sym asked) (kept strict plain is)
   where
-    kept : (refused : Bool) (plain : Verdict) → IsSized plain → IsSized (strict_verdict refused plain)
-    kept false plain is = is
-    kept true (Tour length_is bound) is = tt
-    kept true (Routes length_is routes least bound) is = tt
-    kept true (No reason) is = tt
+    kept : (strict : Option Reason) (plain : Verdict) → IsSized plain → IsSized (strict_verdict strict plain)
+    kept None plain is = is
+    kept (Some reason) (Tour length_is bound) is = tt
+    kept (Some reason) (Routes length_is routes least bound) is = tt
+    kept (Some reason) (No other) is = tt
 
 accepted : (opened : Open) (claimed : Option ℤ) (strict : Bool) (one two written : List ℕ) (given : GivenText) (verdict : Verdict)
     (is : IsHeldAsked two claimed strict opened verdict) → Means opened claimed strict is.1.solution verdict

@@ -1,10 +1,12 @@
 -- The numbers that C gets of a run on texts: each fits, and they say the verdict or the fault on these texts.
-use Rattle.tsp_c.proofs.Prelude.{◌≡◌, ◌≢◌, ℕ, ◌≤◌, List, Bool, true, false, Result, Ok, Err, inl, inr, sym, subst, ◌∙◌, arith, Option, Some, ℤ, IfOk, ReadTrace, Sink, Fields, CertificateKind, Verdict, is_yes, is_bound_yes, RunFault, status_of_fault, Given, EndsWithout, IsRun, acceptance, EndsUnbounded, IsBoundRun}
+use Rattle.tsp_c.proofs.Prelude.{◌≡◌, ◌≢◌, ℕ, ◌≤◌, List, Bool, Result, Ok, Err, inl, inr, sym, subst, ◌∙◌, arith, Option, Some, None, ℤ, IfOk, ReadTrace, Sink, Fields, CertificateKind, Verdict, is_yes, is_bound_yes, RunFault, status_of_fault, Given, EndsWithout, IsRun, acceptance, EndsUnbounded, IsBoundRun}
 use Rattle.tsp_report.specs.declared.verdict.BoundVerdict.{BoundVerdict}
 use Rattle.tsp_report.specs.declared.verdict.BoundVerdict.TheVariants as bounds
 use Rattle.tsp_report.specs.Report.{IsSized}
+use Rattle.tsp_report.specs.declared.verdict.Reason.{Reason}
 use Rattle.tsp_verdict.specs.Certified.{IsBoundVerdict}
-use Rattle.tsp_verdict.specs.SolutionVerdict.{IsVerdictWith, is_unjudged, strict_bound, strict_verdict}
+use Rattle.tsp_verdict.specs.SolutionVerdict.{IsVerdictWith}
+use Rattle.tsp_verdict.specs.Strict.{strict_bound, strict_reason, strict_verdict}
 use Rattle.tsp_judge.proofs.Yeses.{few}
 use Rattle.tsp_judge.specs.declared.bound_run.Bounded.{Bounded}
 use Rattle.tsp_judge.specs.declared.check.Judged.{Judged}
@@ -25,18 +27,18 @@ sized_bound by instance certificate (bounds.Bound bound) is = few bound is.1.2
 sized_bound by instance certificate bounds.NoSolution is = tt
 sized_bound by instance certificate (bounds.No reason) is = tt
 
-sized_bound_kept : (refused : Bool) (plain : BoundVerdict) → IsSizedBound plain → IsSizedBound (strict_bound refused plain)
-sized_bound_kept false plain is = is
-sized_bound_kept true (bounds.Bound bound) is = tt
-sized_bound_kept true bounds.NoSolution is = tt
-sized_bound_kept true (bounds.No reason) is = tt
+sized_bound_kept : (strict : Option Reason) (plain : BoundVerdict) → IsSizedBound plain → IsSizedBound (strict_bound strict plain)
+sized_bound_kept None plain is = is
+sized_bound_kept (Some reason) (bounds.Bound bound) is = tt
+sized_bound_kept (Some reason) bounds.NoSolution is = tt
+sized_bound_kept (Some reason) (bounds.No other) is = tt
 
 pub sized_bound_run : (by : CertificateKind) (strict : Bool) (first second : ReadTrace) (sink : Sink) (ended : Result Bounded RunFault)
     → IsBoundRun by strict first second sink ended → IfOk ended (λ bounded. IsSizedBound bounded.found)
 sized_bound_run by strict first second sink (Ok bounded) run =
     let asked = run.2.1 in
     subst IsSizedBound (sym asked.2)
-    (sized_bound_kept (is_unjudged strict bounded.instance) asked.0 (sized_bound by bounded.instance bounded.certificate asked.0 asked.1))
+    (sized_bound_kept (strict_reason strict bounded.instance) asked.0 (sized_bound by bounded.instance bounded.certificate asked.0 asked.1))
 sized_bound_run by strict first second sink (Err fault) run = tt
 
 -- each verdict has a length and a bound that fit
@@ -45,18 +47,18 @@ AreSized = (given : Option (CertificateKind × Fields)) (claimed : Option ℤ) (
     → IsVerdictWith given claimed instance solution verdict → IsSized verdict
 
 -- a reason has no bound
-sized_kept : (refused : Bool) (plain : Verdict) → IsSized plain → IsSized (strict_verdict refused plain)
-sized_kept false plain is = is
-sized_kept true (verdicts.Tour length_is bound) is = tt
-sized_kept true (verdicts.Routes length_is routes least bound) is = tt
-sized_kept true (verdicts.No reason) is = tt
+sized_kept : (strict : Option Reason) (plain : Verdict) → IsSized plain → IsSized (strict_verdict strict plain)
+sized_kept None plain is = is
+sized_kept (Some reason) (verdicts.Tour length_is bound) is = tt
+sized_kept (Some reason) (verdicts.Routes length_is routes least bound) is = tt
+sized_kept (Some reason) (verdicts.No other) is = tt
 
 pub sized_run : (given : Given) (claimed : Option ℤ) (strict : Bool) (first second : ReadTrace) (sink : Sink) (ended : Result Judged RunFault)
     → AreSized → IsRun given claimed strict first second sink ended → IfOk ended (λ judged. IsSized judged.verdict)
 sized_run given claimed strict first second sink (Ok judged) sized run =
     let asked = run.1.1 in
     subst IsSized (sym asked.2)
-    (sized_kept (is_unjudged strict judged.instance) asked.0 (sized judged.certificate claimed judged.instance judged.solution asked.0 asked.1))
+    (sized_kept (strict_reason strict judged.instance) asked.0 (sized judged.certificate claimed judged.instance judged.solution asked.0 asked.1))
 sized_run given claimed strict first second sink (Err fault) sized run = tt
 
 -- ---- a fault

@@ -17,6 +17,7 @@ use Rattle.tsp_text.specs.declared.fault.ReadFault.TheVariants as read_faults
 use Rattle.tsp_report.specs.declared.verdict.BoundVerdict.{BoundVerdict}
 use Rattle.tsp_report.specs.declared.verdict.BoundVerdict.TheVariants as bounds
 use Rattle.tsp_report.specs.declared.verdict.Reason.{Reason}
+use Rattle.tsp_report.specs.declared.verdict.Reason.TheVariants.{NotUsed}
 use Rattle.tsp_report.specs.declared.verdict.Verdict.{Verdict}
 use Rattle.tsp_report.specs.declared.verdict.Verdict.TheVariants as verdicts
 use Rattle.tsp_verdict.specs.Certified.{is_bounded}
@@ -80,7 +81,39 @@ low_half bound = unsigned_abs (int_rem_euclid bound (pos (2 ^ 64)))
 abbrev pub with_bound : CallResult → ℤ → CallResult
 with_bound call_result bound = record call_result { bound_high = high_half bound; bound_low = low_half bound; has_bound = 1 }
 
--- ---- a reason: its place in the order in which reasons are judged, and its numbers
+-- ---- a field
+
+-- the number of a field: its place in canonical order; LOAD_UNIT, which came later, has the next number
+abbrev pub field_number : Field → ℕ
+field_number fields.NameKey = 1
+field_number fields.TypeKey = 2
+field_number fields.CommentKey = 3
+field_number fields.OtherKey = 4
+field_number fields.DimensionKey = 5
+field_number fields.CapacityKey = 6
+field_number fields.ScaleKey = 7
+field_number fields.EdgeWeightTypeKey = 8
+field_number fields.EdgeWeightFormatKey = 9
+field_number fields.NodeCoordTypeKey = 10
+field_number fields.DisplayDataTypeKey = 11
+field_number fields.NodeCoordPart = 12
+field_number fields.DisplayDataPart = 13
+field_number fields.DemandPart = 14
+field_number fields.DepotPart = 15
+field_number fields.FixedEdgesPart = 16
+field_number fields.EdgeWeightPart = 17
+field_number fields.TourPart = 18
+field_number fields.NodePotentialPart = 19
+field_number fields.RowPotentialPart = 20
+field_number fields.ColumnPotentialPart = 21
+field_number fields.FixedEdgePotentialPart = 22
+field_number fields.FamilyPart = 23
+field_number fields.BranchPart = 24
+field_number fields.LoadUnitKey = 25
+field_number fields.MemoryPart = 26
+field_number fields.SubsetRowPart = 27
+
+-- ---- a reason: its place in the order in which reasons are judged, its numbers, and its field
 
 -- the first number of a reason, or 0
 abbrev pub first_number : Reason → ℤ
@@ -90,6 +123,11 @@ first_number reason = unwrap_or (row_of_reason reason).numbers.0 (pos 0)
 abbrev pub second_number : Reason → ℤ
 second_number reason = unwrap_or (row_of_reason reason).numbers.1 (pos 0)
 
+-- the field that isn't used, where that is the reason; else 0
+abbrev pub field_of_reason : Reason → ℕ
+field_of_reason (NotUsed field) = field_number field
+field_of_reason reason = 0
+
 -- the numbers with a reason
 abbrev pub with_reason : CallResult → Reason → CallResult
 with_reason call_result reason = record call_result {
@@ -97,6 +135,7 @@ with_reason call_result reason = record call_result {
   reason = rank_of reason;
   first = first_number reason;
   second = second_number reason;
+  field = field_of_reason reason;
 }
 
 -- ---- a verdict: 1 a tour, 2 routes, 3 rejected, 4 a bound, 5 that there is no solution
@@ -168,36 +207,6 @@ number_fault_number number_faults.NotWhole = 5
 abbrev pub number_of_fault : LineFault → ℕ
 number_of_fault (line_faults.Number found) = number_fault_number found
 number_of_fault found = 0
-
--- the number of a field: its place in canonical order; fields that came later have the next numbers
-abbrev pub field_number : Field → ℕ
-field_number fields.NameKey = 1
-field_number fields.TypeKey = 2
-field_number fields.CommentKey = 3
-field_number fields.OtherKey = 4
-field_number fields.DimensionKey = 5
-field_number fields.CapacityKey = 6
-field_number fields.ScaleKey = 7
-field_number fields.EdgeWeightTypeKey = 8
-field_number fields.EdgeWeightFormatKey = 9
-field_number fields.NodeCoordTypeKey = 10
-field_number fields.DisplayDataTypeKey = 11
-field_number fields.NodeCoordPart = 12
-field_number fields.DisplayDataPart = 13
-field_number fields.DemandPart = 14
-field_number fields.DepotPart = 15
-field_number fields.FixedEdgesPart = 16
-field_number fields.EdgeWeightPart = 17
-field_number fields.TourPart = 18
-field_number fields.NodePotentialPart = 19
-field_number fields.RowPotentialPart = 20
-field_number fields.ColumnPotentialPart = 21
-field_number fields.FixedEdgePotentialPart = 22
-field_number fields.FamilyPart = 23
-field_number fields.BranchPart = 24
-field_number fields.LoadUnitKey = 25
-field_number fields.MemoryPart = 26
-field_number fields.SubsetRowPart = 27
 
 -- the field that is missing or incomplete at the end of a text; else 0
 abbrev pub field_of_fault : ReadFault → ℕ

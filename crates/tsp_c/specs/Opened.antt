@@ -8,7 +8,7 @@ use base.Stored.{Coded}
 use denote.RawPtr.{Ptr}
 use Rattle.tsp_report.specs.declared.verdict.BoundVerdict.{BoundVerdict}
 use Rattle.tsp_report.specs.declared.verdict.Verdict.{Verdict}
-use Rattle.tsp_verdict.specs.SolutionVerdict.{is_unjudged, strict_verdict}
+use Rattle.tsp_verdict.specs.Strict.{strict_reason, strict_verdict}
 use Rattle.tsp_judge.specs.contracts.opened.Opened.{the_row}
 use Rattle.std_alloc.specs.Box.Ownership.{box_owns}
 use Rattle.std_heap.specs.contracts.GlobalAllocator.TheImpl.{ghosts}
@@ -67,10 +67,10 @@ abbrev pub ChecksAsTexts : Open → Option ℤ → Bool → List ℕ → ℕ →
 ChecksAsTexts opened claimed strict two status text = (one : List ℕ) (given : GivenText) → IsOpenOn one given opened
     → ChecksTexts given claimed strict one two status text
 
--- the verdict on the solution that the text parses to, with unknown keywords as a reason or not
+-- the verdict on the solution that the text parses to, with lines that aren't judged as a reason or not
 abbrev pub IsHeldAsked : List ℕ → Option ℤ → Bool → Open → Verdict → Type 0
 IsHeldAsked two claimed strict opened verdict = (plain : Verdict) × IsHeldVerdict two claimed opened plain
-    × (verdict ≡ strict_verdict (is_unjudged strict opened.instance) plain)
+    × (verdict ≡ strict_verdict (strict_reason strict opened.instance) plain)
 
 -- The numbers of a check, by its status: at 0 and 1 those of the verdict, at 2 those of a fault with this status, at 3
 -- all are 0.

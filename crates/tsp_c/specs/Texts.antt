@@ -17,6 +17,7 @@ use Rattle.tsp_report.specs.declared.verdict.Verdict.{Verdict}
 use Rattle.tsp_report.specs.declared.verdict.Verdict.TheVariants.{No}
 use Rattle.tsp_verdict.specs.Certified.{NoneAgainstInstance, is_bounded, NoneWithoutMemory}
 use Rattle.tsp_verdict.specs.SolutionVerdict.{is_judged, NoneBeforeRepeatsOn, IsBoundAsked, IsVerdictAsked}
+use Rattle.tsp_verdict.specs.Strict.{IsJudgedWhole}
 use Rattle.tsp_report.specs.Show.{shown}
 use Rattle.tsp_judge.specs.Accepted.{IsAccepted, IsAcceptedAlone}
 use Rattle.tsp_judge.specs.ConvertRun.{Becomes}
@@ -98,12 +99,12 @@ ParsesToGiven None (Some certificate) = ⊥
 ParsesToGiven (Some given) None = ⊥
 ParsesToGiven (Some given) (Some certificate) = (certificate.0 ≡ given.0) × ParsesTo given.1 certificate.1
 
--- A check by 0 asks nothing more, by 1 for a length, by 2 that unknown keywords be a reason, by 3 for both. This is the
--- claimed length, if there is one.
+-- A check by 0 asks nothing more, by 1 for a length, by 2 that lines that aren't judged be a reason, by 3 for both. This
+-- is the claimed length, if there is one.
 abbrev pub claim_of : ℕ → ℤ → Option ℤ
 claim_of has claimed = if has == 1 || has == 3 then Some claimed else None
 
--- whether unknown keywords are a reason
+-- whether lines that aren't judged are a reason
 abbrev pub strict_of : ℕ → Bool
 strict_of has = has == 2 || has == 3
 
@@ -123,7 +124,7 @@ pub record IsAcceptedText (given : GivenText) (claimed : Option ℤ) (strict : B
   pub certificate : Option (CertificateKind × Fields)
   pub spelled : AreSpelled given one two instance solution certificate
   pub meaning : IsAccepted certificate claimed instance solution text
-  pub all_judged : strict ≡ true → instance.others ≡ []
+  pub all_judged : strict ≡ true → IsJudgedWhole instance
 
 -- the solution is rejected: the text is the report with the first reason against solution or certificate
 pub record IsRejected (given : GivenText) (claimed : Option ℤ) (strict : Bool) (one two text : List ℕ) : Type 0 where
@@ -191,7 +192,7 @@ ChecksBy by has_claim claimed one two three status text =
 
 -- ---- a bound without a solution
 
--- the certificate of a bound by its number, 1 to 4: for 3 and 4 unknown keywords are a reason too
+-- the certificate of a bound by its number, 1 to 4: for 3 and 4 lines that aren't judged are a reason too
 abbrev pub bounds_asked : List (CertificateKind × Bool)
 bounds_asked = (Potentials, false) ∷ (Branches, false) ∷ (Potentials, true) ∷ (Branches, true) ∷ []
 
@@ -204,7 +205,7 @@ pub record IsBoundText (by : CertificateKind) (strict : Bool) (one two text : Li
   pub first_file : ParsesTo one instance
   pub second_file : ParsesTo two certificate
   pub meaning : IsAcceptedAlone by instance certificate found text
-  pub all_judged : strict ≡ true → instance.others ≡ []
+  pub all_judged : strict ≡ true → IsJudgedWhole instance
 
 -- the text is the report with the first reason against instance or certificate
 pub record IsBoundRejected (by : CertificateKind) (strict : Bool) (one two text : List ℕ) : Type 0 where

@@ -2,7 +2,7 @@
 
 ghost use Rattle.std.specs.Prelude.{◌≡◌, ◌≢◌, Some, IfOk};
 ghost use Rattle.tsp_report.specs.Report.{IsGapSized, IsSized};
-ghost use Rattle.tsp_c.specs.CallResult.{IsSizedBound, blank_result, field_of_fault, field_number, kind_number, line_fault_number, number_fault_number, number_of_fault, read_fault_number, result_of_bound, result_of_bound_run, result_of_fault, result_of_instance, result_of_run, result_of_verdict, with_bound, with_reason};
+ghost use Rattle.tsp_c.specs.CallResult.{IsSizedBound, blank_result, field_of_fault, field_of_reason, field_number, kind_number, line_fault_number, number_fault_number, number_of_fault, read_fault_number, result_of_bound, result_of_bound_run, result_of_fault, result_of_instance, result_of_run, result_of_verdict, with_bound, with_reason};
 
 use tsp_cost::{Costs, Instance};
 use tsp_format::{Field, Kind};
@@ -271,8 +271,19 @@ impl CallResult {
             reason: row.rank,
             first: row.numbers.0.unwrap_or(0),
             second: row.numbers.1.unwrap_or(0),
+            field: field_of_reason(reason),
             ..self
         }
+    }
+}
+
+/// The number of the field that isn't used, where that is the reason; else 0.
+fn field_of_reason(reason: Reason) -> u32
+    ensures { result ≡ field_of_reason reason }
+{
+    match reason {
+        Reason::NotUsed { field } => field_number(field),
+        _ => 0,
     }
 }
 

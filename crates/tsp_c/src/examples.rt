@@ -194,7 +194,7 @@ pub fn examples_of_sections()
     ensures missing { EndsPoints None (pos 7 ∷ []) (pos 7 ∷ []) 1 }
 {}
 
-/// A reason, and its numbers. A length that is claimed may be below 0.
+/// A reason, its numbers, and its field. A length that is claimed may be below 0.
 pub fn examples_of_reason_numbers()
     ensures one { first_number (reasons.Unserved 6) ≡ pos 6 }
     ensures none { first_number reasons.TourCount ≡ pos 0 }
@@ -202,6 +202,10 @@ pub fn examples_of_reason_numbers()
     ensures second { second_number (reasons.Unserved 6) ≡ pos 0 }
     ensures call_result { (instance : Fields) → let call_result : CallResult = result_of_verdict instance (verdicts.No (reasons.DualInfeasible 7 8)) in
         (call_result.reason ≡ 22) × (call_result.first ≡ pos 7) × (call_result.second ≡ pos 8) }
+    ensures field { (instance : Fields) → let call_result : CallResult = result_of_verdict instance (verdicts.No (reasons.NotUsed fields.CapacityKey)) in
+        (call_result.reason ≡ 34) × (call_result.field ≡ 6) × (call_result.first ≡ pos 0) }
+    ensures no_field { (instance : Fields) → let call_result : CallResult = result_of_verdict instance (verdicts.No reasons.NotJudged) in
+        call_result.field ≡ 0 }
 {}
 
 /// The faults of a line, of the end of a text, and of a number.

@@ -46,8 +46,8 @@ use std::alloc::Global;
 const VERSION_NUMBER: u32 = 10100;
 
 /// Judges a solution of an instance: by 0 alone, by 1 with potentials, by 2 with branches. Where
-/// `has_claim` is 1, its length has to be the claimed one; where it is 2, an instance with an
-/// unknown keyword is rejected, after all other reasons; where it is 3, both.
+/// `has_claim` is 1, its length has to be the claimed one; where it is 2, an instance with a line
+/// that isn't judged is rejected, after all other reasons; where it is 3, both.
 #[unsafe(no_mangle)]
 pub extern "C" fn tsp_check(
     alloc: Global,
@@ -97,7 +97,7 @@ pub extern "C" fn tsp_check_result(
 }
 
 /// Bounds the tours of an instance: by 1 with potentials, by 2 with branches, and by 3 and 4 with
-/// unknown keywords as a reason too.
+/// lines that aren't judged as a reason too.
 #[unsafe(no_mangle)]
 pub extern "C" fn tsp_bound(
     alloc: Global,

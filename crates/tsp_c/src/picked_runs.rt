@@ -18,7 +18,7 @@ use tsp_judge::{
 };
 
 /// What a check asks for beside: nothing where `has_claim` is 0; a length where that is 1; that
-/// unknown keywords of the instance be a reason where it is 2; both where it is 3.
+/// lines of the instance that aren't judged be a reason where it is 2; both where it is 3.
 #[derive(Clone, Copy)]
 pub(crate) struct Claim {
     pub(crate) claimed: i64,
@@ -52,8 +52,8 @@ pub(crate) fn check_by(
     checked(alloc, instance, solution, by, certificate, claim, strict)
 }
 
-/// The bound by 1 with potentials, by 2 with branches, and by 3 and 4 with unknown keywords as a
-/// reason too; with its status, and in numbers.
+/// The bound by 1 with potentials, by 2 with branches, and by 3 and 4 with lines that aren't judged
+/// as a reason too; with its status, and in numbers.
 pub(crate) fn bound_by(
     alloc: Global,
     instance: &[u8],
@@ -69,7 +69,7 @@ pub(crate) fn bound_by(
     }
 }
 
-/// What a number asks of a bound: the certificate, and whether unknown keywords are a reason.
+/// What a number asks of a bound: the certificate, and whether lines that aren't judged are a reason.
 pub(crate) fn bound_asked(number: u32) -> Option<(CertificateKind, bool)>
     ensures { result ≡ nth number bounds_asked }
 {
@@ -104,7 +104,7 @@ pub(crate) fn claim_of(has_claim: u32, claimed: i64) -> Option<i64>
     }
 }
 
-/// Whether unknown keywords are a reason.
+/// Whether lines that aren't judged are a reason.
 pub(crate) fn strict_of(has_claim: u32) -> bool
     ensures { result ≡ strict_of has_claim }
 {
@@ -163,8 +163,8 @@ fn converted(alloc: Global, file: &[u8], to: Option<Layout>) -> Answer
 }
 
 /// The check of two texts, with the certificate that a third one is, where one is asked for, and
-/// with the length that is claimed, where one is, and with unknown keywords as a reason, where that
-/// is asked; with its status, and in numbers.
+/// with the length that is claimed, where one is, and with lines that aren't judged as a reason,
+/// where that is asked; with its status, and in numbers.
 fn checked(
     alloc: Global,
     instance: &[u8],
@@ -211,7 +211,8 @@ fn named_reader(
 }
 
 /// The bound of the tours of the instance that a text is, by the certificate that another one is,
-/// and with unknown keywords as a reason, where that is asked; with its status, and in numbers.
+/// and with lines that aren't judged as a reason, where that is asked; with its status, and in
+/// numbers.
 fn bounded(
     alloc: Global,
     by: CertificateKind,

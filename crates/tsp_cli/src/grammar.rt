@@ -70,8 +70,8 @@ const CHECK_NOTES: &str = "\
 Prints yes with the length, or no with the first reason. With potentials or
 branches there is a bound too: no tour is shorter than that. With a length
 that is claimed, a solution of another length is rejected; one below 0 is
-written --length=-34. With --strict, an instance with an unknown keyword is
-rejected, after all other reasons.
+written --length=-34. With --strict, an instance with an unknown keyword, or
+with a field that it doesn't use, is rejected, after all other reasons.
 
 Exit status: 0 yes, 1 no, 2 a fault of a file or the wrong kind,
 3 out of memory, 4 both potentials and branches or no length, 5 a device.
@@ -88,8 +88,8 @@ const COMPARE_NOTES: &str = "\
 Reads the instance and the certificate once, then each solution in turn, and
 prints a line for each: its length and path, or why it is rejected or isn't
 read. With potentials or branches there is a bound too, and a line says
-optimal or the gap to it. With --strict, an instance with an unknown keyword
-is rejected, and no solution is read.
+optimal or the gap to it. With --strict, an instance with an unknown keyword,
+or with a field that it doesn't use, is rejected, and no solution is read.
 
 Exit status: the largest of 0 all accepted, 1 a no, 2 a fault of a file or
 the wrong kind, 5 a device. 3 out of memory, 4 both potentials and branches.
@@ -103,7 +103,8 @@ Examples:
 const BOUND_NOTES: &str = "\
 Prints yes with the bound, or no with the first reason against the instance
 or the certificate. No tour of the instance is shorter than the bound. With
---strict, an instance with an unknown keyword is rejected, after all others.
+--strict, an instance with an unknown keyword, or with a field that it doesn't
+use, is rejected, after all other reasons.
 
 Exit status: 0 yes, 1 no, 2 a fault of a file or the wrong kind,
 3 out of memory, 4 not one of potentials and branches, 5 a device.
@@ -346,6 +347,6 @@ fn strict<'a>(alloc: Global) -> Arg<'a>
         alloc,
         "U",
         "strict",
-        "Reject an instance with an unknown keyword, after all other reasons",
+        "Reject an instance with a line that isn't judged, after all other reasons",
     )
 }

@@ -68,7 +68,7 @@ pub struct Job {
     pub branches: Option<String>,
     /// The word of the length that is claimed.
     pub length: Option<String>,
-    /// Whether unknown keywords of the instance are a reason.
+    /// Whether lines of the instance that aren't judged are a reason.
     pub strict: bool,
     /// Whether a fault, or the line `no`, is to be explained.
     pub explain: bool,

@@ -151,6 +151,7 @@ pub(crate) fn reason_sentence(reason: Reason) -> &'static str {
         Reason::BadLeaf { .. } => BAD_LEAF,
         Reason::TooManyLoads => TOO_MANY_LOADS,
         Reason::NotJudged => NOT_JUDGED,
+        Reason::NotUsed { .. } => NOT_USED,
     }
 }
 
@@ -246,3 +247,7 @@ const TOO_MANY_LOADS: &str =
 const NOT_JUDGED: &str =
     "No other reason applies, but a line of the instance has a keyword that tsp doesn't know, and --strict rejects that.\n\
     What the line asks for is not judged: a yes would not mean that the solution keeps to it.";
+
+const NOT_USED: &str =
+    "No other reason applies, but the instance has a field that its TYPE or its EDGE_WEIGHT_TYPE doesn't use,\n\
+    and --strict rejects that. Is TYPE right? If it is, remove the field: the verdict doesn't depend on it.";

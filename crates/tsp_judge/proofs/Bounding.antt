@@ -1,5 +1,5 @@
 -- Runs of `tsp bound`, `show` and `convert`, and instances that are open.
-use Rattle.tsp_judge.proofs.Prelude.{◌≡◌, ◌∙◌, length, Some, sym, Bool, true, false, Result, Ok, Err, refl, subst, inl, inr, Option, None, ℕ, List, IsTrue, ℤ, ReadTrace, IsUnread, Sink, IsUnwritten, Writes, Fields, IsFile, IsProblem, problem_of, routing_of, depots_of, bound_report_of, is_bound_yes, CertificateKind, AppliesToInstanceBy, AppliesToBounded, IsBoundVerdict, is_bounded, BoundsSolutionsBy, BoundsSolutions, HasNoSolutionBy, HasNoSolution, is_unjudged, strict_bound}
+use Rattle.tsp_judge.proofs.Prelude.{◌≡◌, ◌∙◌, length, Some, sym, Bool, true, false, Result, Ok, Err, refl, subst, inl, inr, Option, None, ℕ, List, IsTrue, ℤ, ReadTrace, IsUnread, Sink, IsUnwritten, Writes, Fields, IsFile, IsProblem, problem_of, routing_of, depots_of, bound_report_of, is_bound_yes, CertificateKind, AppliesToInstanceBy, AppliesToBounded, IsBoundVerdict, is_bounded, BoundsSolutionsBy, BoundsSolutions, HasNoSolutionBy, HasNoSolution, strict_reason}
 use Rattle.std.proofs.lemmas.Bool.{false≢true}
 use Rattle.tsp_io.specs.declared.piece.WriteFault.{WriteFault}
 use Rattle.tsp_io.specs.declared.piece.WriteFault.TheVariants as faults
@@ -12,7 +12,8 @@ use Rattle.tsp_report.specs.declared.verdict.BoundVerdict.{BoundVerdict}
 use Rattle.tsp_report.specs.declared.verdict.BoundVerdict.TheVariants as bounds
 use Rattle.tsp_report.specs.declared.verdict.Reason.{Reason}
 use Rattle.tsp_report.specs.declared.verdict.Reason.TheVariants.{DepotCount}
-use Rattle.tsp_judge.proofs.Yeses.{one_value, IsBoundedType, of_type, types_bounded, one_depot, none_unknown}
+use Rattle.tsp_judge.proofs.Yeses.{one_value, IsBoundedType, of_type, types_bounded, one_depot}
+use Rattle.tsp_verdict.proofs.Unjudged.{bounded_before, judged_whole}
 use Rattle.tsp_judge.specs.Accepted.{BoundsAll, HasNone, IsAcceptedAlone}
 use Rattle.tsp_judge.specs.BoundRun.{BoundsFiles, EndsUnbounded, IsBoundRun, SaysBound, IsBoundRunOf}
 use Rattle.tsp_judge.specs.CheckRun.{ReadsFile}
@@ -88,19 +89,12 @@ bound_accepted by instance certificate bounds.NoSolution problem type v is = rec
 }
 bound_accepted by instance certificate (bounds.No reason) problem type v is = absurd (false≢true is)
 
--- an accepted one was accepted before, and unknown keywords are no reason
-kept_bound : (refused : Bool) (plain : BoundVerdict) → is_bound_yes (strict_bound refused plain) ≡ true → (strict_bound refused plain ≡ plain) × (refused ≡ false)
-kept_bound false plain is = (refl, refl)
-kept_bound true (bounds.Bound bound) is = absurd (false≢true is)
-kept_bound true bounds.NoSolution is = absurd (false≢true is)
-kept_bound true (bounds.No reason) is = absurd (false≢true is)
-
 says_bound : (by : CertificateKind) (strict : Bool) (first second : ReadTrace) (sink : Sink) (bounded : Bounded) → IsProblem bounded.instance
     → IsBoundRun by strict first second sink (Ok bounded) → is_bound_yes bounded.found ≡ true → SaysBound by strict first second sink bounded.found
 says_bound by strict first second sink bounded problem run is =
     let b = run.2 in
     let asked = b.1 in
-    let same = kept_bound (is_unjudged strict bounded.instance) asked.0 (subst (λ v. is_bound_yes v ≡ true) asked.2 is) in
+    let same = bounded_before (strict_reason strict bounded.instance) asked.0 (subst (λ v. is_bound_yes v ≡ true) asked.2 is) in
     record {
       instance = bounded.instance;
       certificate = bounded.certificate;
@@ -110,7 +104,7 @@ says_bound by strict first second sink bounded problem run is =
       written = b.2;
       meaning = bound_accepted by bounded.instance bounded.certificate bounded.found problem b.0
           (subst (IsBoundVerdict by bounded.instance bounded.certificate) (sym (asked.2 ∙ same.0)) asked.1) is;
-      all_judged = none_unknown strict bounded.instance.others same.1;
+      all_judged = judged_whole strict bounded.instance same.1;
     }
 
 -- the whole contract of a run with a bound, or a reason, and of one without either

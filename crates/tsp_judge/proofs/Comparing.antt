@@ -1,5 +1,5 @@
 -- What a comparison has written after each solution, and what its lines mean.
-use Rattle.tsp_judge.proofs.Prelude.{◌≡◌, ◌||◌, ℕ, suc, ◌+◌, ◌<◌, ◌≤◌, List, [], ◌∷◌, ◌++◌, length, take, Option, true, false, Bool, refl, sym, ap, subst, ◌∙◌, append_assoc, append-nil, arith, inl, inr, add-one, ◌⊎◌, Appends-nil, Appends-trans, Appends-kept, max, Result, Ok, Err, IfOk, slice_index_or, Some, None, ℤ, IsTrue, ReadTrace, Sink, IsUnwritten, HasWritten, HasStopped, Writes, sink_of, read_trace_of, watched, has_failed, Fields, HasReads, IsReadOn, IsFile, most_taken, ReadFault, IsProblem, problem_of, routing_of, solution_line, IsSized, report_of, head_of, is_clear, is_yes, CertificateKind, AppliesToTouring, AppliesToRouting, AppliesToInstanceBy, AppliesToBounded, IsBoundVerdict, AppliesToCertificate, HasNoSolutionBy, IsCertifiedTourVerdict, IsCertifiedRoutesVerdict, IsCertifiedVerdictBy, IsCertifiedVerdict, IsKnownBound, IsVerdictFrom, is_unjudged, strict_known_bound, IsKnownBoundAsked, IsKnownBoundAlone, IsKnownBoundBy, IsVerdictBy, IsVerdictWith}
+use Rattle.tsp_judge.proofs.Prelude.{◌≡◌, ◌||◌, ℕ, suc, ◌+◌, ◌<◌, ◌≤◌, List, [], ◌∷◌, ◌++◌, length, take, Option, true, false, Bool, refl, sym, ap, subst, ◌∙◌, append_assoc, append-nil, arith, inl, inr, add-one, ◌⊎◌, Appends-nil, Appends-trans, Appends-kept, max, Result, Ok, Err, IfOk, slice_index_or, Some, None, ℤ, IsTrue, ReadTrace, Sink, IsUnwritten, HasWritten, HasStopped, Writes, sink_of, read_trace_of, watched, has_failed, Fields, HasReads, IsReadOn, IsFile, most_taken, ReadFault, IsProblem, problem_of, routing_of, solution_line, IsSized, report_of, head_of, is_clear, is_yes, CertificateKind, AppliesToTouring, AppliesToRouting, AppliesToInstanceBy, AppliesToBounded, IsBoundVerdict, AppliesToCertificate, HasNoSolutionBy, IsCertifiedTourVerdict, IsCertifiedRoutesVerdict, IsCertifiedVerdictBy, IsCertifiedVerdict, IsKnownBound, IsVerdictFrom, IsJudgedWhole, strict_reason, IsKnownBoundAsked, IsKnownBoundAlone, IsKnownBoundBy, IsVerdictBy, IsVerdictWith}
 use Rattle.std.proofs.lemmas.Bool.{false≢true}
 use Rattle.std.specs.Io.KnownBytes.{Appends}
 use Rattle.std.specs.declared.io.Error.{Error}
@@ -18,7 +18,8 @@ use Rattle.tsp_report.specs.declared.verdict.Reason.TheVariants.{TooFewNodes, No
 use Rattle.tsp_report.specs.declared.verdict.Verdict.{Verdict}
 use Rattle.tsp_report.specs.declared.verdict.Verdict.TheVariants as verdicts
 use Rattle.tsp_verdict.specs.Solutions.{tours_of, IsFirstReason, AppliesToRoutes, AppliesToTour}
-use Rattle.tsp_judge.proofs.Yeses.{sized, accepted, IsTspOrAtsp, type_of_tours, one_tour, only_routes, none_unknown}
+use Rattle.tsp_judge.proofs.Yeses.{sized, accepted, IsTspOrAtsp, type_of_tours, one_tour, only_routes}
+use Rattle.tsp_verdict.proofs.Unjudged.{clear_before, judged_whole}
 use Rattle.tsp_judge.specs.Accepted.{IsAccepted, IsBoundedTour, AreBoundedRoutes}
 use Rattle.tsp_judge.specs.CheckRun.{Given, IsUnreadIn, IsFileIn, ReadsFile, ReadsGiven}
 use Rattle.tsp_judge.specs.CompareRun.{IsReadTraceAt, IsFoundIn, Finds, result_of, status_of_found, ComparesOne, AreFound, all_solution_lines, largest_status, ComparesAll, ComparesBy, ComparesOn, LacksKnownBound, AreReadOnce, EndsCompare, AreReported, most_reported}
@@ -248,18 +249,11 @@ ends_comparing strict IsReadTrace paths given first common sink (Write fault) re
 ends_comparing strict IsReadTrace paths given first common sink OutOfMemory read c = inr (common, read, c)
 ends_comparing strict IsReadTrace paths given first common sink (Relayout fault) read c = inr (common, read, c)
 
--- where solutions are judged one by one, the known bound is the one without a look at unknown keywords
+-- where solutions are judged one by one, the known bound is the one without a look at lines that aren't judged
 pub clear_known_bound : (strict : Bool) (given : Option (CertificateKind × Fields)) (instance : Fields) (known_bound : KnownBound) → IsKnownBoundAsked strict given instance known_bound
     → is_clear known_bound ≡ true → IsKnownBound given instance known_bound
 clear_known_bound strict given instance known_bound asked clear =
-    subst (IsKnownBound given instance) (sym (asked.2 ∙ kept_known_bound (is_unjudged strict instance) asked.0 (subst (λ b. is_clear b ≡ true) asked.2 clear))) asked.1
-  where
-    kept_known_bound : (refused : Bool) (plain : KnownBound) → is_clear (strict_known_bound refused plain) ≡ true → strict_known_bound refused plain ≡ plain
-    kept_known_bound false plain is = refl
-    kept_known_bound true (known_bounds.Tours bound) is = absurd (false≢true is)
-    kept_known_bound true known_bounds.NoSolution is = absurd (false≢true is)
-    kept_known_bound true (known_bounds.Routes least bound) is = absurd (false≢true is)
-    kept_known_bound true (known_bounds.No reason) is = absurd (false≢true is)
+    subst (IsKnownBound given instance) (sym (asked.2 ∙ (clear_before (strict_reason strict instance) asked.0 (subst (λ b. is_clear b ≡ true) asked.2 clear)).0)) asked.1
 
 -- ---- the follower of a comparison is called once for each solution, in order
 
@@ -369,21 +363,13 @@ bounded_line_of_routes common read_trace by certificate length bound count least
       (subst (λ given. IsAccepted given None common.instance found.0 (report_of common.instance (verdicts.Routes length count least (Some bound)))) is (found.4 refl)),
 )
 
--- ---- unknown keywords as a reason against all solutions
+-- ---- lines that aren't judged as a reason against all solutions
 
--- where all are judged, unknown keywords are no reason
-pub clear_by : (refused : Bool) (plain : KnownBound) → is_clear (strict_known_bound refused plain) ≡ true → refused ≡ false
-clear_by false plain is = refl
-clear_by true (known_bounds.Tours bound) is = absurd (false≢true is)
-clear_by true known_bounds.NoSolution is = absurd (false≢true is)
-clear_by true (known_bounds.Routes least bound) is = absurd (false≢true is)
-clear_by true (known_bounds.No reason) is = absurd (false≢true is)
-
--- so that the instance has none, where it is asked that they be a reason
+-- where all solutions are judged, so is every line of the instance
 pub all_judged : (given : Option (CertificateKind × Fields)) (instance : Fields) (known_bound : KnownBound) → IsKnownBoundAsked true given instance known_bound
-    → is_clear known_bound ≡ true → instance.others ≡ []
+    → is_clear known_bound ≡ true → IsJudgedWhole instance
 all_judged given instance known_bound asked is =
-    none_unknown true instance.others (clear_by (is_unjudged true instance) asked.0 (sym (ap is_clear asked.2) ∙ is)) refl
+    judged_whole true instance (clear_before (strict_reason true instance) asked.0 (sym (ap is_clear asked.2) ∙ is)).1 refl
 
 -- and where none is judged, the head is the whole text
 pub none_judged : (clear : Bool) (IsReadTrace : ℕ → ReadTrace → Type 0) (paths : List (List ℕ)) (common : ComparisonContext) (sink : Sink) (status : ℕ)

@@ -14,4 +14,5 @@ pub use Rattle.tsp_report.specs.Report.{IsGapSized, IsSized, bound_report_of, he
 pub use Rattle.tsp_report.specs.Verdicts.{is_bound_yes, is_clear, is_yes}
 pub use Rattle.tsp_report.specs.declared.task.CertificateKind.{CertificateKind}
 pub use Rattle.tsp_verdict.specs.Certified.{AppliesToBounded, AppliesToCertificate, AppliesToCertificateBy, AppliesToInstanceBy, AppliesToRouting, AppliesToTouring, BoundsSolutions, BoundsSolutionsBy, HasNoSolution, HasNoSolutionBy, IsBoundFitting, IsBoundVerdict, IsCertifiedRoutesVerdict, IsCertifiedTourVerdict, IsCertifiedVerdict, IsCertifiedVerdictBy, is_bounded, kind_of}
-pub use Rattle.tsp_verdict.specs.SolutionVerdict.{HasLength, IsAsClaimed, IsKnownBound, IsKnownBoundAlone, IsKnownBoundAsked, IsKnownBoundBy, IsUnclaimedVerdict, IsVerdictAsked, IsVerdictBy, IsVerdictFrom, IsVerdictWith, is_judged, is_unjudged, refuses, strict_bound, strict_known_bound, strict_verdict}
+pub use Rattle.tsp_verdict.specs.SolutionVerdict.{HasLength, IsAsClaimed, IsKnownBound, IsKnownBoundAlone, IsKnownBoundAsked, IsKnownBoundBy, IsUnclaimedVerdict, IsVerdictAsked, IsVerdictBy, IsVerdictFrom, IsVerdictWith, is_judged}
+pub use Rattle.tsp_verdict.specs.Strict.{IsJudgedWhole, strict_known_bound, strict_reason, strict_verdict}

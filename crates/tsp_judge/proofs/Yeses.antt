@@ -1,5 +1,5 @@
 -- What a run that ends with `yes` means for the files that it has read.
-use Rattle.tsp_judge.proofs.Prelude.{◌≡◌, Result, Ok, ℕ, [], length, Bool, true, false, Option, Some, None, Err, refl, sym, subst, inl, inr, arith, ◌≢◌, ◌<◌, eqb, List, ◌∷◌, ap, ◌∙◌, ℤ, pos, negsuc, ◌≤◌, ◌^◌, unsigned_abs, ◌⊎◌, ◌≤ℤ◌, IsTrue, unwrap_or, if◌then◌else◌, ReadTrace, IsUnread, Sink, IsUnwritten, Fields, nodes_of, IsFile, most_taken, IsProblem, depot_of, problem_of, routing_of, depots_of, IsGapSized, IsSized, report_of, is_yes, CertificateKind, is_bounded, IsBoundFitting, IsCertifiedTourVerdict, IsCertifiedRoutesVerdict, IsCertifiedVerdictBy, kind_of, AppliesToCertificateBy, AppliesToCertificate, IsCertifiedVerdict, is_judged, IsVerdictBy, IsUnclaimedVerdict, IsVerdictWith, is_unjudged, strict_verdict, IsVerdictAsked, HasLength, IsAsClaimed, refuses}
+use Rattle.tsp_judge.proofs.Prelude.{◌≡◌, Result, Ok, ℕ, [], length, Bool, true, false, Option, Some, None, Err, refl, sym, subst, inl, inr, arith, ◌≢◌, ◌<◌, eqb, List, ◌∷◌, ap, ◌∙◌, ℤ, pos, negsuc, ◌≤◌, ◌^◌, unsigned_abs, ◌⊎◌, ◌≤ℤ◌, IsTrue, unwrap_or, if◌then◌else◌, ReadTrace, IsUnread, Sink, IsUnwritten, Fields, nodes_of, IsFile, most_taken, IsProblem, depot_of, problem_of, routing_of, depots_of, IsGapSized, IsSized, report_of, is_yes, CertificateKind, is_bounded, IsBoundFitting, IsCertifiedTourVerdict, IsCertifiedRoutesVerdict, IsCertifiedVerdictBy, kind_of, AppliesToCertificateBy, AppliesToCertificate, IsCertifiedVerdict, is_judged, IsVerdictBy, IsUnclaimedVerdict, IsVerdictWith, strict_verdict, IsVerdictAsked, HasLength, IsAsClaimed, strict_reason}
 use Rattle.std.proofs.lemmas.Bool.{false≢true, cases_lt}
 use Rattle.std.proofs.lemmas.Bool.Decides.{eqb_tells}
 use Rattle.std.proofs.lemmas.Int.{ints}
@@ -19,6 +19,7 @@ use Rattle.tsp_judge.specs.CheckRun.{ReadsFile, Given, IsUnreadIn, IsFileIn, Rea
 use Rattle.tsp_judge.specs.declared.check.Judged.{Judged}
 use Rattle.tsp_judge.specs.declared.run_status.RunFault.{RunFault}
 use Rattle.tsp_judge.specs.declared.run_status.RunFault.TheVariants.{File, WrongKind, Write, OutOfMemory, Relayout}
+use Rattle.tsp_verdict.proofs.Unjudged.{accepted_before, judged_whole}
 
 pub one_value : {T E : Type 0} (r : Result T E) (a b : T) → r ≡ Ok a → r ≡ Ok b → a ≡ b
 one_value r a b first second = cc
@@ -84,17 +85,17 @@ sized certificate (Some claim) instance solution (verdicts.Tour length bound) v 
 sized certificate (Some claim) instance solution (verdicts.Routes length routes least bound) v = unclaimed certificate instance solution (verdicts.Routes length routes least bound) v.0
 sized certificate (Some claim) instance solution (verdicts.No reason) v = tt
 
--- where unknown keywords are a reason too
+-- where lines that aren't judged are a reason too
 pub asked_sized : (strict : Bool) (certificate : Option (CertificateKind × Fields)) (claimed : Option ℤ) (instance solution : Fields) (verdict : Verdict)
     → IsVerdictAsked strict certificate claimed instance solution verdict → IsSized verdict
 asked_sized strict certificate claimed instance solution verdict asked =
-    subst IsSized (sym asked.2) (kept (is_unjudged strict instance) asked.0 (sized certificate claimed instance solution asked.0 asked.1))
+    subst IsSized (sym asked.2) (kept (strict_reason strict instance) asked.0 (sized certificate claimed instance solution asked.0 asked.1))
   where
-    kept : (refused : Bool) (plain : Verdict) → IsSized plain → IsSized (strict_verdict refused plain)
-    kept false plain is = is
-    kept true (verdicts.Tour length bound) is = tt
-    kept true (verdicts.Routes length routes least bound) is = tt
-    kept true (verdicts.No reason) is = tt
+    kept : (strict : Option Reason) (plain : Verdict) → IsSized plain → IsSized (strict_verdict strict plain)
+    kept None plain is = is
+    kept (Some reason) (verdicts.Tour length bound) is = tt
+    kept (Some reason) (verdicts.Routes length routes least bound) is = tt
+    kept (Some reason) (verdicts.No other) is = tt
 
 -- ---- the TYPE
 
@@ -445,28 +446,13 @@ accepted (Some given) claimed instance solution (verdicts.Routes length count le
     bounded_by_type given.0 claimed instance solution given.1 (verdicts.Routes length count least bound) length problem (types_bounded given.0 instance.kind type) c.0 refl c.1
 accepted certificate claimed instance solution (verdicts.No reason) problem type v is = absurd (false≢true (sym is))
 
--- ---- unknown keywords as a reason
-
--- an accepted verdict was accepted before, and unknown keywords are no reason
-pub kept : (refused : Bool) (plain : Verdict) → is_yes (strict_verdict refused plain) ≡ true → (strict_verdict refused plain ≡ plain) × (refused ≡ false)
-kept false plain is = (refl, refl)
-kept true (verdicts.Tour length bound) is = absurd (false≢true is)
-kept true (verdicts.Routes length routes least bound) is = absurd (false≢true is)
-kept true (verdicts.No reason) is = absurd (false≢true is)
-
--- so that there are none, where it is asked that they be a reason
-pub none_unknown : (strict : Bool) (lines : List (List ℕ × List ℕ)) → refuses strict lines ≡ false → strict ≡ true → lines ≡ []
-none_unknown false lines refused is = absurd (false≢true is)
-none_unknown true [] refused is = refl
-none_unknown true (line ∷ lines) refused is = absurd (false≢true (sym refused))
-
 -- ---- the run
 
 says_yes : (given : Given) (claimed : Option ℤ) (strict : Bool) (first second : ReadTrace) (sink : Sink) (judged : Judged) → IsProblem judged.instance
     → IsRun given claimed strict first second sink (Ok judged) → true ≡ is_yes judged.verdict → SaysYes given claimed strict first second sink
 says_yes given claimed strict first second sink judged problem run is =
     let asked = run.1.1 in
-    let same = kept (is_unjudged strict judged.instance) asked.0 (subst (λ v. is_yes v ≡ true) asked.2 (sym is)) in
+    let same = accepted_before (strict_reason strict judged.instance) asked.0 (subst (λ v. is_yes v ≡ true) asked.2 (sym is)) in
     record {
       instance = judged.instance;
       solution = judged.solution;
@@ -476,7 +462,7 @@ says_yes given claimed strict first second sink judged problem run is =
       written = run.1.2;
       meaning = accepted judged.certificate claimed judged.instance judged.solution judged.verdict problem run.1.0
           (subst (IsVerdictWith judged.certificate claimed judged.instance judged.solution) (sym (asked.2 ∙ same.0)) asked.1) is;
-      all_judged = none_unknown strict judged.instance.others same.1;
+      all_judged = judged_whole strict judged.instance same.1;
     }
 
 -- the whole contract of a run with a verdict, and of one without

@@ -1,6 +1,6 @@
 -- Circle 2 of docs/trust.md.
 -- A run of `tsp bound`: the files that are read, the bound, the report, and the meaning of its line `yes`.
-use Rattle.tsp_judge.specs.Prelude.{ℕ, List, Bool, true, false, Result, Ok, Err, IsTrue, [], ReadTrace, IsUnread, Sink, IsUnwritten, HasWritten, HasStopped, Fields, IsFile, StopsAt, bound_report_of, is_bound_yes, CertificateKind, NoneAgainstInstance, is_bounded, NoneWithoutMemory, IsBoundAsked}
+use Rattle.tsp_judge.specs.Prelude.{ℕ, List, Bool, true, false, Result, Ok, Err, IsTrue, ReadTrace, IsUnread, Sink, IsUnwritten, HasWritten, HasStopped, Fields, IsFile, StopsAt, bound_report_of, is_bound_yes, CertificateKind, NoneAgainstInstance, is_bounded, NoneWithoutMemory, IsBoundAsked, IsJudgedWhole}
 use Rattle.std.specs.Prelude.{◌≡◌, ◌⊎◌}
 use Rattle.tsp_io.specs.declared.piece.WriteFault.TheVariants as write_faults
 use Rattle.tsp_report.specs.declared.verdict.BoundVerdict.{BoundVerdict}
@@ -41,7 +41,7 @@ IsBoundRun by strict first second sink (Ok bounded) = IsFile first bounded.insta
 IsBoundRun by strict first second sink (Err fault) = EndsUnbounded by strict first second sink fault
 
 -- At `yes` the bytes that were read parse to these files, the whole report was written, and it means that the bound is
--- one. Where unknown keywords are a reason, the instance has none.
+-- one. Where lines that aren't judged are a reason, each is judged.
 pub record SaysBound (by : CertificateKind) (strict : Bool) (first second : ReadTrace) (sink : Sink) (found : BoundVerdict) : Type 0 where
   pub instance : Fields
   pub certificate : Fields
@@ -50,7 +50,7 @@ pub record SaysBound (by : CertificateKind) (strict : Bool) (first second : Read
   pub second_file : IsFile second certificate
   pub written : HasWritten sink report
   pub meaning : IsAcceptedAlone by instance certificate found report
-  pub all_judged : strict ≡ true → instance.others ≡ []
+  pub all_judged : strict ≡ true → IsJudgedWhole instance
 
 -- the result of the run, and what its line `yes` means
 abbrev pub IsBoundRunOf : CertificateKind → Bool → ReadTrace → ReadTrace → Sink → Result Bounded RunFault → Type 0

@@ -1,6 +1,6 @@
 -- Circle 2 of docs/trust.md.
 -- A run of `tsp check`: the files that are read, the verdict, the report, and the meaning of its line `yes`.
-use Rattle.tsp_judge.specs.Prelude.{ℕ, List, Bool, true, false, Result, Ok, Err, Option, None, Some, IsTrue, ℤ, [], ReadTrace, IsUnread, Sink, IsUnwritten, HasWritten, HasStopped, Fields, IsFile, StopsAt, report_of, is_yes, CertificateKind, Verdict, is_judged, NoneBeforeRepeatsOn, IsVerdictAsked, TakesAtMost, read_trace_of, most_taken, IsReadOn}
+use Rattle.tsp_judge.specs.Prelude.{ℕ, List, Bool, true, false, Result, Ok, Err, Option, None, Some, IsTrue, ℤ, ReadTrace, IsUnread, Sink, IsUnwritten, HasWritten, HasStopped, Fields, IsFile, StopsAt, report_of, is_yes, CertificateKind, Verdict, is_judged, NoneBeforeRepeatsOn, IsVerdictAsked, TakesAtMost, read_trace_of, most_taken, IsReadOn, IsJudgedWhole}
 use Rattle.std.specs.Prelude.{◌≡◌, ◌⊎◌}
 use Rattle.tsp_io.specs.declared.piece.WriteFault.TheVariants as write_faults
 use Rattle.tsp_read.specs.declared.ReadFault.{ReadFault}
@@ -131,7 +131,7 @@ acceptance (Err fault) = Err fault
 -- ---- the meaning of the line `yes`
 
 -- At `yes` the bytes that were read parse to these files, the whole report was written, and it means that the solution
--- is accepted. Where unknown keywords are a reason, the instance has none.
+-- is accepted. Where lines that aren't judged are a reason, each is judged.
 pub record SaysYes (given : Given) (claimed : Option ℤ) (strict : Bool) (first second : ReadTrace) (sink : Sink) : Type 0 where
   pub instance : Fields
   pub solution : Fields
@@ -140,7 +140,7 @@ pub record SaysYes (given : Given) (claimed : Option ℤ) (strict : Bool) (first
   pub read : AreRead given first second instance solution certificate
   pub written : HasWritten sink report
   pub meaning : IsAccepted certificate claimed instance solution report
-  pub all_judged : strict ≡ true → instance.others ≡ []
+  pub all_judged : strict ≡ true → IsJudgedWhole instance
 
 -- the result of a check, which is whether the solution is accepted, and what its line `yes` means
 abbrev pub IsCheckOf : Given → Option ℤ → Bool → ReadTrace → ReadTrace → Sink → Result Bool RunFault → Type 0

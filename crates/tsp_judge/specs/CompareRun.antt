@@ -125,7 +125,8 @@ ComparesBy true IsReadTrace paths common sink ended =
     ComparesAll IsReadTrace paths common (head_of common.instance common.known_bound) sink ended
 ComparesBy false IsReadTrace paths common sink ended = ComparesNone (head_of common.instance common.known_bound) sink ended
 
--- the same, where the known bound is that of the instance and the certificate, with unknown keywords as a reason or not
+-- the same, where the known bound is that of the instance and the certificate, with lines that aren't judged as a reason or
+-- not
 abbrev pub ComparesOn : Bool → (ℕ → ReadTrace → Type 0) → List (List ℕ) → ComparisonContext → Sink → Result ℕ RunFault → Type 0
 ComparesOn strict IsReadTrace paths common sink ended = IsKnownBoundAsked strict common.certificate common.instance common.known_bound
     × ComparesBy (is_clear common.known_bound) IsReadTrace paths common sink ended

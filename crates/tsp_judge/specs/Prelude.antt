@@ -11,3 +11,4 @@ pub use Rattle.tsp_report.specs.declared.task.CertificateKind.{CertificateKind}
 pub use Rattle.tsp_report.specs.declared.verdict.Verdict.{Verdict}
 pub use Rattle.tsp_verdict.specs.Certified.{IsBoundOf, IsBoundVerdict, NoneAgainstInstance, NoneWithoutMemory, is_bounded, kind_of}
 pub use Rattle.tsp_verdict.specs.SolutionVerdict.{HasKnownBound, IsBoundAsked, IsKnownBound, IsKnownBoundAsked, IsVerdictAsked, IsVerdictWith, NoneBeforeRepeatsOn, NoneOfKnownBoundWithoutMemory, is_judged}
+pub use Rattle.tsp_verdict.specs.Strict.{IsJudgedWhole}

@@ -31,7 +31,7 @@ pub struct Bounded {
 /// Every tour of the instance is at least as long as the bound. Where the instance has no tour,
 /// which a tree of cases may show, there is none. Where the report has the line `no`, the result
 /// has its reason: `TooFewNodes`, `NotSymmetric`, or one against the certificate, in this order;
-/// with `strict` then `NotJudged`, where the instance has an unknown keyword.
+/// with `strict` then `NotJudged` or `NotUsed`, where a line of the instance isn't judged.
 ///
 /// Each file is read whole before the next, and the first file that is none decides. Nothing is
 /// written before the bound exists.

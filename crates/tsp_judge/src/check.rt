@@ -21,8 +21,8 @@ use tsp_verdict::{CertificateKind, Verdict, is_bounded, judge, strict_verdict};
 /// If a certificate is named, no tour of the instance, and no plan of routes, is shorter than the
 /// bound of an accepted solution. If a length is claimed, a solution of another length is rejected
 /// with `LengthClaimed`: after all other reasons against the solution, and before those against the
-/// certificate. With `strict`, an instance with an unknown keyword is rejected with `NotJudged`,
-/// after all reasons.
+/// certificate. With `strict`, an instance with a line that isn't judged is rejected with
+/// `NotJudged` or `NotUsed`, after all reasons.
 ///
 /// Each file is read whole before the next, and the first file that is none decides. Nothing is
 /// written before the verdict exists.

@@ -39,8 +39,8 @@ pub struct Compared {
 /// Only a read that returns an error makes a line with `device`.
 /// The follower tells of each line once, in order.
 ///
-/// With `strict`, an instance with an unknown keyword has the reason `NotJudged`, after all others
-/// that apply to it or to the certificate.
+/// With `strict`, an instance with a line that isn't judged has the reason `NotJudged` or `NotUsed`,
+/// after all others that apply to it or to the certificate.
 ///
 /// # Errors
 ///
@@ -220,8 +220,8 @@ fn status_of_found(found: Result<Verdict, ReadFault>) -> u8
     }
 }
 
-/// Judges an instance and a certificate for all solutions. With `strict`, unknown keywords of the
-/// instance are a reason against all of them.
+/// Judges an instance and a certificate for all solutions. With `strict`, lines of the instance that
+/// aren't judged are a reason against all of them.
 ///
 /// # Errors
 ///

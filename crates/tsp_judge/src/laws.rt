@@ -1,9 +1,9 @@
 //! Laws: what a line of a comparison says of its solution, and that a check of the same files has
 //! the same answer. No code calls them.
 
-ghost use Rattle.tsp_judge.specs.Prelude.{ℕ, List, [], true, false, Option, None, Some, Ok, IsTrue, ℤ, codes, decimal, ReadTrace, Sink, HasWritten, Fields, IsFile, IsProblem, IsKnownBound, IsVerdictWith, is_judged, head_of, solution_line, report_of, IsSized, is_clear, is_yes, CertificateKind, Verdict};
+ghost use Rattle.tsp_judge.specs.Prelude.{ℕ, List, true, false, Option, None, Some, Ok, IsTrue, ℤ, codes, decimal, ReadTrace, Sink, HasWritten, Fields, IsFile, IsProblem, IsKnownBound, IsVerdictWith, is_judged, head_of, solution_line, report_of, IsSized, is_clear, is_yes, CertificateKind, Verdict, IsJudgedWhole};
 ghost use Rattle.std.specs.Fmt.{signed_decimal};
-ghost use Rattle.std.specs.Prelude.{◌≡◌, ◌≢◌, ◌++◌};
+ghost use Rattle.std.specs.Prelude.{◌≡◌, ◌++◌};
 ghost use Rattle.tsp_report.specs.declared.verdict.KnownBound.{KnownBound};
 ghost use Rattle.tsp_report.specs.declared.verdict.KnownBound.TheVariants as known_bounds;
 ghost use Rattle.tsp_report.specs.declared.verdict.Reason.{Reason};
@@ -50,15 +50,16 @@ pub fn lines_of_bounded_routes()
         ≡ signed_decimal length ++ codes " routes " ++ decimal routes ++ codes " optimal" ++ codes " " ++ path ++ codes "\n" }
 {}
 
-/// Where solutions are compared with `strict`, and each is judged, the instance has no unknown
-/// keyword: no line of a comparison accepts a solution of an instance that has one.
+/// Where solutions are compared with `strict`, and each is judged, so is every line of the instance:
+/// no line of a comparison accepts a solution of an instance with an unknown keyword, or with a field
+/// that it doesn't use.
 pub fn strict_comparisons_leave_nothing_unjudged<R: Gives + Drop, S: Solutions<R>>(solutions: &S)
     ensures all_judged { (given : Given) (first : ReadTrace) (sink : Sink) (compared : Compared)
         → IsCompareRun true R.remaining R.gives (S.opens solutions.now) (S.names solutions.now) given first sink (Ok compared)
-        → is_clear compared.common.known_bound ≡ true → compared.common.instance.others ≡ [] }
+        → is_clear compared.common.known_bound ≡ true → IsJudgedWhole compared.common.instance }
     ensures none_judged { (given : Given) (first : ReadTrace) (sink : Sink) (compared : Compared)
         → IsCompareRun true R.remaining R.gives (S.opens solutions.now) (S.names solutions.now) given first sink (Ok compared)
-        → compared.common.instance.others ≢ []
+        → ¬ IsJudgedWhole compared.common.instance
         → HasWritten sink (head_of compared.common.instance compared.common.known_bound) × (compared.status ≡ 1) }
 {}
 

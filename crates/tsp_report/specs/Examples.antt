@@ -1,13 +1,14 @@
 -- Small verdicts and files, whose reports are evaluated.
 use Rattle.std.specs.Prelude.{List, ℕ, [], ◌∷◌, Some, pos, codes, negsuc}
 use Rattle.tsp_format.specs.Steps.{Leaf, SubsetRow}
+use Rattle.tsp_format.specs.declared.keyword.Field.TheVariants.{CapacityKey}
 use Rattle.tsp_format.specs.declared.kinds.Kind.TheVariants.{Tsp, Cvrp, Tour, Potentials, Branches}
 use Rattle.tsp_format.specs.declared.kinds.WeightFormat.TheVariants.{Listed}
 use Rattle.tsp_format.specs.declared.kinds.WeightKind.TheVariants.{Explicit}
 use Rattle.tsp_format.specs.declared.layout.Layout.TheVariants.{FullMatrix}
 use Rattle.tsp_file.specs.Fields.{Fields, blank_fields}
 use Rattle.tsp_report.specs.declared.verdict.Reason.{Reason}
-use Rattle.tsp_report.specs.declared.verdict.Reason.TheVariants.{NotASolution, TooFewNodes, NotSymmetric, Dimension, TourCount, TourLength, DepotCount, DepotDemand, FixedEdgesInRoutes, DepotInRoute, NodeOutOfRange, RepeatedNode, FixedEdgeUnused, Unserved, Overload, LengthClaimed, NotPotentials, PotentialsDimension, PotentialsKind, MultiplierNotFixed, MultiplierRepeated, DualInfeasible, NotBranches, BranchesDimension, BadFamily, BadBranch, BranchTwice, BadLeaf, TooManyLoads, NotJudged}
+use Rattle.tsp_report.specs.declared.verdict.Reason.TheVariants.{NotASolution, TooFewNodes, NotSymmetric, Dimension, TourCount, TourLength, DepotCount, DepotDemand, FixedEdgesInRoutes, DepotInRoute, NodeOutOfRange, RepeatedNode, FixedEdgeUnused, Unserved, Overload, LengthClaimed, NotPotentials, PotentialsDimension, PotentialsKind, MultiplierNotFixed, MultiplierRepeated, DualInfeasible, NotBranches, BranchesDimension, BadFamily, BadBranch, BranchTwice, BadLeaf, TooManyLoads, NotJudged, NotUsed}
 
 -- one line of an unknown keyword
 abbrev pub foo : List (List ℕ × List ℕ)
@@ -73,4 +74,4 @@ each_reason =
     ∷ FixedEdgesInRoutes ∷ DepotInRoute 2 ∷ NodeOutOfRange 3 ∷ RepeatedNode 4 ∷ FixedEdgeUnused 5 ∷ Unserved 6 ∷ Overload 7
     ∷ LengthClaimed (negsuc 4) ∷ NotPotentials ∷ PotentialsDimension ∷ PotentialsKind ∷ MultiplierNotFixed 8
     ∷ MultiplierRepeated 9 ∷ DualInfeasible 10 30 ∷ NotBranches ∷ BranchesDimension ∷ BadFamily 11 ∷ BadBranch 12 ∷ BranchTwice 13
-    ∷ BadLeaf 14 ∷ TooManyLoads ∷ NotJudged ∷ []
+    ∷ BadLeaf 14 ∷ TooManyLoads ∷ NotJudged ∷ NotUsed CapacityKey ∷ []

@@ -6,7 +6,7 @@ use Rattle.std.specs.List.{concat}
 use Rattle.std.specs.Option.{option_map_or}
 use Rattle.std.specs.Ordering.{int_eq}
 use Rattle.std.specs.Prelude.{ℕ, List, ◌∷◌, ◌++◌, map, codes, decimal, cond, ℤ, pos, ◌-ℤ◌, Option, None, Some, [], IfSome, unsigned_abs, ◌≤◌, ◌^◌, Result, Ok, Err}
-use Rattle.tsp_format.specs.Words.{kind_word}
+use Rattle.tsp_format.specs.Words.{field_word, kind_word}
 use Rattle.tsp_format.specs.declared.kinds.Kind.{Kind}
 use Rattle.tsp_file.specs.Fields.{Fields, nodes_of}
 use Rattle.tsp_text.specs.ParsesTo.{read_fault_text}
@@ -17,7 +17,7 @@ use Rattle.tsp_report.specs.declared.verdict.KnownBound.TheVariants as known_bou
 use Rattle.tsp_report.specs.declared.verdict.BoundVerdict.{BoundVerdict}
 use Rattle.tsp_report.specs.declared.verdict.BoundVerdict.TheVariants as bounds
 use Rattle.tsp_report.specs.declared.verdict.Reason.{Reason}
-use Rattle.tsp_report.specs.declared.verdict.Reason.TheVariants.{NotJudged}
+use Rattle.tsp_report.specs.declared.verdict.Reason.TheVariants.{NotJudged, NotUsed}
 use Rattle.tsp_report.specs.declared.verdict.Verdict.{Verdict}
 use Rattle.tsp_report.specs.declared.verdict.Verdict.TheVariants.{Tour, Routes, No}
 
@@ -68,9 +68,10 @@ abbrev pub first_keyword : List (List ℕ × List ℕ) → List ℕ
 first_keyword [] = []
 first_keyword (other ∷ others) = codes " " ++ other.0
 
--- the same where that is the reason
+-- the same where that is the reason; the word of the field that isn't used
 abbrev pub keyword_after_blank : Fields → Reason → List ℕ
 keyword_after_blank instance NotJudged = first_keyword instance.others
+keyword_after_blank instance (NotUsed field) = codes " " ++ field_word field
 keyword_after_blank instance reason = []
 
 -- the line `no` with its reason

@@ -8,7 +8,7 @@ use Rattle.tsp_report.specs.declared.verdict.KnownBound.TheVariants as known_bou
 use Rattle.tsp_report.specs.declared.verdict.BoundVerdict.{BoundVerdict}
 use Rattle.tsp_report.specs.declared.verdict.BoundVerdict.TheVariants as bounds
 use Rattle.tsp_report.specs.declared.verdict.Reason.{Reason}
-use Rattle.tsp_report.specs.declared.verdict.Reason.TheVariants.{NotASolution, TooFewNodes, NotSymmetric, Dimension, TourCount, TourLength, DepotCount, DepotDemand, FixedEdgesInRoutes, DepotInRoute, NodeOutOfRange, RepeatedNode, FixedEdgeUnused, Unserved, Overload, LengthClaimed, NotPotentials, PotentialsDimension, PotentialsKind, MultiplierNotFixed, MultiplierRepeated, DualInfeasible, NotBranches, BranchesDimension, BadFamily, BadBranch, BranchTwice, BadLeaf, TooManyLoads, NotJudged}
+use Rattle.tsp_report.specs.declared.verdict.Reason.TheVariants.{NotASolution, TooFewNodes, NotSymmetric, Dimension, TourCount, TourLength, DepotCount, DepotDemand, FixedEdgesInRoutes, DepotInRoute, NodeOutOfRange, RepeatedNode, FixedEdgeUnused, Unserved, Overload, LengthClaimed, NotPotentials, PotentialsDimension, PotentialsKind, MultiplierNotFixed, MultiplierRepeated, DualInfeasible, NotBranches, BranchesDimension, BadFamily, BadBranch, BranchTwice, BadLeaf, TooManyLoads, NotJudged, NotUsed}
 use Rattle.tsp_report.specs.declared.verdict.Verdict.{Verdict}
 use Rattle.tsp_report.specs.declared.verdict.Verdict.TheVariants.{Tour, Routes, No}
 
@@ -53,8 +53,8 @@ abbrev two_numbers : ℕ → ℕ → Option ℤ × Option ℤ
 two_numbers first second = (Some (pos first), Some (pos second))
 
 -- The order in which reasons are judged: those against the files, the tours, their nodes and what these use or carry;
--- then that against a claimed length; then those against a certificate; then that of an unknown keyword. The
--- definitions of tsp_verdict say which of them apply.
+-- then that against a claimed length; then those against a certificate; then those of an unknown keyword and of a field
+-- that isn't used. The definitions of tsp_verdict say which of them apply.
 abbrev pub row_of_reason : Reason → ReasonRow
 row_of_reason NotASolution = row (codes "NotASolution") 1 Solution no_numbers
 row_of_reason TooFewNodes = row (codes "TooFewNodes") 2 Instance no_numbers
@@ -86,6 +86,7 @@ row_of_reason (BranchTwice index) = row (codes "BranchTwice") 27 Branches (one_n
 row_of_reason (BadLeaf index) = row (codes "BadLeaf") 28 Branches (one_number (pos index))
 row_of_reason TooManyLoads = row (codes "TooManyLoads") 29 Branches no_numbers
 row_of_reason NotJudged = row (codes "NotJudged") 30 Instance no_numbers
+row_of_reason (NotUsed field) = row (codes "NotUsed") 34 Instance no_numbers
 
 -- the file that a reason is about
 abbrev pub role_of : Reason → Role

@@ -164,6 +164,8 @@ pub fn examples_of_whole_reports()
         ≡ codes "type TSP\nnodes 2\nnot judged FOO\nnot judged BAR\nno TourCount\n" }
     ensures unjudged { report_of matrix (verdicts.No reasons.NotJudged)
         ≡ codes "type TSP\nnodes 2\nnot judged FOO\nnot judged BAR\nno NotJudged FOO\n" }
+    ensures unused { report_of shown_routes (verdicts.No (reasons.NotUsed fields.TourPart))
+        ≡ codes "type CVRP\nnodes 2\nno NotUsed TOUR_SECTION\n" }
     ensures routes { report_of shown_routes (verdicts.Routes (pos 20) 3 2 None)
         ≡ codes "type CVRP\nnodes 2\nroutes 3\nleast 2\nlength 20\nyes\n" }
     ensures optimal_routes { report_of shown_routes (verdicts.Routes (pos 20) 3 2 (Some (pos 20)))
@@ -180,6 +182,8 @@ pub fn examples_of_bound_reports()
         ≡ codes "type TSP\nnodes 2\nnot judged FOO\nnot judged BAR\nbound none\nyes\n" }
     ensures no { bound_report_of matrix (bounds.No reasons.TooFewNodes)
         ≡ codes "type TSP\nnodes 2\nnot judged FOO\nnot judged BAR\nno TooFewNodes\n" }
+    ensures unused { bound_report_of shown_routes (bounds.No (reasons.NotUsed fields.ScaleKey))
+        ≡ codes "type CVRP\nnodes 2\nno NotUsed SCALE\n" }
     ensures unjudged { bound_report_of matrix (bounds.No reasons.NotJudged)
         ≡ codes "type TSP\nnodes 2\nnot judged FOO\nnot judged BAR\nno NotJudged FOO\n" }
 {}
@@ -256,9 +260,9 @@ pub fn examples_of_names()
         ∷ codes "LengthClaimed" ∷ codes "NotPotentials" ∷ codes "PotentialsDimension" ∷ codes "PotentialsKind"
         ∷ codes "MultiplierNotFixed" ∷ codes "MultiplierRepeated" ∷ codes "DualInfeasible" ∷ codes "NotBranches"
         ∷ codes "BranchesDimension" ∷ codes "BadComb" ∷ codes "BadBranch" ∷ codes "BranchTwice" ∷ codes "BadLeaf"
-        ∷ codes "TooManyLoads" ∷ codes "NotJudged" ∷ [] }
+        ∷ codes "TooManyLoads" ∷ codes "NotJudged" ∷ codes "NotUsed" ∷ [] }
     ensures ranks { map rank_of each_reason ≡ 1 ∷ 2 ∷ 3 ∷ 4 ∷ 5 ∷ 6 ∷ 7 ∷ 8 ∷ 9 ∷ 10 ∷ 11 ∷ 12 ∷ 13 ∷ 14 ∷ 15 ∷ 16 ∷ 17
-        ∷ 18 ∷ 19 ∷ 20 ∷ 21 ∷ 22 ∷ 23 ∷ 24 ∷ 25 ∷ 26 ∷ 27 ∷ 28 ∷ 29 ∷ 30 ∷ [] }
+        ∷ 18 ∷ 19 ∷ 20 ∷ 21 ∷ 22 ∷ 23 ∷ 24 ∷ 25 ∷ 26 ∷ 27 ∷ 28 ∷ 29 ∷ 30 ∷ 34 ∷ [] }
 {}
 
 /// The numbers of the reasons. A length that is claimed may be below 0.
@@ -266,16 +270,16 @@ pub fn examples_of_numbers()
     ensures first { map (λ reason. (row_of_reason reason).numbers.0) each_reason
         ≡ None ∷ None ∷ Some (pos 1) ∷ None ∷ None ∷ None ∷ None ∷ None ∷ None ∷ Some (pos 2) ∷ Some (pos 3) ∷ Some (pos 4)
         ∷ Some (pos 5) ∷ Some (pos 6) ∷ Some (pos 7) ∷ Some (negsuc 4) ∷ None ∷ None ∷ None ∷ Some (pos 8) ∷ Some (pos 9)
-        ∷ Some (pos 10) ∷ None ∷ None ∷ Some (pos 11) ∷ Some (pos 12) ∷ Some (pos 13) ∷ Some (pos 14) ∷ None ∷ None ∷ [] }
+        ∷ Some (pos 10) ∷ None ∷ None ∷ Some (pos 11) ∷ Some (pos 12) ∷ Some (pos 13) ∷ Some (pos 14) ∷ None ∷ None ∷ None ∷ [] }
     ensures second { map (λ reason. (row_of_reason reason).numbers.1) each_reason
         ≡ None ∷ None ∷ Some (pos 20) ∷ None ∷ None ∷ None ∷ None ∷ None ∷ None ∷ None ∷ None ∷ None ∷ None ∷ None ∷ None
-        ∷ None ∷ None ∷ None ∷ None ∷ None ∷ None ∷ Some (pos 30) ∷ None ∷ None ∷ None ∷ None ∷ None ∷ None ∷ None ∷ None ∷ [] }
+        ∷ None ∷ None ∷ None ∷ None ∷ None ∷ None ∷ Some (pos 30) ∷ None ∷ None ∷ None ∷ None ∷ None ∷ None ∷ None ∷ None ∷ None ∷ [] }
 {}
 
 /// The file that each reason is about.
 pub fn examples_of_roles()
     ensures instance { All (λ reason. role_of reason ≡ Instance) (reasons.TooFewNodes ∷ reasons.NotSymmetric 1 2
-        ∷ reasons.DepotCount ∷ reasons.DepotDemand ∷ reasons.FixedEdgesInRoutes ∷ reasons.NotJudged ∷ []) }
+        ∷ reasons.DepotCount ∷ reasons.DepotDemand ∷ reasons.FixedEdgesInRoutes ∷ reasons.NotJudged ∷ reasons.NotUsed fields.CapacityKey ∷ []) }
     ensures solution { All (λ reason. role_of reason ≡ Solution) (reasons.NotASolution ∷ reasons.Dimension
         ∷ reasons.TourCount ∷ reasons.TourLength ∷ reasons.NodeOutOfRange 1 ∷ reasons.RepeatedNode 1
         ∷ reasons.FixedEdgeUnused 1 ∷ reasons.DepotInRoute 1 ∷ reasons.Unserved 1 ∷ reasons.Overload 1

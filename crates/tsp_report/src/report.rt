@@ -3,13 +3,14 @@
 ghost use Rattle.std.specs.Prelude.{◌≡◌, ◌++◌, ◌≤◌, ◌^◌, ◌-ℤ◌, Some, map, codes, unsigned_abs};
 ghost use Rattle.tsp_io.specs.Streams.{Writes};
 ghost use Rattle.tsp_io.specs.states.Watched.{sink_of, Puts};
+ghost use Rattle.tsp_format.specs.Words.{field_word};
 ghost use Rattle.tsp_report.specs.Report.{report_of, instance_lines, type_line, nodes_line, not_judged, first_keyword, keyword_after_blank, no_line, verdict_lines, accepted_lines, bound_lines, gap_lines, IsGapSized, IsSized, after_blank, reason_text, bound_report_of, bound_found_lines};
 
 use crate::verdict::{BoundVerdict, Reason, Verdict, row_of_reason};
 use itoa::Integer;
 use std::io::Write;
 use tsp_file::File;
-use tsp_format::{Kind, Word};
+use tsp_format::{Field, Kind, Word};
 use tsp_io::{Piece, Watched, WriteFault, hand_over, put, put_next_number, put_number};
 
 /// Writes the report on a solution of an instance, line by line, by the verdict on it: the lines on
@@ -140,7 +141,8 @@ fn put_accepted<W: Write>(piece: &mut Piece, out: &mut Watched<W>, length: i64, 
     put(piece, out, b"yes\n");
 }
 
-/// Adds the line `no` with its reason, which for `NotJudged` names a keyword of the instance.
+/// Adds the line `no` with its reason. After `NotJudged` and `NotUsed` it names a keyword of the
+/// instance.
 pub(crate) fn put_no<W: Write>(
     piece: &mut Piece,
     out: &mut Watched<W>,
@@ -155,13 +157,15 @@ pub(crate) fn put_no<W: Write>(
     put(piece, out, b"\n");
 }
 
-/// Adds a blank and the first unknown keyword of the instance, where that is the reason.
+/// Adds a blank and the first unknown keyword of the instance, where that is the reason, or the word
+/// of the field that isn't used.
 fn put_keyword<W: Write>(piece: &mut Piece, out: &mut Watched<W>, instance: &File, reason: Reason)
     ensures { Puts W.contents out.old piece.old out.new piece.new
         (keyword_after_blank instance.now reason) }
 {
     match reason {
         Reason::NotJudged => put_first(piece, out, instance.others()),
+        Reason::NotUsed { field } => put_field(piece, out, field),
         _ => {}
     }
 }
@@ -175,6 +179,14 @@ fn put_first<W: Write>(piece: &mut Piece, out: &mut Watched<W>, others: &[(Vec<u
         put(piece, out, b" ");
         put(piece, out, keyword);
     }
+}
+
+/// Adds a blank and the word of a field.
+fn put_field<W: Write>(piece: &mut Piece, out: &mut Watched<W>, field: Field)
+    ensures { Puts W.contents out.old piece.old out.new piece.new (codes " " ++ field_word field) }
+{
+    put(piece, out, b" ");
+    put(piece, out, field.word().as_bytes());
 }
 
 /// Adds the line of a bound and the line after it, where there is one.

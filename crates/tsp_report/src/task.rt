@@ -32,8 +32,8 @@ pub enum FileTask<F> {
         layout: Option<Layout>,
     },
     /// Judge the solution of an instance, with this length where one is claimed, and bound every
-    /// tour by the certificate where one is named. With `strict`, unknown keywords of the instance
-    /// are a reason.
+    /// tour by the certificate where one is named. With `strict`, lines of the instance that aren't
+    /// judged are a reason.
     Check {
         instance: F,
         solution: F,
@@ -41,8 +41,8 @@ pub enum FileTask<F> {
         claimed: Option<i64>,
         strict: bool,
     },
-    /// Bound every tour of an instance by a certificate. With `strict`, unknown keywords of the
-    /// instance are a reason.
+    /// Bound every tour of an instance by a certificate. With `strict`, lines of the instance that
+    /// aren't judged are a reason.
     Bound {
         instance: F,
         certificate: (CertificateKind, F),
@@ -60,7 +60,7 @@ pub struct Comparison<'a, F> {
     pub certificate: Option<(CertificateKind, F)>,
     /// The paths of the solutions, one at least, in the order in which they are judged.
     pub solutions: &'a [String],
-    /// Whether unknown keywords of the instance are a reason.
+    /// Whether lines of the instance that aren't judged are a reason.
     pub strict: bool,
 }
 

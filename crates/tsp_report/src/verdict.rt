@@ -3,8 +3,10 @@
 
 ghost use Rattle.std.specs.Prelude.{◌≡◌, None, Some, pos};
 ghost use Rattle.tsp_report.specs.Verdicts.{row_of_reason};
+ghost use Rattle.tsp_report.specs.declared.task.Role.TheVariants.{Potentials};
 
 use crate::task::Role::{self, Branches, Instance, Potentials, Solution};
+use tsp_format::Field;
 
 /// Why a solution is refused, in the order in which reasons are judged.
 ///
@@ -88,6 +90,9 @@ pub enum Reason {
     /// No other reason applies, a line of the instance has an unknown keyword, and the check asked
     /// for this reason. The report names the first such keyword.
     NotJudged,
+    /// No other reason applies, this field is the first one of the instance that its TYPE or its
+    /// weight type doesn't use, and the check asked for this reason.
+    NotUsed { field: Field },
 }
 
 /// The verdict on a solution: accepted with its length, or rejected with the first reason that
@@ -225,27 +230,12 @@ pub fn row_of_reason(reason: Reason) -> ReasonRow
         Reason::FixedEdgeUnused { index } => row("FixedEdgeUnused", 13, Solution, one(index)),
         Reason::Unserved { node } => row("Unserved", 14, Solution, one(node)),
         Reason::Overload { route } => row("Overload", 15, Solution, one(route)),
-        Reason::LengthClaimed { length } => row(
-            "LengthClaimed",
-            16,
-            Solution,
-            (Some(length), None),
-        ),
+        Reason::LengthClaimed { length } => row("LengthClaimed", 16, Solution, signed(length)),
         Reason::NotPotentials => row("NotPotentials", 17, Potentials, NONE),
         Reason::PotentialsDimension => row("PotentialsDimension", 18, Potentials, NONE),
         Reason::PotentialsKind => row("PotentialsKind", 19, Potentials, NONE),
-        Reason::MultiplierNotFixed { index } => row(
-            "MultiplierNotFixed",
-            20,
-            Potentials,
-            one(index),
-        ),
-        Reason::MultiplierRepeated { index } => row(
-            "MultiplierRepeated",
-            21,
-            Potentials,
-            one(index),
-        ),
+        Reason::MultiplierNotFixed { index } => of_potentials("MultiplierNotFixed", 20, one(index)),
+        Reason::MultiplierRepeated { index } => of_potentials("MultiplierRepeated", 21, one(index)),
         Reason::DualInfeasible { i, j } => row("DualInfeasible", 22, Potentials, two(i, j)),
         Reason::NotBranches => row("NotBranches", 23, Branches, NONE),
         Reason::BranchesDimension => row("BranchesDimension", 24, Branches, NONE),
@@ -255,6 +245,7 @@ pub fn row_of_reason(reason: Reason) -> ReasonRow
         Reason::BadLeaf { index } => row("BadLeaf", 28, Branches, one(index)),
         Reason::TooManyLoads => row("TooManyLoads", 29, Branches, NONE),
         Reason::NotJudged => row("NotJudged", 30, Instance, NONE),
+        Reason::NotUsed { .. } => row("NotUsed", 34, Instance, NONE),
     }
 }
 
@@ -268,11 +259,28 @@ fn one(number: u32) -> (Option<i64>, Option<i64>)
     (Some(i64::from(number)), None)
 }
 
+/// The number of a reason that has one, which may be below 0.
+fn signed(number: i64) -> (Option<i64>, Option<i64>)
+    ensures { result ≡ (Some number, None) }
+{
+    (Some(number), None)
+}
+
 /// The numbers of a reason that has two.
 fn two(first: u32, second: u32) -> (Option<i64>, Option<i64>)
     ensures { result ≡ (Some (pos first), Some (pos second)) }
 {
     (Some(i64::from(first)), Some(i64::from(second)))
+}
+
+/// The row of a reason about potentials.
+fn of_potentials(name: &'static str, rank: u32, numbers: (Option<i64>, Option<i64>)) -> ReasonRow
+    ensures name { result.name.now ≡ name.now }
+    ensures rank { result.rank ≡ rank }
+    ensures role { result.role ≡ Potentials }
+    ensures numbers { result.numbers ≡ numbers }
+{
+    row(name, rank, Potentials, numbers)
 }
 
 /// A row of these.

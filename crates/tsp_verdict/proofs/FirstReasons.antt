@@ -1,5 +1,7 @@
 -- There is one first reason, by the TYPE of the instance and of the certificate.
-use Rattle.tsp_verdict.proofs.Prelude.{◌≡◌, ◌∙◌, ℕ, zero, suc, List, [], ◌∷◌, inl, inr, refl, sym, ap, subst, ◌≢◌, ◌⊎◌, Option, Some, None, ◌-◌, ◌<◌, ◌≤◌, true, false, subst₂, arith, cases_order, false≢true, ints, All, AllPairs, ℤ, pos, unwrap_or, IsNode, IsBefore, Kind, fixed_of, scale_in, multipliers_in, cost, Fields, nodes_of, is_potentials_file, pair_of, is_same_pair, AreOnPairs, AreGood, rank_of, CertificateKind, Branches, Potentials, Reason, NotASolution, TooFewNodes, NotSymmetric, Dimension, TourCount, TourLength, DepotCount, DepotDemand, FixedEdgesInRoutes, DepotInRoute, NodeOutOfRange, RepeatedNode, FixedEdgeUnused, Unserved, Overload, LengthClaimed, NotPotentials, PotentialsDimension, PotentialsKind, MultiplierNotFixed, MultiplierRepeated, DualInfeasible, NotBranches, BranchesDimension, BadFamily, BadBranch, BranchTwice, BadLeaf, TooManyLoads, NotJudged, Verdict}
+use Rattle.tsp_verdict.proofs.Prelude.{◌≡◌, ◌∙◌, ℕ, zero, suc, List, [], ◌∷◌, inl, inr, refl, sym, ap, subst, ◌≢◌, ◌⊎◌, Option, Some, None, ◌-◌, ◌<◌, ◌≤◌, true, false, subst₂, arith, cases_order, false≢true, ints, All, AllPairs, ℤ, pos, unwrap_or, IsNode, IsBefore, Kind, fixed_of, scale_in, multipliers_in, cost, Fields, nodes_of, is_potentials_file, pair_of, is_same_pair, AreOnPairs, AreGood, rank_of, CertificateKind, Branches, Potentials, Reason, NotASolution, TooFewNodes, NotSymmetric, Dimension, TourCount, TourLength, DepotCount, DepotDemand, FixedEdgesInRoutes, DepotInRoute, NodeOutOfRange, RepeatedNode, FixedEdgeUnused, Unserved, Overload, LengthClaimed, NotPotentials, PotentialsDimension, PotentialsKind, MultiplierNotFixed, MultiplierRepeated, DualInfeasible, NotBranches, BranchesDimension, BadFamily, BadBranch, BranchTwice, BadLeaf, TooManyLoads, NotJudged, NotUsed, Verdict}
+use Rattle.tsp_format.specs.declared.keyword.Field.{Field}
+use Rattle.tsp_format.specs.declared.keyword.Field.TheVariants.{NameKey}
 use Rattle.tsp_format.specs.declared.kinds.Kind.TheVariants as kinds
 use Rattle.tsp_report.specs.declared.verdict.KnownBound.{KnownBound}
 use Rattle.tsp_verdict.specs.Certificates.{AppliesToBranches, AppliesToQRoutes, AreListed, IsUnlisted, IsPairRepeated, pair_at, has_wanted, BreaksDuals, AppliesToPotentials, IsBoundByDuals}
@@ -7,41 +9,42 @@ use Rattle.tsp_verdict.specs.Certified.{AppliesToTouring, NoneAgainstTouring, Ap
 use Rattle.tsp_verdict.specs.SolutionVerdict.{IsKnownBoundOfToursBy, IsKnownBoundOfRoutesBy, IsKnownBoundBy}
 use Rattle.tsp_verdict.specs.Solutions.{IsFirstPlace, IsFirstReason, NoneBefore, AppliesToTour, AppliesToRoutes}
 
--- what a reason carries: one number, two, or a length
+-- what a reason carries: one number, two, a length, or a field
 abbrev pub Carried : Type 0
-Carried = ℕ × ℕ × ℤ
+Carried = ℕ × ℕ × ℤ × Field
 
 abbrev carried_of : Reason → Carried
-carried_of NotASolution = (0, 0, pos 0)
-carried_of TooFewNodes = (0, 0, pos 0)
-carried_of (NotSymmetric i j) = (i, j, pos 0)
-carried_of Dimension = (0, 0, pos 0)
-carried_of TourCount = (0, 0, pos 0)
-carried_of TourLength = (0, 0, pos 0)
-carried_of DepotCount = (0, 0, pos 0)
-carried_of DepotDemand = (0, 0, pos 0)
-carried_of FixedEdgesInRoutes = (0, 0, pos 0)
-carried_of (DepotInRoute i) = (i, 0, pos 0)
-carried_of (NodeOutOfRange i) = (i, 0, pos 0)
-carried_of (RepeatedNode i) = (i, 0, pos 0)
-carried_of (FixedEdgeUnused i) = (i, 0, pos 0)
-carried_of (Unserved i) = (i, 0, pos 0)
-carried_of (Overload i) = (i, 0, pos 0)
-carried_of (LengthClaimed i) = (0, 0, i)
-carried_of NotPotentials = (0, 0, pos 0)
-carried_of PotentialsDimension = (0, 0, pos 0)
-carried_of PotentialsKind = (0, 0, pos 0)
-carried_of (MultiplierNotFixed i) = (i, 0, pos 0)
-carried_of (MultiplierRepeated i) = (i, 0, pos 0)
-carried_of (DualInfeasible i j) = (i, j, pos 0)
-carried_of NotBranches = (0, 0, pos 0)
-carried_of BranchesDimension = (0, 0, pos 0)
-carried_of (BadFamily i) = (i, 0, pos 0)
-carried_of (BadBranch i) = (i, 0, pos 0)
-carried_of (BranchTwice i) = (i, 0, pos 0)
-carried_of (BadLeaf i) = (i, 0, pos 0)
-carried_of TooManyLoads = (0, 0, pos 0)
-carried_of NotJudged = (0, 0, pos 0)
+carried_of NotASolution = (0, 0, pos 0, NameKey)
+carried_of TooFewNodes = (0, 0, pos 0, NameKey)
+carried_of (NotSymmetric i j) = (i, j, pos 0, NameKey)
+carried_of Dimension = (0, 0, pos 0, NameKey)
+carried_of TourCount = (0, 0, pos 0, NameKey)
+carried_of TourLength = (0, 0, pos 0, NameKey)
+carried_of DepotCount = (0, 0, pos 0, NameKey)
+carried_of DepotDemand = (0, 0, pos 0, NameKey)
+carried_of FixedEdgesInRoutes = (0, 0, pos 0, NameKey)
+carried_of (DepotInRoute i) = (i, 0, pos 0, NameKey)
+carried_of (NodeOutOfRange i) = (i, 0, pos 0, NameKey)
+carried_of (RepeatedNode i) = (i, 0, pos 0, NameKey)
+carried_of (FixedEdgeUnused i) = (i, 0, pos 0, NameKey)
+carried_of (Unserved i) = (i, 0, pos 0, NameKey)
+carried_of (Overload i) = (i, 0, pos 0, NameKey)
+carried_of (LengthClaimed i) = (0, 0, i, NameKey)
+carried_of NotPotentials = (0, 0, pos 0, NameKey)
+carried_of PotentialsDimension = (0, 0, pos 0, NameKey)
+carried_of PotentialsKind = (0, 0, pos 0, NameKey)
+carried_of (MultiplierNotFixed i) = (i, 0, pos 0, NameKey)
+carried_of (MultiplierRepeated i) = (i, 0, pos 0, NameKey)
+carried_of (DualInfeasible i j) = (i, j, pos 0, NameKey)
+carried_of NotBranches = (0, 0, pos 0, NameKey)
+carried_of BranchesDimension = (0, 0, pos 0, NameKey)
+carried_of (BadFamily i) = (i, 0, pos 0, NameKey)
+carried_of (BadBranch i) = (i, 0, pos 0, NameKey)
+carried_of (BranchTwice i) = (i, 0, pos 0, NameKey)
+carried_of (BadLeaf i) = (i, 0, pos 0, NameKey)
+carried_of TooManyLoads = (0, 0, pos 0, NameKey)
+carried_of NotJudged = (0, 0, pos 0, NameKey)
+carried_of (NotUsed field) = (0, 0, pos 0, field)
 
 -- the reasons by their ranks
 abbrev reasons : List (Carried → Reason)
@@ -76,6 +79,11 @@ reasons =
     (λ carried. BadLeaf carried.0) ∷
     (λ carried. TooManyLoads) ∷
     (λ carried. NotJudged) ∷
+    -- no reason has the ranks 31 to 33
+    (λ carried. NotJudged) ∷
+    (λ carried. NotJudged) ∷
+    (λ carried. NotJudged) ∷
+    (λ carried. NotUsed carried.3) ∷
     []
 
 -- the one of a rank, from 1 on
@@ -120,6 +128,7 @@ is_of_rank (BranchTwice i) = refl
 is_of_rank (BadLeaf i) = refl
 is_of_rank TooManyLoads = refl
 is_of_rank NotJudged = refl
+is_of_rank (NotUsed field) = refl
 
 -- of two reasons of one rank that apply the numbers are the same
 abbrev pub IsOneByRank : (Reason → Type 0) → Type 0
@@ -432,6 +441,7 @@ tour_rank inst sol (BadLeaf index) applies = absurd applies
 tour_rank inst sol TooManyLoads applies = absurd applies
 tour_rank inst sol (LengthClaimed length) applies = absurd applies
 tour_rank inst sol NotJudged applies = absurd applies
+tour_rank inst sol (NotUsed field) applies = absurd applies
 tour_rank inst sol reason applies = omega arith
 
 pub routes_rank : (inst sol : Fields) (reason : Reason) → AppliesToRoutes inst sol reason

@@ -9,4 +9,5 @@ pub mod GivenPairs
 pub mod RouteVerdicts
 pub mod TreeReasons
 pub mod OneReason
+pub mod Unjudged
 mod OneVerdict

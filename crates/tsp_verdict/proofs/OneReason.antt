@@ -1,5 +1,5 @@
 -- Two reasons of one rank that apply to the same files have the same numbers.
-use Rattle.tsp_verdict.proofs.Prelude.{◌<◌, ◌⊎◌, inl, inr, arith, ◌≡◌, ◌∙◌, ℕ, ◌+◌, ◌-◌, List, length, refl, sym, ap, ap₂, subst, cases_order, false≢true, ints, recursion_from_All, pos, Option, None, Some, Bool, ℤ, IsFirstAsymmetric, cost, scale_in, families_listed, Fields, nodes_of, IsFirstBroken, is_directed, IsFamily, NumbersAreUnique, IsFirstBadLeaf, IsFirstTwice, Crossings, IsFirstBadSet, IsFirstBadPlanBranch, IsFirstBadPlanLeaf, rank_of, CertificateKind, Potentials, Branches, Reason, TooFewNodes, NotSymmetric, DepotCount, DepotDemand, FixedEdgesInRoutes, LengthClaimed, NotASolution, Dimension, TourCount, TourLength, DepotInRoute, NodeOutOfRange, RepeatedNode, FixedEdgeUnused, Unserved, Overload, NotPotentials, PotentialsDimension, PotentialsKind, MultiplierNotFixed, MultiplierRepeated, DualInfeasible, NotBranches, BranchesDimension, BadFamily, BadBranch, BranchTwice, BadLeaf, TooManyLoads, NotJudged}
+use Rattle.tsp_verdict.proofs.Prelude.{◌<◌, ◌⊎◌, inl, inr, arith, ◌≡◌, ◌∙◌, ℕ, ◌+◌, ◌-◌, List, length, refl, sym, ap, ap₂, subst, cases_order, false≢true, ints, recursion_from_All, pos, Option, None, Some, Bool, ℤ, IsFirstAsymmetric, cost, scale_in, families_listed, Fields, nodes_of, IsFirstBroken, is_directed, IsFamily, NumbersAreUnique, IsFirstBadLeaf, IsFirstTwice, Crossings, IsFirstBadSet, IsFirstBadPlanBranch, IsFirstBadPlanLeaf, rank_of, CertificateKind, Potentials, Branches, Reason, TooFewNodes, NotSymmetric, DepotCount, DepotDemand, FixedEdgesInRoutes, LengthClaimed, NotASolution, Dimension, TourCount, TourLength, DepotInRoute, NodeOutOfRange, RepeatedNode, FixedEdgeUnused, Unserved, Overload, NotPotentials, PotentialsDimension, PotentialsKind, MultiplierNotFixed, MultiplierRepeated, DualInfeasible, NotBranches, BranchesDimension, BadFamily, BadBranch, BranchTwice, BadLeaf, TooManyLoads, NotJudged, NotUsed}
 use Rattle.tsp_format.specs.Steps as listed
 use Rattle.tsp_cases.specs.ListedCases as pairs
 use Rattle.tsp_cases.specs.declared.decision.Decision.{Decision}
@@ -127,6 +127,7 @@ tours_by_rank inst sol (BranchTwice i) carried one other = absurd one
 tours_by_rank inst sol (BadLeaf i) carried one other = absurd one
 tours_by_rank inst sol TooManyLoads carried one other = absurd one
 tours_by_rank inst sol NotJudged carried one other = absurd one
+tours_by_rank inst sol (NotUsed field) carried one other = absurd one
 
 -- ---- against an instance, whatever the solution
 
@@ -163,6 +164,7 @@ instances_by_rank inst (BranchTwice i) carried one other = absurd one
 instances_by_rank inst (BadLeaf i) carried one other = absurd one
 instances_by_rank inst TooManyLoads carried one other = absurd one
 instances_by_rank inst NotJudged carried one other = absurd one
+instances_by_rank inst (NotUsed field) carried one other = absurd one
 
 -- plan: by the reason: one without numbers is equal to itself; of one with numbers files have one first place or pair
 pub routings_by_rank : (inst : Fields) → IsOneByRank (AppliesToRouting inst)
@@ -196,6 +198,7 @@ routings_by_rank inst (BranchTwice i) carried one other = absurd one
 routings_by_rank inst (BadLeaf i) carried one other = absurd one
 routings_by_rank inst TooManyLoads carried one other = absurd one
 routings_by_rank inst NotJudged carried one other = absurd one
+routings_by_rank inst (NotUsed field) carried one other = absurd one
 
 -- ---- against routes
 
@@ -239,6 +242,7 @@ routes_by_rank inst sol (BranchTwice i) carried one other = absurd one
 routes_by_rank inst sol (BadLeaf i) carried one other = absurd one
 routes_by_rank inst sol TooManyLoads carried one other = absurd one
 routes_by_rank inst sol NotJudged carried one other = absurd one
+routes_by_rank inst sol (NotUsed field) carried one other = absurd one
 
 -- ---- against a certificate by potentials
 
@@ -299,6 +303,7 @@ potentials_by_rank inst pot (BranchTwice i) carried one other = absurd one
 potentials_by_rank inst pot (BadLeaf i) carried one other = absurd one
 potentials_by_rank inst pot TooManyLoads carried one other = absurd one
 potentials_by_rank inst pot NotJudged carried one other = absurd one
+potentials_by_rank inst pot (NotUsed field) carried one other = absurd one
 
 -- ---- against a certificate by branching
 
@@ -389,6 +394,7 @@ trees_by_rank unique inst tree (BadLeaf i) carried one other =
     ap BadLeaf (bad_leaf_by_rank unique inst tree i carried.0 one other)
 trees_by_rank unique inst tree TooManyLoads carried one other = absurd one
 trees_by_rank unique inst tree NotJudged carried one other = absurd one
+trees_by_rank unique inst tree (NotUsed field) carried one other = absurd one
 
 -- ---- against a certificate for routes
 
@@ -454,6 +460,7 @@ q_routes_by_rank inst tree (BranchTwice i) carried one other = absurd one
 q_routes_by_rank inst tree (BadLeaf i) carried one other = ap BadLeaf (bad_plan_leaf_by_rank inst tree i carried.0 one other)
 q_routes_by_rank inst tree TooManyLoads carried one other = refl
 q_routes_by_rank inst tree NotJudged carried one other = absurd one
+q_routes_by_rank inst tree (NotUsed field) carried one other = absurd one
 
 -- ---- against either of two: a reason of one rank applies to one of them alone
 
@@ -495,6 +502,7 @@ same_rank (BranchTwice i) carried = refl
 same_rank (BadLeaf i) carried = refl
 same_rank TooManyLoads carried = refl
 same_rank NotJudged carried = refl
+same_rank (NotUsed field) carried = refl
 
 -- reasons against a solution or an instance come before those against a certificate, whatever they carry
 either_by_rank : NumbersAreUnique → (Own : Reason → Type 0) (by : CertificateKind) (inst cert : Fields) → AreOwn Own → IsOneByRank Own

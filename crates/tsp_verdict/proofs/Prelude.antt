@@ -29,7 +29,7 @@ pub use Rattle.tsp_report.specs.Verdicts.{rank_of}
 pub use Rattle.tsp_report.specs.declared.task.CertificateKind.{CertificateKind}
 pub use Rattle.tsp_report.specs.declared.task.CertificateKind.TheVariants.{Branches, Potentials}
 pub use Rattle.tsp_report.specs.declared.verdict.Reason.{Reason}
-pub use Rattle.tsp_report.specs.declared.verdict.Reason.TheVariants.{BadBranch, BadFamily, BadLeaf, BranchTwice, BranchesDimension, DepotCount, DepotDemand, DepotInRoute, Dimension, DualInfeasible, FixedEdgeUnused, FixedEdgesInRoutes, LengthClaimed, MultiplierNotFixed, MultiplierRepeated, NodeOutOfRange, NotASolution, NotBranches, NotJudged, NotPotentials, NotSymmetric, Overload, PotentialsDimension, PotentialsKind, RepeatedNode, TooFewNodes, TooManyLoads, TourCount, TourLength, Unserved}
+pub use Rattle.tsp_report.specs.declared.verdict.Reason.TheVariants.{BadBranch, BadFamily, BadLeaf, BranchTwice, BranchesDimension, DepotCount, DepotDemand, DepotInRoute, Dimension, DualInfeasible, FixedEdgeUnused, FixedEdgesInRoutes, LengthClaimed, MultiplierNotFixed, MultiplierRepeated, NodeOutOfRange, NotASolution, NotBranches, NotJudged, NotPotentials, NotSymmetric, NotUsed, Overload, PotentialsDimension, PotentialsKind, RepeatedNode, TooFewNodes, TooManyLoads, TourCount, TourLength, Unserved}
 pub use Rattle.tsp_report.specs.declared.verdict.Verdict.{Verdict}
 pub use Rattle.tsp_routing.proofs.SmallQRoutes.{of_customers}
 pub use Rattle.tsp_routing.specs.PlanVerdicts.{AreCapacityCuts, AreGoodBranches, AreGoodPlanLeaves, HasTooManyLoads, IsBoundFound, IsFirstBadPlanBranch, IsFirstBadPlanLeaf, IsFirstBadSet, IsPlanVerdict, IsSizedPlanVerdict, PlanBoundsFoundAreUnique, VerdictBoundsPlans, most_entries, routing_with}

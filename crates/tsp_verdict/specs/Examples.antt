@@ -2,6 +2,8 @@
 use Rattle.tsp_verdict.specs.Prelude.{codes, ℕ, List, [], Option, None, Some, ℤ, pos, Kind, Step, Branch, Leaf, Fields, blank_fields, Reason, rank_of}
 use Rattle.std.specs.Prelude.{◌<◌, ◌∷◌}
 use Rattle.tsp_format.specs.declared.kinds.Kind.TheVariants as kinds
+use Rattle.tsp_format.specs.declared.kinds.WeightFormat.{WeightFormat}
+use Rattle.tsp_format.specs.declared.kinds.WeightKind.{WeightKind}
 
 -- an instance with this many nodes and these fixed pairs
 abbrev pub instance_with : Kind → ℕ → List (ℕ × ℕ) → Fields
@@ -10,6 +12,14 @@ instance_with kind n fixed = record blank_fields { kind = Some kind; dimension =
 -- an instance with a line of an unknown keyword
 abbrev pub with_unknown : Kind → ℕ → Fields
 with_unknown kind n = record (instance_with kind n []) { others = (codes "VEHICLES", codes "5") ∷ [] }
+
+-- an instance with a capacity
+abbrev pub with_capacity : Kind → Fields
+with_capacity kind = record (instance_with kind 4 []) { capacity = Some (pos 8) }
+
+-- a TSP with weights of this type, in this format
+abbrev pub weighing : WeightKind → Option WeightFormat → Fields
+weighing weights format = record (instance_with kinds.Tsp 4 []) { weight_kind = Some weights; weight_format = format }
 
 -- a CVRP with these depots, this demand of node 1 and of each of the nodes 2, 3 and 4, and a capacity
 abbrev pub vehicles : List ℕ → ℤ → ℤ → ℤ → Fields

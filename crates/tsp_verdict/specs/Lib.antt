@@ -4,5 +4,6 @@ pub mod states
 pub mod Certificates
 pub mod Solutions
 pub mod Certified
+pub mod Strict
 pub mod SolutionVerdict
 pub mod Examples

@@ -16,7 +16,7 @@ pub use Rattle.tsp_format.specs.declared.kinds.Kind.{Kind}
 pub use Rattle.tsp_report.specs.Verdicts.{is_bound_yes, is_clear, is_yes, rank_of}
 pub use Rattle.tsp_report.specs.declared.task.CertificateKind.{CertificateKind}
 pub use Rattle.tsp_report.specs.declared.verdict.Reason.{Reason}
-pub use Rattle.tsp_report.specs.declared.verdict.Reason.TheVariants.{BadBranch, BadFamily, BadLeaf, BranchTwice, BranchesDimension, DepotCount, DepotDemand, DepotInRoute, Dimension, DualInfeasible, FixedEdgeUnused, FixedEdgesInRoutes, LengthClaimed, MultiplierNotFixed, MultiplierRepeated, NodeOutOfRange, NotASolution, NotBranches, NotJudged, NotPotentials, NotSymmetric, Overload, PotentialsDimension, PotentialsKind, RepeatedNode, TooFewNodes, TooManyLoads, TourCount, TourLength, Unserved}
+pub use Rattle.tsp_report.specs.declared.verdict.Reason.TheVariants.{BadBranch, BadFamily, BadLeaf, BranchTwice, BranchesDimension, DepotCount, DepotDemand, DepotInRoute, Dimension, DualInfeasible, FixedEdgeUnused, FixedEdgesInRoutes, LengthClaimed, MultiplierNotFixed, MultiplierRepeated, NodeOutOfRange, NotASolution, NotBranches, NotJudged, NotPotentials, NotSymmetric, NotUsed, Overload, PotentialsDimension, PotentialsKind, RepeatedNode, TooFewNodes, TooManyLoads, TourCount, TourLength, Unserved}
 pub use Rattle.tsp_report.specs.declared.verdict.Verdict.{Verdict}
 pub use Rattle.tsp_theory.specs.Bounds.{AreGood, AreOnPairs, IsAdjustedBound, IsDualBound, IsFirstBroken, entry, is_same_pair, pair_of}
 pub use Rattle.tsp_theory.specs.Tour.{BoundsTours, Follows, HasNoTour, IsCustomer, IsCycle, IsLeastRoutes, Uses, demand_of, length_of, load_of, plan_length}

@@ -1,7 +1,7 @@
--- The verdict on a solution, with a certificate or without, by what is known of its instance, and with unknown keywords
--- as a reason.
-use Rattle.tsp_verdict.specs.Prelude.{Bool, Option, None, Some, ℤ, IsTrue, true, false, List, [], ℕ, Kind, Fields, is_instance, IsLeastRoutes, capacity_of, CertificateKind, Reason, LengthClaimed, NotJudged, Verdict}
-use Rattle.std.specs.Prelude.{◌≡◌, ◌≢◌, ◌⊎◌, ◌∷◌}
+-- The verdict on a solution, with a certificate or without, by what is known of its instance, and with lines that aren't
+-- judged as a reason.
+use Rattle.tsp_verdict.specs.Prelude.{Bool, Option, None, Some, ℤ, IsTrue, ℕ, Kind, Fields, is_instance, IsLeastRoutes, capacity_of, CertificateKind, Reason, LengthClaimed, Verdict}
+use Rattle.std.specs.Prelude.{◌≡◌, ◌≢◌, ◌⊎◌}
 use Rattle.tsp_format.specs.declared.kinds.Kind.TheVariants as kinds
 use Rattle.tsp_report.specs.declared.verdict.KnownBound.{KnownBound}
 use Rattle.tsp_report.specs.declared.verdict.KnownBound.TheVariants as known_bounds
@@ -9,6 +9,7 @@ use Rattle.tsp_report.specs.declared.verdict.BoundVerdict.{BoundVerdict}
 use Rattle.tsp_report.specs.declared.verdict.BoundVerdict.TheVariants as bounds
 use Rattle.tsp_report.specs.declared.verdict.Verdict.TheVariants.{Tour, Routes, No}
 use Rattle.tsp_verdict.specs.Certified.{is_bounded, AppliesToCertificate, IsCertifiedVerdict, AppliesToTouring, NoneAgainstTouring, AppliesToRouting, NoneAgainstRouting, NoneAgainstInstance, IsBoundVerdict, NoneWithoutMemory}
+use Rattle.tsp_verdict.specs.Strict.{strict_reason, strict_verdict, strict_bound, strict_known_bound}
 use Rattle.tsp_verdict.specs.Solutions.{IsFirstReason, IsRoutesVerdict, NoneOfRoutesBeforeRepeats, IsTourVerdict, NoneOfTourBeforeRepeats, total_of}
 
 -- ---- without a certificate: a tour for TYPE TSP and ATSP, routes for TYPE CVRP
@@ -182,54 +183,22 @@ IsVerdictFrom known_bound claimed instance solution verdict = HasKnownBound verd
     × ((given : Option (CertificateKind × Fields)) → IsKnownBound given instance known_bound
     → IsVerdictWith given claimed instance solution verdict)
 
--- ---- unknown keywords of an instance as a reason
+-- ---- with lines that aren't judged as a reason, or without
 
--- unknown keywords are a reason, and there is a line with one
-abbrev pub refuses : Bool → List (List ℕ × List ℕ) → Bool
-refuses false lines = false
-refuses true [] = false
-refuses true (line ∷ lines) = true
-
--- the same by the instance
-abbrev pub is_unjudged : Bool → Fields → Bool
-is_unjudged strict instance = refuses strict instance.others
-
--- the verdict where that holds: an accepted solution is rejected, and a rejected one keeps its reason
-abbrev pub strict_verdict : Bool → Verdict → Verdict
-strict_verdict false verdict = verdict
-strict_verdict true (Tour length bound) = No NotJudged
-strict_verdict true (Routes length routes least bound) = No NotJudged
-strict_verdict true (No reason) = No reason
-
--- the same of a bound without a solution
-abbrev pub strict_bound : Bool → BoundVerdict → BoundVerdict
-strict_bound false found = found
-strict_bound true (bounds.Bound bound) = bounds.No NotJudged
-strict_bound true bounds.NoSolution = bounds.No NotJudged
-strict_bound true (bounds.No reason) = bounds.No reason
-
--- the same of a known bound
-abbrev pub strict_known_bound : Bool → KnownBound → KnownBound
-strict_known_bound false known_bound = known_bound
-strict_known_bound true (known_bounds.Tours bound) = known_bounds.No NotJudged
-strict_known_bound true known_bounds.NoSolution = known_bounds.No NotJudged
-strict_known_bound true (known_bounds.Routes least bound) = known_bounds.No NotJudged
-strict_known_bound true (known_bounds.No reason) = known_bounds.No reason
-
--- the verdict on a solution, with unknown keywords as a reason or not
+-- the verdict on a solution, with lines that aren't judged as a reason or not
 abbrev pub IsVerdictAsked : Bool → Option (CertificateKind × Fields) → Option ℤ → Fields → Fields → Verdict → Type 0
 IsVerdictAsked strict given claimed instance solution verdict = (plain : Verdict)
-    × IsVerdictWith given claimed instance solution plain × (verdict ≡ strict_verdict (is_unjudged strict instance) plain)
+    × IsVerdictWith given claimed instance solution plain × (verdict ≡ strict_verdict (strict_reason strict instance) plain)
 
 -- the same of a bound without a solution
 abbrev pub IsBoundAsked : Bool → CertificateKind → Fields → Fields → BoundVerdict → Type 0
 IsBoundAsked strict by instance certificate found = (plain : BoundVerdict)
-    × IsBoundVerdict by instance certificate plain × (found ≡ strict_bound (is_unjudged strict instance) plain)
+    × IsBoundVerdict by instance certificate plain × (found ≡ strict_bound (strict_reason strict instance) plain)
 
 -- the same of a known bound
 abbrev pub IsKnownBoundAsked : Bool → Option (CertificateKind × Fields) → Fields → KnownBound → Type 0
 IsKnownBoundAsked strict given instance known_bound = (plain : KnownBound)
-    × IsKnownBound given instance plain × (known_bound ≡ strict_known_bound (is_unjudged strict instance) plain)
+    × IsKnownBound given instance plain × (known_bound ≡ strict_known_bound (strict_reason strict instance) plain)
 
 -- ---- that files have one verdict and one bound, for every TYPE and certificate
 

@@ -3,6 +3,7 @@
 
 ghost use Rattle.tsp_verdict.specs.Prelude.{[], None, Some, pos, negsuc, ℕ, Option, ℤ, Branch, Leaf, cost, scale_in, Fields, nodes_of, IsAdjustedBound, entry, is_directed, depot_of, capacity_of, routing_of, IsPlanOf, decided_number, IsLeastRoutes, plan_length, CertificateKind};
 ghost use Rattle.std.specs.Prelude.{◌≡◌, ◌∷◌, ◌+◌, ◌*◌, ◌<◌, ◌+ℤ◌, ◌*ℤ◌, ◌<ℤ◌};
+ghost use Rattle.tsp_format.specs.declared.keyword.Field.TheVariants as fields;
 ghost use Rattle.tsp_format.specs.declared.kinds.Kind.TheVariants as kinds;
 ghost use Rattle.tsp_cases.specs.CaseTrees.{IsCaseTreeBound};
 ghost use Rattle.tsp_cases.specs.Examples.{with_pair};
@@ -84,6 +85,7 @@ pub fn examples_of_order()
     ensures leaves { IsJudgedBefore (reasons.BranchTwice 9) (reasons.BadLeaf 1) }
     ensures loads { IsJudgedBefore (reasons.BadLeaf 9) reasons.TooManyLoads }
     ensures unjudged { IsJudgedBefore reasons.TooManyLoads reasons.NotJudged }
+    ensures unused { IsJudgedBefore reasons.NotJudged (reasons.NotUsed fields.CapacityKey) }
 {}
 
 /// The order in which reasons against routes are judged: each pair of neighbours.

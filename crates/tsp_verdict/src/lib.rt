@@ -21,6 +21,7 @@ mod one_verdict;
 mod potentials_certificate;
 mod routes;
 mod solution_verdict;
+mod strict;
 mod tour;
 
 pub use api::{judge_routes, judge_tour, judge_tour_bound, judge_tour_branches};
@@ -36,8 +37,9 @@ pub use examples::{
 };
 pub use known_bound::{judge_bound, judge_known_bound, known_bound_alone, known_bound_of};
 pub use one_verdict::files_have_one_verdict;
-pub use solution_verdict::{
-    examples_of_strictness, judge, judge_next, strict_bound, strict_known_bound, strict_verdict,
-    strict_yes_leaves_nothing_unjudged,
+pub use solution_verdict::{judge, judge_next};
+pub use strict::{
+    examples_of_fields_in_use, examples_of_strict_reasons, examples_of_strictness, strict_bound,
+    strict_known_bound, strict_verdict, strict_yes_leaves_nothing_unjudged,
 };
 pub use tsp_report::{BoundVerdict, CertificateKind, KnownBound, Reason, Verdict};

@@ -1,7 +1,7 @@
 -- The goals of `check_opened` in src/handle_calls.rt, which checks the solution of a text by an open instance: what its
 -- calls require and what it ensures.
 use Rattle.tsp_c.proofs.Prelude.{◌≡◌, ◌∙◌, [], ap, refl, subst, Some, Sink, sink_of, Fields, Verdict, is_yes}
-use Rattle.tsp_verdict.specs.SolutionVerdict.{is_unjudged, strict_verdict}
+use Rattle.tsp_verdict.specs.Strict.{strict_reason, strict_verdict}
 use Rattle.tsp_report.specs.Report.{report_of, IsSized}
 use Rattle.tsp_c.specs.NumberCalls.{Reports}
 use Rattle.tsp_c.specs.CallResult.{result_of_verdict}
@@ -9,7 +9,7 @@ use Rattle.tsp_c.proofs.HandleCalls.{fault_as_texts, fault_in_numbers, means_ask
 use Rattle.tsp_c.proofs.handle_calls.check_opened.Goals as goal
 
 -- plan: by how the check ends: a fault (`fault_as_texts`, `fault_in_numbers`), or a verdict (`reported_as_texts`,
--- `reported_in_numbers`), which is the one without unknown keywords as a reason, or isn't accepted (`means_asked`)
+-- `reported_in_numbers`), which is the one without lines that aren't judged as a reason, or isn't accepted (`means_asked`)
 pub returns-in-Err-clause-texts : goal.returns-in-Err-clause-texts
 returns-in-Err-clause-texts c = fault_as_texts c.args.opened.now c.args.claimed c.args.strict c.args.solution.now c.in-Err.error []
     c.ended-answer.result.0 c.ended-answer.result.1 c.in-Err.ensures c.ended-answer.ensures
@@ -44,8 +44,8 @@ returns-in-Ok-clause-texts c =
     let answer = c.reported-written in
     let sink : Sink = sink_of (λ v. Some v.items) c.new-report.result answer.new.out in
     let same : c.instance-instance.result.now ≡ opened.instance = c.instance-instance.ensures in
-    let asked : verdict ≡ strict_verdict (is_unjudged c.args.strict opened.instance) plain =
-    c.strict_verdict-verdict.ensures ∙ ap (λ (f : Fields). strict_verdict (is_unjudged c.args.strict f) plain) same in
+    let asked : verdict ≡ strict_verdict (strict_reason c.args.strict opened.instance) plain =
+    c.strict_verdict-verdict.ensures ∙ ap (λ (f : Fields). strict_verdict (strict_reason c.args.strict f) plain) same in
     reported_as_texts opened c.args.claimed c.args.strict c.args.solution.now verdict sink answer.result answer.new.out.inner.items
     c.ended-answer-in-Ok.result.0 c.ended-answer-in-Ok.result.1 (plain, is, asked)
     (means_asked opened c.args.claimed c.args.strict is.solution plain verdict
@@ -63,8 +63,8 @@ returns-in-Ok-clause-numbers c =
     let answer = c.reported-written in
     let sink : Sink = sink_of (λ v. Some v.items) c.new-report.result answer.new.out in
     let same : c.instance-instance.result.now ≡ opened.instance = c.instance-instance.ensures in
-    let asked : verdict ≡ strict_verdict (is_unjudged c.args.strict opened.instance) plain =
-    c.strict_verdict-verdict.ensures ∙ ap (λ (f : Fields). strict_verdict (is_unjudged c.args.strict f) plain) same in
+    let asked : verdict ≡ strict_verdict (strict_reason c.args.strict opened.instance) plain =
+    c.strict_verdict-verdict.ensures ∙ ap (λ (f : Fields). strict_verdict (strict_reason c.args.strict f) plain) same in
     reported_in_numbers opened c.args.claimed c.args.strict c.args.solution.now verdict sink answer.result answer.new.out.inner.items
     c.ended-answer-in-Ok.result.0 c.ended-answer-in-Ok.result.1 c.of_verdict-call_result.result c.numbers-call_result-in-Ok.result
     (plain, c.in-Ok.ensures, asked)

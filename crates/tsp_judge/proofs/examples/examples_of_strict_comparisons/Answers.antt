@@ -1,5 +1,5 @@
 -- The goals of `examples_of_strict_comparisons` in src/examples.rt: what it ensures.
-use Rattle.tsp_judge.proofs.Prelude.{◌≡◌, List, [], ◌∷◌, ◌++◌, ℕ, None, Some, Ok, Err, Bool, true, false, refl, sym, ap, subst, ◌∙◌, codes, Result, HasWritten, Fields, StopsAt, ReadFault, head_of, is_clear, is_unjudged, strict_known_bound}
+use Rattle.tsp_judge.proofs.Prelude.{◌≡◌, List, [], ◌∷◌, ◌++◌, ℕ, None, Some, Ok, Err, Bool, true, false, refl, sym, ap, subst, ◌∙◌, codes, Result, HasWritten, Fields, StopsAt, ReadFault, head_of, is_clear, strict_reason, strict_known_bound}
 use Rattle.tsp_format.specs.declared.kinds.Kind.TheVariants as kinds
 use Rattle.tsp_read.specs.declared.ReadFault.TheVariants as read_faults
 use Rattle.tsp_report.specs.declared.verdict.KnownBound.{KnownBound}
@@ -18,14 +18,14 @@ unknown lines line rest some none = cc
 pub returns-clause-not_judged : goal.returns-clause-not_judged
 returns-clause-not_judged c = λ common sink status instance_is bound_is compared.
     unknown common.instance.others (codes "VEHICLES", codes "5") [] (ap (λ f. f.others) instance_is)
-    (all_judged common.certificate common.instance common.known_bound compared.0 (ap is_clear bound_is))
+    (all_judged common.certificate common.instance common.known_bound compared.0 (ap is_clear bound_is)).0
 
 head : (instance other : Fields) (known_bound same : KnownBound) → instance ≡ other → known_bound ≡ same → head_of instance known_bound ≡ head_of other same
 head instance other known_bound same e f = ap (λ i. head_of i known_bound) e ∙ ap (λ k. head_of other k) f
 
 pub returns-clause-reason : goal.returns-clause-reason
 returns-clause-reason c = λ common sink instance_is bound_is known written.
-    let refused = ap (λ f. is_unjudged true f) instance_is in
+    let refused = ap (λ f. strict_reason true f) instance_is in
     let same = ap (λ b. strict_known_bound b (known_bounds.Tours None)) refused in
     let text = head common.instance (with_unknown kinds.Atsp 4) common.known_bound (known_bounds.No reasons.NotJudged) instance_is bound_is in (
       (known_bounds.Tours None, known, bound_is ∙ sym same),

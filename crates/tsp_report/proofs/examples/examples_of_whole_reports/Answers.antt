@@ -26,3 +26,7 @@ returns-clause-bounded_routes c = refl
 pub returns-clause-unjudged : goal.returns-clause-unjudged
 unfolding digits
 returns-clause-unjudged c = refl
+
+pub returns-clause-unused : goal.returns-clause-unused
+unfolding digits
+returns-clause-unused c = refl

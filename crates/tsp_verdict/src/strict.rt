@@ -1,0 +1,231 @@
+//! `--strict`: what becomes of a verdict or a bound if the instance has a line that isn't judged, as
+//! one with an unknown keyword, or with a field that the TYPE or the weight type doesn't use.
+
+ghost use Rattle.tsp_verdict.specs.Prelude.{All, Option, map, None, Some, true, false, [], pos, Fields, is_yes, is_bound_yes, is_clear, Verdict};
+ghost use Rattle.std.specs.Prelude.{◌≡◌, ◌∷◌};
+ghost use Rattle.std.specs.List.{find};
+ghost use Rattle.tsp_format.specs.declared.keyword.Field.TheVariants as fields;
+ghost use Rattle.tsp_format.specs.declared.kinds.Kind.TheVariants as kinds;
+ghost use Rattle.tsp_format.specs.declared.kinds.WeightFormat.TheVariants as formats;
+ghost use Rattle.tsp_format.specs.declared.kinds.WeightKind.TheVariants as weight_kinds;
+ghost use Rattle.tsp_format.specs.declared.layout.Layout.TheVariants as layouts;
+ghost use Rattle.tsp_file.specs.Rules.{is_explicit};
+ghost use Rattle.tsp_file.specs.states.Drafts.{fields_of};
+ghost use Rattle.tsp_verdict.specs.Strict.{IsJudgedWhole, leaves_unused, stands_unused, first_unused, reason_by, strict_reason, strict_verdict, strict_bound, strict_known_bound};
+ghost use Rattle.tsp_verdict.specs.Examples.{carrying, instance_with, weighing, with_capacity, with_unknown};
+ghost use Rattle.tsp_report.specs.declared.verdict.KnownBound.{KnownBound};
+ghost use Rattle.tsp_report.specs.declared.verdict.KnownBound.TheVariants as known_bounds;
+ghost use Rattle.tsp_report.specs.declared.verdict.BoundVerdict.{BoundVerdict};
+ghost use Rattle.tsp_report.specs.declared.verdict.BoundVerdict.TheVariants as bounds;
+ghost use Rattle.tsp_report.specs.declared.verdict.Reason.TheVariants as reasons;
+ghost use Rattle.tsp_report.specs.declared.verdict.Verdict.TheVariants as verdicts;
+
+use tsp_cost::Instance;
+use tsp_file::Draft;
+use tsp_format::{Field, Kind, WeightFormat, WeightKind};
+use tsp_report::{BoundVerdict, KnownBound, Reason, Verdict};
+
+/// The verdict on a solution of an instance, which is this one, unless `strict` asks that lines
+/// that aren't judged be a reason: then an accepted solution of an instance with one is rejected,
+/// with `NotJudged` or `NotUsed`. So these two are judged after all other reasons.
+pub fn strict_verdict(strict: bool, instance: &Instance, verdict: Verdict) -> Verdict
+    ensures { result ≡ strict_verdict (strict_reason strict instance.now) verdict }
+{
+    match (strict_reason(strict, instance), verdict) {
+        (Some(reason), Verdict::Tour { .. } | Verdict::Routes { .. }) => Verdict::No(reason),
+        (_, verdict) => verdict,
+    }
+}
+
+/// The bound of an instance, or the first reason against it, in the same way.
+pub fn strict_bound(strict: bool, instance: &Instance, found: BoundVerdict) -> BoundVerdict
+    ensures { result ≡ strict_bound (strict_reason strict instance.now) found }
+{
+    match (strict_reason(strict, instance), found) {
+        (Some(reason), BoundVerdict::Bound(_) | BoundVerdict::NoSolution) => {
+            BoundVerdict::No(reason)
+        }
+        (_, found) => found,
+    }
+}
+
+/// What is known of all solutions of an instance, in the same way.
+pub fn strict_known_bound(strict: bool, instance: &Instance, known_bound: KnownBound) -> KnownBound
+    ensures { result ≡ strict_known_bound (strict_reason strict instance.now) known_bound }
+{
+    match (strict_reason(strict, instance), known_bound) {
+        (
+            Some(reason),
+            KnownBound::Tours { .. } | KnownBound::NoSolution | KnownBound::Routes { .. },
+        ) => KnownBound::No(reason),
+        (_, known_bound) => known_bound,
+    }
+}
+
+// ---- the first line that isn't judged
+
+/// The reason against an instance by a line that isn't judged, if `strict` asks for it: unknown
+/// keywords come first.
+fn strict_reason(strict: bool, instance: &Instance) -> Option<Reason>
+    ensures { result ≡ strict_reason strict instance.now }
+{
+    if !strict {
+        return None;
+    }
+    let field = first_unused(instance.file().fields());
+    reason_by(instance.file().others(), field)
+}
+
+/// The first reason by the lines of unknown keywords and by a field that isn't used, if there are
+/// any.
+fn reason_by(others: &[(Vec<u8>, Vec<u8>)], field: Option<Field>) -> Option<Reason>
+    ensures { result ≡ reason_by (map (λ line. (line.0.items, line.1.items)) others.now) field }
+{
+    match others {
+        [] => match field {
+            Some(field) => Some(Reason::NotUsed { field }),
+            None => None,
+        },
+        [_, ..] => Some(Reason::NotJudged),
+    }
+}
+
+/// The first field, in canonical order, that an instance has but doesn't use.
+fn first_unused(instance: &Draft) -> Option<Field>
+    ensures { result ≡ first_unused (fields_of instance.now) }
+{
+    first_unused_of(instance, &Field::ALL)
+}
+
+/// The first of some fields that an instance has but doesn't use.
+fn first_unused_of(instance: &Draft, fields: &[Field]) -> Option<Field>
+    ensures { result ≡ find (stands_unused (fields_of instance.now)) fields.now }
+{
+    for field in fields {
+        if instance.stands(*field) && leaves_unused(instance, *field) {
+            return Some(*field);
+        }
+    }
+    None
+}
+
+/// Whether an instance doesn't use a field: by its TYPE, its weight type and its weight format.
+fn leaves_unused(instance: &Draft, field: Field) -> bool
+    ensures { result ≡ leaves_unused (fields_of instance.now) field }
+{
+    match field {
+        Field::CapacityKey | Field::DemandPart | Field::DepotPart => {
+            !matches!(instance.kind, Some(Kind::Cvrp))
+        }
+        Field::EdgeWeightPart => !is_explicit(instance),
+        Field::EdgeWeightFormatKey => {
+            !is_explicit(instance)
+                && !matches!(instance.weight_format, Some(WeightFormat::ByFunction))
+        }
+        Field::NameKey
+        | Field::TypeKey
+        | Field::CommentKey
+        | Field::OtherKey
+        | Field::DimensionKey
+        | Field::EdgeWeightTypeKey
+        | Field::NodeCoordTypeKey
+        | Field::DisplayDataTypeKey
+        | Field::NodeCoordPart
+        | Field::DisplayDataPart
+        | Field::FixedEdgesPart => false,
+        _ => true,
+    }
+}
+
+/// Whether the weights of an instance are listed.
+fn is_explicit(instance: &Draft) -> bool
+    ensures { result ≡ is_explicit instance.now.weight_kind }
+{
+    matches!(instance.weight_kind, Some(WeightKind::Explicit))
+}
+
+// ---- laws
+
+/// With `strict`, every line of the instance is judged where a solution is accepted, where the
+/// instance has a bound, and where solutions are judged one by one; and what is said then is said
+/// without `strict` too.
+pub fn strict_yes_leaves_nothing_unjudged()
+    ensures verdict { (instance : Fields) (plain : Verdict)
+        → is_yes (strict_verdict (strict_reason true instance) plain) ≡ true
+        → IsJudgedWhole instance × (strict_verdict (strict_reason true instance) plain ≡ plain) }
+    ensures bound { (instance : Fields) (plain : BoundVerdict)
+        → is_bound_yes (strict_bound (strict_reason true instance) plain) ≡ true
+        → IsJudgedWhole instance × (strict_bound (strict_reason true instance) plain ≡ plain) }
+    ensures known_bound { (instance : Fields) (plain : KnownBound)
+        → is_clear (strict_known_bound (strict_reason true instance) plain) ≡ true
+        → IsJudgedWhole instance × (strict_known_bound (strict_reason true instance) plain ≡ plain) }
+{}
+
+/// Which lines are a reason against which instances, and which of them comes first.
+///
+/// No code calls it: it evaluates the definitions of `specs/Strict.antt` on examples.
+pub fn examples_of_strict_reasons()
+    ensures unknown { strict_reason true (with_unknown kinds.Tsp 4) ≡ Some reasons.NotJudged }
+    ensures unknown_not_asked { strict_reason false (with_unknown kinds.Tsp 4) ≡ None }
+    ensures none { strict_reason true (instance_with kinds.Tsp 4 []) ≡ None }
+    ensures tour { strict_reason true (with_capacity kinds.Tsp) ≡ Some (reasons.NotUsed fields.CapacityKey) }
+    ensures arcs { strict_reason true (with_capacity kinds.Atsp) ≡ Some (reasons.NotUsed fields.CapacityKey) }
+    ensures routes { strict_reason true (with_capacity kinds.Cvrp) ≡ None }
+    ensures plans { strict_reason true (carrying (pos 8)) ≡ None }
+    ensures not_asked { strict_reason false (with_capacity kinds.Tsp) ≡ None }
+    ensures no_coordinates_asked { strict_reason true (weighing weight_kinds.Explicit (Some (formats.Listed layouts.FullMatrix))) ≡ None }
+    ensures no_matrix { strict_reason true (weighing weight_kinds.Euc2d (Some formats.ByFunction)) ≡ None }
+    ensures layout { strict_reason true (weighing weight_kinds.Euc2d (Some (formats.Listed layouts.FullMatrix)))
+        ≡ Some (reasons.NotUsed fields.EdgeWeightFormatKey) }
+    ensures first { strict_reason true (record (with_capacity kinds.Tsp) { scale = Some (pos 2) })
+        ≡ Some (reasons.NotUsed fields.CapacityKey) }
+    ensures unknown_first { strict_reason true (record (with_unknown kinds.Tsp 4) { capacity = Some (pos 8) })
+        ≡ Some reasons.NotJudged }
+{}
+
+/// Which fields an instance uses, by its TYPE, its weight type and its weight format.
+///
+/// No code calls it: it evaluates the definitions of `specs/Strict.antt` on examples.
+pub fn examples_of_fields_in_use()
+    ensures every_instance { All (λ field. leaves_unused (instance_with kinds.Tsp 4 []) field ≡ false) (fields.NameKey ∷ fields.TypeKey
+        ∷ fields.CommentKey ∷ fields.OtherKey ∷ fields.DimensionKey ∷ fields.EdgeWeightTypeKey ∷ fields.NodeCoordTypeKey
+        ∷ fields.DisplayDataTypeKey ∷ fields.NodeCoordPart ∷ fields.DisplayDataPart ∷ fields.FixedEdgesPart ∷ []) }
+    ensures no_instance { All (λ field. leaves_unused (instance_with kinds.Cvrp 4 []) field ≡ true) (fields.ScaleKey ∷ fields.LoadUnitKey
+        ∷ fields.TourPart ∷ fields.NodePotentialPart ∷ fields.RowPotentialPart ∷ fields.ColumnPotentialPart
+        ∷ fields.FixedEdgePotentialPart ∷ fields.FamilyPart ∷ fields.BranchPart ∷ []) }
+    ensures routes { All (λ field. leaves_unused (instance_with kinds.Cvrp 4 []) field ≡ false) (fields.CapacityKey ∷ fields.DemandPart
+        ∷ fields.DepotPart ∷ []) }
+    ensures tours { All (λ field. leaves_unused (instance_with kinds.Tsp 4 []) field ≡ true) (fields.CapacityKey ∷ fields.DemandPart
+        ∷ fields.DepotPart ∷ []) }
+    ensures arcs { All (λ field. leaves_unused (instance_with kinds.Atsp 4 []) field ≡ true) (fields.CapacityKey ∷ fields.DemandPart
+        ∷ fields.DepotPart ∷ []) }
+    ensures matrix { All (λ field. leaves_unused (weighing weight_kinds.Explicit (Some (formats.Listed layouts.UpperRow))) field ≡ false)
+        (fields.EdgeWeightFormatKey ∷ fields.EdgeWeightPart ∷ fields.NodeCoordPart ∷ []) }
+    ensures distances { All (λ field. leaves_unused (weighing weight_kinds.Ceil2d (Some (formats.Listed layouts.UpperRow))) field ≡ true)
+        (fields.EdgeWeightFormatKey ∷ fields.EdgeWeightPart ∷ []) }
+    ensures by_function { leaves_unused (weighing weight_kinds.Ceil2d (Some formats.ByFunction)) fields.EdgeWeightFormatKey ≡ false }
+{}
+
+/// What becomes of verdicts, bounds and known bounds where there is such a reason. A reason that was
+/// found before stays.
+///
+/// No code calls it: it evaluates the definitions of `specs/Strict.antt` on examples.
+pub fn examples_of_strictness()
+    ensures tour { strict_verdict (Some reasons.NotJudged) (verdicts.Tour (pos 14) (Some (pos 14))) ≡ verdicts.No reasons.NotJudged }
+    ensures routes { strict_verdict (Some (reasons.NotUsed fields.ScaleKey)) (verdicts.Routes (pos 14) 3 2 None)
+        ≡ verdicts.No (reasons.NotUsed fields.ScaleKey) }
+    ensures other { strict_verdict (Some reasons.NotJudged) (verdicts.No reasons.TourCount) ≡ verdicts.No reasons.TourCount }
+    ensures kept { strict_verdict None (verdicts.Tour (pos 14) None) ≡ verdicts.Tour (pos 14) None }
+    ensures bound { strict_bound (Some reasons.NotJudged) (bounds.Bound (pos 14)) ≡ bounds.No reasons.NotJudged }
+    ensures no_solution { strict_bound (Some (reasons.NotUsed fields.ScaleKey)) bounds.NoSolution
+        ≡ bounds.No (reasons.NotUsed fields.ScaleKey) }
+    ensures other_of_bounds { strict_bound (Some reasons.NotJudged) (bounds.No reasons.NotPotentials) ≡ bounds.No reasons.NotPotentials }
+    ensures kept_bound { strict_bound None bounds.NoSolution ≡ bounds.NoSolution }
+    ensures tours { strict_known_bound (Some reasons.NotJudged) (known_bounds.Tours None) ≡ known_bounds.No reasons.NotJudged }
+    ensures no_solution_of_all { strict_known_bound (Some reasons.NotJudged) known_bounds.NoSolution ≡ known_bounds.No reasons.NotJudged }
+    ensures plans { strict_known_bound (Some (reasons.NotUsed fields.ScaleKey)) (known_bounds.Routes 2 None)
+        ≡ known_bounds.No (reasons.NotUsed fields.ScaleKey) }
+    ensures other_of_all { strict_known_bound (Some reasons.NotJudged) (known_bounds.No reasons.DepotCount)
+        ≡ known_bounds.No reasons.DepotCount }
+    ensures kept_known_bound { strict_known_bound None (known_bounds.Tours None) ≡ known_bounds.Tours None }
+{}
