@@ -33,7 +33,7 @@ pub enum NoVerdict {
 ///
 /// # Errors
 ///
-/// `Fault` where a text is no file, `WrongKind` where the first is of another TYPE than TSP or
+/// `Fault` if a text is no file, `WrongKind` if the first is of another TYPE than TSP or
 /// ATSP, `OutOfMemory`.
 pub fn verdict_on(alloc: Global, instance: &[u8], solution: &[u8]) -> Result<Verdict, NoVerdict>
     ensures { IfOk result (IsVerdictOnTexts instance.now solution.now) }

@@ -1,4 +1,5 @@
-//! How a call that fills in numbers ends, or one on a handle: by a status.
+//! How a call that writes no text ends, such as one that fills in numbers or opens a handle: by a
+//! status (`CallEnd`). Calls that write a text end as in `ended.rt`.
 
 ghost use Rattle.tsp_c.specs.Prelude.{Ok, status_of, status_of_fault, OutOfMemory};
 ghost use Rattle.std.specs.Prelude.{◌≡◌};
@@ -71,7 +72,7 @@ impl CallEnd {
         CallEnd { number: TOO_SMALL }
     }
 
-    /// Of a call with a verdict: 0 where it accepts, else 1.
+    /// The status of a call with a verdict: 0 if it accepts, else 1.
     pub(crate) fn of_answer(accepts: bool) -> CallEnd
         ensures { result ≡ status_of (Ok accepts) }
     {
@@ -80,7 +81,7 @@ impl CallEnd {
         }
     }
 
-    /// Of a fault: 2 of a text, 3 out of memory.
+    /// The status of a fault: 2 for one of a text, 3 for out of memory.
     pub(crate) fn of_fault(error: RunError) -> CallEnd
         ensures { result ≡ status_of_fault error }
     {

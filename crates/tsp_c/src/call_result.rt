@@ -35,28 +35,33 @@ pub struct CallResult {
     pub kind: u32,
     /// How many nodes it has.
     pub nodes: u32,
-    /// 1 a tour, 2 routes, 3 rejected, 4 a bound, 5 that there is no tour.
+    /// 1 a tour, 2 routes, 3 rejected, 4 a bound, 5 that there is no solution.
     pub verdict: u32,
     /// The number of the reason.
     pub reason: u32,
-    /// The numbers of the reason.
+    /// The first number of the reason.
     pub first: i64,
+    /// The second number of the reason.
     pub second: i64,
     /// The length of the tour, or of all routes.
     pub length: i64,
-    /// Where `has_bound` is 1, the bound is `bound_high` times 2^64, and `bound_low`.
+    /// If `has_bound` is 1, the bound is `bound_high` times 2^64 plus `bound_low`.
     pub bound_high: i64,
+    /// The low 64 bits of the bound.
     pub bound_low: u64,
     /// The least number of routes.
     pub least: u64,
+    /// 1 if there is a bound, else 0.
     pub has_bound: u32,
     /// How many routes there are.
     pub routes: u32,
     /// The number of the fault.
     pub fault: u32,
-    /// Where it is.
+    /// The file that has the fault, from 1 on, in the order in which files are read.
     pub file: u32,
+    /// Its line, from 1 on; 0 if the fault isn't in one line.
     pub line: u32,
+    /// Its word in that line, from 1 on; 0 if the fault is of the whole line.
     pub word: u32,
     /// The number of what is wrong with a number.
     pub number: u32,
@@ -277,7 +282,7 @@ impl CallResult {
     }
 }
 
-/// The number of the field that isn't used, where that is the reason; else 0.
+/// The number of the field that isn't used, if that is the reason; else 0.
 fn field_of_reason(reason: Reason) -> u32
     ensures { result ≡ field_of_reason reason }
 {
@@ -322,7 +327,7 @@ fn line_fault_number(fault: LineFault) -> u32
     }
 }
 
-/// The number of a fault of a text; 0 where its reader has failed.
+/// The number of a fault of a text; 0 if its reader has failed.
 fn read_fault_number(fault: ReadFault) -> u32
     ensures { result ≡ read_fault_number fault }
 {
@@ -337,7 +342,7 @@ fn read_fault_number(fault: ReadFault) -> u32
     }
 }
 
-/// The number of what is wrong with a number, where that is the fault of a line; else 0.
+/// The number of what is wrong with a number, if that is the fault of a line; else 0.
 fn number_of_fault(fault: LineFault) -> u32
     ensures { result ≡ number_of_fault fault }
 {

@@ -18,7 +18,7 @@ pub(crate) struct Counts {
     pub(crate) z: i64,
 }
 
-/// The point with these coordinates, or `None` where one is too large.
+/// The point with these coordinates, or `None` if one is too large.
 fn point_of(counts: Counts) -> Option<Point>
     ensures { let p : Point = record { x = counts.x; y = counts.y; z = counts.z } in SomeIff result (IsInSpace p) p }
 {
@@ -45,7 +45,7 @@ pub(crate) fn distance_of(number: u32, from: Counts, to: Counts) -> i64
     }
 }
 
-/// The distance by a number, where there is one.
+/// The distance by a number, if there is one.
 #[tactic(auto, unfolding(tsp_file::specs::Cost::distance))]
 fn between(number: u32, a: Point, b: Point) -> Option<i64>
     ensures { result ≡ option_map (λ kind. distance kind a b) (nth number distance_kinds) }

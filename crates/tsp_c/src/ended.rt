@@ -1,4 +1,5 @@
-//! How a call on texts ends: by a status and a text.
+//! How a call that writes a text ends: by a status and the text (`Answer`). Calls that only fill in
+//! numbers end by a status alone (`call_end.rt`).
 
 ghost use Rattle.std.specs.Prelude.{◌≡◌, ◌≢◌, IsErr, MatchResult, [], IfOk};
 ghost use Rattle.tsp_io.specs.states.Watched.{watched};
@@ -49,7 +50,7 @@ impl Answer {
         call_result.for_status(self.status)
     }
 
-    /// Puts the text into a caller's buffer where it fits. The status of the call.
+    /// Puts the text into a caller's buffer if it fits. The status of the call.
     pub(crate) fn place(&self, out: &mut [u8], written: &mut usize) -> u32
         ensures { IsPlaced self.now.1 self.now.0 out.old out.new written.new result }
     {
@@ -58,7 +59,7 @@ impl Answer {
 }
 
 /// The status with which a run on texts ends, and the text that goes to the caller: what the run
-/// wrote, or the line of its fault. Where there is no memory for a line, the text is empty.
+/// wrote, or the line of its fault. If there is no memory for a line, the text is empty.
 pub(crate) fn ended(answer: Result<bool, RunError>, report: Watched<Vec<u8>>) -> Answer
     ensures { EndsOnTexts answer (watched report).items result.0 result.1 }
 {
@@ -98,7 +99,7 @@ fn printed(answer: Result<bool, RunError>, report: Watched<Vec<u8>>) -> Result<A
     }
 }
 
-/// The fault in memory, where no device is: a read or a write that fails is out of memory.
+/// The fault in memory, if no device is: a read or a write that fails is out of memory.
 fn without_devices(fault: RunFault) -> RunFault
     ensures { result ≡ without_devices fault }
 {
@@ -115,9 +116,9 @@ fn without_devices(fault: RunFault) -> RunFault
     }
 }
 
-// ---- puts a text into a caller's buffer where it fits
+// ---- puts a text into a caller's buffer if it fits
 
-/// Puts a text at the start of a buffer where it fits, and writes its length. Returns the text's
+/// Puts a text at the start of a buffer if it fits, and writes its length. Returns the text's
 /// status, or that the text doesn't fit.
 pub(crate) fn place(text: &[u8], status: u8, out: &mut [u8], written: &mut usize) -> u32
     ensures { IsPlaced text.now status out.old out.new written.new result }
@@ -132,7 +133,7 @@ pub(crate) fn place(text: &[u8], status: u8, out: &mut [u8], written: &mut usize
 
 // ---- the line of a fault, as the program writes it on standard error, in memory
 
-/// There was no memory for a line. Only `line_of` makes one, where a write to memory failed.
+/// There was no memory for a line. Only `line_of` makes one, if a write to memory failed.
 #[derive(Drop)]
 pub(crate) struct NoLine {
     text: Vec<u8>,

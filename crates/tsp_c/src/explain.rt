@@ -62,7 +62,7 @@ pub(crate) fn explained(alloc: Global, numbers: Numbers, texts: Texts<'_>) -> (u
     }
 }
 
-/// The task of a call, or `None` where a number is refused.
+/// The task of a call, or `None` if a number is refused.
 fn task_of<'a>(numbers: Numbers, texts: Texts<'a>) -> Option<FileTask<Named<'a>>>
     ensures { IsSome result ↔ IsExplained numbers.call numbers.number numbers.has_claim }
 {
@@ -114,7 +114,7 @@ fn explain(alloc: Global, text: &mut Vec<u8>, task: FileTask<Named<'_>>) -> Resu
     }
 }
 
-/// The text that has a fault, where one has it.
+/// The text that has a fault, if one has it.
 ///
 /// # Errors
 ///
@@ -173,7 +173,7 @@ fn cut(names: &[u8]) -> (&[u8], &[u8]) {
     }
 }
 
-/// The name that bytes are, or another one where they are none.
+/// The name that bytes are, or another one if they are none.
 fn name_or<'a>(name: &'a [u8], other: &'a str) -> &'a str {
     match str::from_utf8(name) {
         Ok(name) if !name.is_empty() => name,

@@ -1,4 +1,5 @@
-//! The handle that a caller in C holds: closed, or open on an instance.
+//! The handle that a caller in C holds: closed, or open on an instance. `struct tsp_instance` in
+//! `bindings/c/tsp.h` has the same layout.
 
 ghost use Rattle.tsp_c.specs.Prelude.{option_map, None, Some, is_some, Option, IfOk, Open};
 ghost use Rattle.std.specs.Prelude.{◌≡◌};
@@ -155,7 +156,7 @@ impl<T, A: Allocator> BoxParts<T, A> {
 
 // ---- puts a value into a box, or returns `NoBox`, which no other call makes
 
-/// Memory was refused for a box. Only [`in_box`] makes one, where std refused it.
+/// Memory was refused for a box. Only [`in_box`] makes one, if std refused it.
 #[derive(Drop)]
 pub(crate) struct NoBox {
     error: AllocError,

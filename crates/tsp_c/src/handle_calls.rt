@@ -1,4 +1,6 @@
-//! The calls on a handle: open, bind, check, costs, lengths, points, close.
+//! The calls on a handle: open, bind, check, count, costs, points, lengths, close. Points and
+//! lengths are filled in here for texts too (`tsp_points`, `tsp_lengths`); costs in
+//! `pair_costs.rt`.
 
 ghost use Rattle.tsp_c.specs.Prelude.{None, Some, MatchResult, length, option_map, slice_index_or, IsTrue, slice_index, origin, nodes_of, report_of, IsSized, is_yes, Open, IsOpened, IsUnopened, status_of_fault, OutOfMemory};
 ghost use Rattle.std.specs.List.{All, count_by, position};
@@ -69,7 +71,7 @@ fn tell_no_box(no_box: NoBox, call_result: &mut CallResult) -> CallEnd
     CallEnd::without_box(no_box)
 }
 
-/// The instance that a text is, in a box, where there was memory for it.
+/// The instance that a text is, in a box, if there was memory for it.
 ///
 /// # Errors
 ///
@@ -138,7 +140,7 @@ fn bind_opened(
 }
 
 /// The check of the solution that a text is, of the instance of a handle, with the certificate that
-/// is bound, where one is, and with what `has_claim` asks; with its status, and in numbers.
+/// is bound, if one is, and with what `has_claim` asks; with its status, and in numbers.
 pub(crate) fn check_held(
     alloc: Global,
     handle: &mut Handle,
@@ -430,7 +432,7 @@ fn are_lists(count: u32, nodes: &[u32]) -> bool
     nodes.len() <= MOST_NUMBERS && is_ended(nodes) && are_up_to(count, nodes)
 }
 
-/// Whether the last number is a 0, where there is one.
+/// Whether the last number is a 0, if there is one.
 fn is_ended(nodes: &[u32]) -> bool
     ensures { IsTrue result ↔ (slice_index nodes.now (length nodes.now - 1) ≡ 0) }
 {

@@ -5,7 +5,7 @@
 //! read again. No call keeps a pointer, or calls back. A call that writes a text returns the status
 //! with which the program exits: 0 for the line `yes` or a call that succeeded, 1 for the line
 //! `no`, 2 for a text with a fault, 3 out of memory, 4 for a number that is refused. The text is at
-//! the start of the buffer `out`, and `written` is its length. Where it doesn't fit, the status is
+//! the start of the buffer `out`, and `written` is its length. If it doesn't fit, the status is
 //! 6, the buffer is as it was, and `written` is the length that is needed.
 #![tactic(auto)]
 
@@ -45,9 +45,9 @@ use std::alloc::Global;
 /// The version, as 10,000 times the first number, 100 times the second, and the third.
 const VERSION_NUMBER: u32 = 10100;
 
-/// Judges a solution of an instance: by 0 alone, by 1 with potentials, by 2 with branches. Where
-/// `has_claim` is 1, its length has to be the claimed one; where it is 2, an instance with a line
-/// that isn't judged is rejected, after all other reasons; where it is 3, both.
+/// Judges a solution of an instance: by 0 alone, by 1 with potentials, by 2 with branches. If
+/// `has_claim` is 1, its length has to be the claimed one; if it is 2, an instance with a line
+/// that isn't judged is rejected, after all other reasons; if it is 3, both.
 #[unsafe(no_mangle)]
 pub extern "C" fn tsp_check(
     alloc: Global,
@@ -282,7 +282,7 @@ pub extern "C" fn tsp_bind(
 }
 
 /// Judges a solution of the instance of a handle, as `tsp_check` does, with the certificate that is
-/// bound to it, where one is.
+/// bound to it, if one is.
 #[unsafe(no_mangle)]
 pub extern "C" fn tsp_instance_check(
     alloc: Global,
@@ -375,7 +375,7 @@ pub extern "C" fn tsp_instance_lengths(
     lengths_held(alloc, handle, nodes, out).number()
 }
 
-/// The distance of two points, whose coordinates are counts of 10^-9; -1 where there is none. The
+/// The distance of two points, whose coordinates are counts of 10^-9; -1 if there is none. The
 /// kinds are 1 EUC_2D, 2 CEIL_2D, 3 MAN_2D, 4 MAX_2D, 5 ATT, 6 EUC_3D, 7 MAN_3D, 8 MAX_3D.
 #[unsafe(no_mangle)]
 pub extern "C" fn tsp_distance(

@@ -1,4 +1,5 @@
-//! Costs of pairs of nodes, and rows of the matrix.
+//! Fills in costs of pairs of nodes and rows of the matrix, of a text or of an open instance:
+//! `tsp_weights`, `tsp_matrix`, and the same on a handle.
 
 ghost use Rattle.std.specs.List.{All};
 ghost use Rattle.std.specs.Prelude.{◌+◌, ◌≤◌, ◌*◌, ◌↔◌, IsTrue, length, ◌≡◌, ◌<◌, ℕ, ℤ, List};

@@ -1,5 +1,5 @@
-//! Show, convert, check and bound on texts in memory, with the certificate or the layout that a number
-//! picks, and the numbers that are refused.
+//! Show, convert, check and bound, on texts in memory. A number picks the certificate or the
+//! layout, as the enums of `bindings/c/tsp.h` say; another number is refused.
 
 ghost use Rattle.std.specs.Prelude.{◌≡◌, ◌≤◌, MatchOption, None, Some};
 ghost use Rattle.tsp_io.specs.states.Watched.{watched};
@@ -17,8 +17,8 @@ use tsp_judge::{
     show_file, verdicts_mean_reports,
 };
 
-/// What a check asks for beside: nothing where `has_claim` is 0; a length where that is 1; that
-/// lines of the instance that aren't judged be a reason where it is 2; both where it is 3.
+/// What a check asks for beside: nothing if `has_claim` is 0; a length if that is 1; that
+/// lines of the instance that aren't judged be a reason if it is 2; both if it is 3.
 #[derive(Clone, Copy)]
 pub(crate) struct Claim {
     pub(crate) claimed: i64,
@@ -82,7 +82,7 @@ pub(crate) fn bound_asked(number: u32) -> Option<(CertificateKind, bool)>
     }
 }
 
-/// The certificate with a number, or `None` where it has none.
+/// The certificate with a number, or `None` if it has none.
 pub(crate) fn certificate_of(number: u32) -> Option<CertificateKind>
     ensures { result ≡ nth number certificates }
 {
@@ -93,7 +93,7 @@ pub(crate) fn certificate_of(number: u32) -> Option<CertificateKind>
     }
 }
 
-/// The length that is claimed, where one is.
+/// The length that is claimed, if one is.
 pub(crate) fn claim_of(has_claim: u32, claimed: i64) -> Option<i64>
     ensures { result ≡ claim_of has_claim claimed }
 {
@@ -162,9 +162,9 @@ fn converted(alloc: Global, file: &[u8], to: Option<Layout>) -> Answer
     ended(answer, report)
 }
 
-/// The check of two texts, with the certificate that a third one is, where one is asked for, and
-/// with the length that is claimed, where one is, and with lines that aren't judged as a reason,
-/// where that is asked; with its status, and in numbers.
+/// The check of two texts, with the certificate that a third one is, if one is asked for, and
+/// with the length that is claimed, if one is, and with lines that aren't judged as a reason,
+/// if that is asked; with its status, and in numbers.
 fn checked(
     alloc: Global,
     instance: &[u8],
@@ -211,7 +211,7 @@ fn named_reader(
 }
 
 /// The bound of the tours of the instance that a text is, by the certificate that another one is,
-/// and with lines that aren't judged as a reason, where that is asked; with its status, and in
+/// and with lines that aren't judged as a reason, if that is asked; with its status, and in
 /// numbers.
 fn bounded(
     alloc: Global,
@@ -233,7 +233,7 @@ fn bounded(
     (answer, call_result)
 }
 
-/// `true` where a file was shown or converted, since such a run never has the line `no`.
+/// `true` if a file was shown or converted, since such a run never has the line `no`.
 fn done(ended: Result<(), RunError>) -> Result<bool, RunError>
     ensures { result ≡ done ended }
 {
@@ -241,7 +241,7 @@ fn done(ended: Result<(), RunError>) -> Result<bool, RunError>
     Ok(true)
 }
 
-/// Whether the solution is accepted, where there is a verdict.
+/// Whether the solution is accepted, if there is a verdict.
 fn acceptance(ended: Result<Judged, RunError>) -> Result<bool, RunError>
     ensures { result ≡ acceptance ended }
 {
@@ -251,7 +251,7 @@ fn acceptance(ended: Result<Judged, RunError>) -> Result<bool, RunError>
     Ok(answer)
 }
 
-/// Whether there is no reason against the files, where they were read.
+/// Whether there is no reason against the files, if they were read.
 fn bound_answer(ended: Result<Bounded, RunError>) -> Result<bool, RunError>
     ensures { result ≡ bound_answer ended }
 {

@@ -12,7 +12,7 @@ use tsp_judge::{RunError, read_text};
 ///
 /// # Errors
 ///
-/// `File` with the number 1 where the text parses to no file; `WrongKind` where the file is no
+/// `File` with the number 1 if the text parses to no file; `WrongKind` if the file is no
 /// instance.
 pub(crate) fn instance_of(alloc: Global, text: &[u8]) -> Result<Instance, RunError>
     ensures { FindsInstance text.now result }

@@ -88,7 +88,7 @@ pub fn status_of_run_end(run_end: &RunEnd) -> u8
     }
 }
 
-/// What goes to standard error, or `None` where nothing goes there.
+/// What goes to standard error, or `None` if nothing goes there.
 pub fn line_of(run_end: &RunEnd) -> Option<ErrorLine<'_>>
     ensures { IsLineOf run_end.now result }
 {
@@ -104,7 +104,11 @@ pub fn line_of(run_end: &RunEnd) -> Option<ErrorLine<'_>>
     }
 }
 
-/// Tells how a run ended, where that wants a line.
+/// Writes the line that a run's end puts on standard error, if it has one.
+///
+/// # Errors
+///
+/// Those of the writer.
 pub fn tell<W: Write>(run_end: &RunEnd, errors: &mut W) -> io::Result<()>
     ensures { OnOk result (Tells run_end.now (W.contents errors.old) (W.contents errors.new)) }
 {

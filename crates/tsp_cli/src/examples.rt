@@ -1,4 +1,5 @@
-//! A law that states values of a definition in `specs/`, worked out by hand: the word of each verb.
+//! Laws that state values of the definitions in `specs/`, worked out by hand: verbs, lines on
+//! standard error, exit statuses, the version and the help, and which requests are refused.
 
 ghost use Rattle.std.specs.Prelude.{◌≡◌, codes, ◌≢◌, Bool, [], ◌∷◌, Option, None, Some, ℤ, ◌++◌, length, true, false, Ok, Err, decimal};
 ghost use Rattle.tsp_format.specs.declared.layout.Layout.{Layout};
@@ -114,7 +115,7 @@ pub fn examples_of_versions()
     ensures help { fault_of tsp (codes "help" ∷ []) ≡ kinds.DisplayHelp ∷ kinds.InvalidSubcommand ∷ [] }
 {}
 
-/// A task is strict exactly where its job is.
+/// A task is strict exactly if its job is.
 pub fn examples_of_strict_requests()
     ensures check { (job : Job) (a b : InputPath) (claimed : Option ℤ) (strict : Bool) → IsFileTask job (file_tasks.Check a b None claimed strict)
         → strict ≡ job.strict }

@@ -1,4 +1,5 @@
-//! The text that explains the end of a task to a person.
+//! The text that explains the end of a task to a person; and for a comparison, the follower that
+//! explains its lines one by one, or counts them on a terminal.
 
 ghost use Rattle.std.specs.Prelude.{map, true};
 ghost use Rattle.std.specs.String.{string_bytes};
@@ -18,7 +19,7 @@ use tsp_judge::{
 };
 use tsp_report::{Role, Task};
 
-/// What explains why a job asks for nothing, line by line. It is cut short where there is no memory
+/// What explains why a job asks for nothing, line by line. It is cut short if there is no memory
 /// for more.
 pub(crate) fn fault_explanation(alloc: Global, fault: TaskFault) -> Vec<u8> {
     let mut text = Vec::new(alloc);
@@ -79,7 +80,7 @@ impl<'a, F: Read + Drop, O: Open<F>> TaskRun<'a, F, O> {
         self.task.map(|place| name_of(*place))
     }
 
-    /// The file with this number opened once more, where it can be.
+    /// The file with this number opened once more, if it can be.
     fn again(&self, number: u32) -> Option<F> {
         let (_, place) = self.task.file(number)?;
         again(*place, self.files)
@@ -88,7 +89,7 @@ impl<'a, F: Read + Drop, O: Open<F>> TaskRun<'a, F, O> {
 
 /// What explains how a task ended, line by line; of a comparison, each solution was explained at
 /// its line. Files that can be are looked at once more for it. `error` is what the system said of a
-/// write that failed. It is cut short where there is no memory for more.
+/// write that failed. It is cut short if there is no memory for more.
 pub(crate) fn explanation<F: Read + Drop, O: Open<F>>(
     task_run: &TaskRun<'_, F, O>,
     run_end: &RunEnd,
@@ -127,7 +128,7 @@ fn name_of(place: InputPath<'_>) -> &str {
     }
 }
 
-/// The file at a place opened once more, where it can be.
+/// The file at a place opened once more, if it can be.
 fn again<F: Read, O: Open<F>>(place: InputPath<'_>, files: &O) -> Option<F> {
     match place {
         InputPath::Path(path) => files.open_again(path),
@@ -235,7 +236,7 @@ impl<F: Read + Drop, O: Open<F>> Followed<'_, F, O> {
     }
 }
 
-/// Ends the line that counts, where there is one.
+/// Ends the line that counts, if there is one.
 pub(crate) fn end_count<F, O, E: Write>(task_run: &TaskRun<'_, F, O>, to: &mut E)
     ensures { MayTell task_run.now.explain (E.contents to.old) (E.contents to.new) }
 {
@@ -249,7 +250,7 @@ pub(crate) fn end_count<F, O, E: Write>(task_run: &TaskRun<'_, F, O>, to: &mut E
     }
 }
 
-/// Sends as much of a text as goes. Where standard error can't be written, lines and status tell.
+/// Sends as much of a text as goes. If standard error can't be written, lines and status tell.
 fn send_what_goes<E: Write>(to: &mut E, text: &[u8])
     ensures { MayTell true (E.contents to.old) (E.contents to.new) }
 {

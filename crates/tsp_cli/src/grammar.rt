@@ -1,4 +1,5 @@
 //! The command line as `clap` knows it: five subcommands, what each takes, and the texts of help.
+//! Also the version, of which `VERSION_NUMBER` in `src/lib.rt` of tsp_c is a copy.
 
 ghost use Rattle.std.specs.Prelude.{◌≡◌, IfOk, false};
 ghost use Rattle.clap.specs.Words.{App, Rule, new_app, rule_of, with_rule, with_subcommand};

@@ -1,5 +1,5 @@
-//! A file to be read, standard input, or the error of a file that is missing. `src/main.rt` of
-//! tsp_tool opens them, for `src/running.rt` and `src/explained.rt`.
+//! What a task reads from: an open file, standard input, or the error of a file that couldn't be
+//! opened. Also `Open`, the trait by which the host opens files; `src/main.rt` of tsp_tool has it.
 
 ghost use Rattle.std.specs.Prelude.{◌≡◌, IsTrue, IsErr, MatchResult};
 ghost use Rattle.std.specs.Io.{ReadsAtMost};
@@ -20,7 +20,7 @@ pub trait Open<F> {
     fn open(&self, place: InputPath<'_>) -> F
         ensures { opens self.now place.entry result };
 
-    /// The file at a path, opened once more, or `None` where it can't be read twice.
+    /// The file at a path, opened once more, or `None` if it can't be read twice.
     fn open_again(&self, path: &str) -> Option<F>;
 }
 
@@ -87,7 +87,7 @@ impl<I: Gives, F: Gives> Read for InputFile<I, F> {
     }
 }
 
-/// An error with the same number of the system, or, where it has none, of the same kind.
+/// An error with the same number of the system, or, if it has none, of the same kind.
 fn same_error(error: &io::Error) -> io::Error
     ensures { IsSameError error.now result }
 {

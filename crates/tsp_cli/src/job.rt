@@ -1,5 +1,5 @@
-//! Turns the words of a command line into a job, a verb with its options and paths, or says why
-//! they are none.
+//! Turns the words of a command line into a job, that is a verb with its options and paths, and a
+//! job into a task on files. Each step may fail: `JobFault`, `TaskFault`.
 
 ghost use Rattle.std.specs.IoError.{error_kind};
 ghost use Rattle.std.specs.Prelude.{◌≡◌, ◌≢◌, ◌↔◌, IfOk, IsTrue, Some, codes, map, option_map, ◌≤◌};
@@ -29,12 +29,12 @@ pub enum Verb {
     Check,
     /// Judge many solutions of an instance.
     Compare,
-    /// Bound every tour of an instance.
+    /// Bound all tours or routes of an instance, without a solution.
     Bound,
 }
 
 impl Verb {
-    /// The verb with this word, or `None` where there is none.
+    /// The verb with this word, or `None` if there is none.
     fn of_word(word: &str) -> Option<Verb>
         ensures { IsVerbOf word.now result }
     {
@@ -52,7 +52,7 @@ impl Verb {
 /// The verb, the options and the paths of a command line. Its verb looks at no field but its own.
 #[derive(Drop)]
 pub struct Job {
-    /// What to do, or `None` where no word says so.
+    /// What to do, or `None` if no word says so.
     pub verb: Option<Verb>,
     /// The path of the file, or of the instance.
     pub file: Option<String>,
@@ -102,7 +102,7 @@ impl JobFault {
 ///
 /// # Errors
 ///
-/// `Refused` where the words are none of these, or ask for help or the version; `OutOfMemory`.
+/// `Refused` if the words are none of these, or ask for help or the version; `OutOfMemory`.
 pub fn job_of(alloc: Global, words: &[&str]) -> Result<Job, JobFault>
     ensures { GivesJob (map (λ word. word.now) words.now) result }
 {
@@ -133,8 +133,8 @@ pub fn job_of(alloc: Global, words: &[&str]) -> Result<Job, JobFault>
     }
 }
 
-/// Why words that can't be had are no job: out of memory, or a word is no text, which is reported
-/// as `clap` reports refused words.
+/// The fault if the words of the command line can't even be read: out of memory, or a word that
+/// isn't text, which is reported the way `clap` reports refused words.
 pub fn unread(alloc: Global, error: &io::Error) -> JobFault
     ensures memory { error_kind error.now ≡ IoKind.OutOfMemory → result ≡ JobFault.OutOfMemory }
     ensures no_text { error_kind error.now ≢ IoKind.OutOfMemory → IsOtherRefusal result }
@@ -148,7 +148,7 @@ pub fn unread(alloc: Global, error: &io::Error) -> JobFault
     }
 }
 
-/// What `clap` says where a word is no text.
+/// What `clap` says when a word is no text.
 fn no_text(alloc: Global) -> Result<Refusal, AllocError>
     ensures { IfOk result (λ refusal. kind_of refusal ≡ ErrorKind.InvalidValue) }
 {
@@ -177,7 +177,7 @@ fn job_with(alloc: Global, verb: Option<Verb>, found: &ArgMatches<'_>) -> Result
     })
 }
 
-/// The value that was found for an argument, where there is one.
+/// The value that was found for an argument, if there is one.
 fn value(alloc: Global, found: &ArgMatches<'_>, id: &str) -> Result<Option<String>, AllocError>
     ensures { IfOk result (λ text. text_in text ≡ first_of id.now (rows_of (found_of found.now))) }
 {
@@ -221,7 +221,7 @@ fn is_given(found: &ArgMatches<'_>, id: &str) -> bool
     }
 }
 
-/// The text that was found for an argument, where there is one.
+/// The text that was found for an argument, if there is one.
 fn text_of<'a>(found: &ArgMatches<'a>, id: &str) -> Option<&'a str>
     ensures { option_map (λ text. text.now) result
         ≡ first_of id.now (rows_of (found_of found.now)) }
@@ -231,7 +231,7 @@ fn text_of<'a>(found: &ArgMatches<'a>, id: &str) -> Option<&'a str>
 
 // ---- turns a job into a task on paths, or says why it is none
 
-/// Where a file of a task is: standard input, or at a path.
+/// If a file of a task is: standard input, or at a path.
 #[derive(Clone, Copy)]
 pub enum InputPath<'a> {
     /// Standard input.
@@ -249,7 +249,7 @@ pub enum TaskFault {
     MissingPath,
     /// Two certificates are named, potentials and branches.
     TwoCertificates,
-    /// No certificate is named, where one has to be.
+    /// No certificate is named, if one has to be.
     NoCertificate,
     /// The word is no length that fits 64 bits.
     NotALength,
@@ -264,11 +264,11 @@ pub enum TaskFault {
 ///
 /// # Errors
 ///
-/// `InputTwice` where two files are standard input; `UnknownLayout` where no layout has the given
-/// word; `NotALength` where the word of a length isn't one; `TwoCertificates` where both potentials
-/// and branches are named; `NoCertificate` where a bound has neither; `LineEndInPath` where the
-/// path of a solution that is compared contains byte 10; `MissingPath` where a path is missing, as
-/// in no job that words ask for.
+/// `InputTwice` if two files are standard input; `UnknownLayout` if no layout has the given
+/// word; `NotALength` if the word of a length isn't one; `TwoCertificates` if both potentials
+/// and branches are named; `NoCertificate` if a bound has neither; `LineEndInPath` if the
+/// path of a solution that is compared contains byte 10; `MissingPath` if a path is missing, which
+/// no job made by `job_of` lacks.
 pub fn task_of(job: &Job) -> Result<Task<'_, InputPath<'_>>, TaskFault>
     ensures { GivesTask job.now result }
 {
@@ -292,7 +292,7 @@ fn inputs_of_task(task: &Task<'_, InputPath<'_>>) -> u128
     u128::from(files) + u128::from(solutions)
 }
 
-/// 1 where the file of a task with this number is standard input, and else 0.
+/// 1 if the file of a task with this number is standard input, and else 0.
 fn input_at(task: &Task<'_, InputPath<'_>>, number: u32) -> u32
     ensures value { result ≡ input_at (numbered number (files_of_task task.now)) }
     ensures most { result ≤ 1 }
@@ -321,10 +321,10 @@ fn inputs_at(paths: &[String]) -> u64
 ///
 /// # Errors
 ///
-/// `UnknownLayout` where no layout has the given word; `NotALength` where the word of a length
-/// isn't one; `TwoCertificates` where both potentials and branches are named; `NoCertificate` where
-/// a bound has neither; `LineEndInPath` where the path of a solution that is compared contains byte
-/// 10; `MissingPath` where a path is missing, as in no job that words ask for.
+/// `UnknownLayout` if no layout has the given word; `NotALength` if the word of a length
+/// isn't one; `TwoCertificates` if both potentials and branches are named; `NoCertificate` if
+/// a bound has neither; `LineEndInPath` if the path of a solution that is compared contains byte
+/// 10; `MissingPath` if a path is missing, as in no job that words ask for.
 fn named_task(job: &Job) -> Result<Task<'_, InputPath<'_>>, TaskFault>
     ensures { NamesTask job.now result }
 {
@@ -439,7 +439,7 @@ pub fn input_path_at(path: &str) -> InputPath<'_>
     }
 }
 
-/// The layout with a word, where there is a word.
+/// The layout with a word, if there is a word.
 fn layout_of(word: &Option<String>) -> Result<Option<Layout>, TaskFault>
     ensures { GivesLayout word.now result }
 {
@@ -452,7 +452,7 @@ fn layout_of(word: &Option<String>) -> Result<Option<Layout>, TaskFault>
     }
 }
 
-/// The length that a word is read as, where there is a word.
+/// The length that a word is read as, if there is a word.
 fn length_of(word: &Option<String>) -> Result<Option<i64>, TaskFault>
     ensures { GivesClaim word.now result }
 {
@@ -465,7 +465,7 @@ fn length_of(word: &Option<String>) -> Result<Option<i64>, TaskFault>
     }
 }
 
-/// The certificate that is named, with the place of its file, where one is.
+/// The certificate that is named, with the place of its file, if one is.
 fn certificate_of(job: &Job) -> Result<Option<(CertificateKind, InputPath<'_>)>, TaskFault>
     ensures { GivesCertificate job.now result }
 {

@@ -27,7 +27,7 @@ pub fn faults_are_one_line()
         → WritesLine old new }
 {}
 
-/// On a terminal every answer is explained, and every task that can't be begun; elsewhere where the
+/// On a terminal every answer is explained, and every task that can't be begun; elsewhere if the
 /// job says so. No words are explained that ask for no job.
 pub fn explained_on_a_terminal<F: Gives + Drop, O: Open<F>>(files: &O)
     ensures answer { (build : Text) (words : List Text) (sink : Sink) (explained : Bool) (answer : Result Outcome RunFault)

@@ -2,7 +2,7 @@
 //!
 //! The words are a job (`job`, by the commands in `grammar`), and the job is a task on files or a
 //! comparison. Each file is opened or missing (`input`), the task is done (`running`), and the end
-//! is reported on standard error and by the exit status (`ends`). Where the words ask for it, an
+//! is reported on standard error and by the exit status (`ends`). If the words ask for it, an
 //! explanation follows (`explained`). The calls of the host are tsp_tool's.
 //!
 //! ```text

@@ -1,4 +1,5 @@
-//! A run of the program, from the words of its command line to its exit status.
+//! Runs a job: opens its files, has tsp_judge do the task, and tells how that ended. Also prints
+//! the version and the help, and says so if a person's terminal is read.
 
 ghost use Rattle.std.specs.Io.KnownBytes.{Appends, Keeps};
 ghost use Rattle.std.specs.IoError.{error_kind};
@@ -34,15 +35,15 @@ pub struct HostContext {
     pub build: &'static str,
 }
 
-/// Does what the words of a command line ask for, of which the first is the program's own name;
-/// what comes of it goes to the writer `out`, and where there is no answer the reason to `errors`.
+/// Does what a command line asks for, and returns the exit status.
 ///
-/// The result is the exit status, and whether the reason could be written. Files are opened in the
-/// order in which they are read, each as `files` opens its place; a comparison opens each solution
-/// when it is to be read. The reason is explained where the words ask for that, and wherever
-/// `errors` is a terminal. Of a comparison each line that accepts no solution is explained when it
-/// was written, and on a terminal its solutions are counted. Where the words ask for the version,
-/// that is printed to `out` with the text of the build, and help where their verb is `help`.
+/// `line` has the words, the program's own name first. The answer goes to `out`; if there is none,
+/// the reason goes to `errors`, and the second part of the result says whether it got there. Files
+/// are opened through `files`, in the order in which they are read; a comparison opens each
+/// solution when its turn comes. With `--explain`, and whenever `errors` is a terminal, an
+/// explanation follows; a comparison explains each line that accepts no solution right after it,
+/// and on a terminal counts its solutions. The version, with the text of the build, and the help of
+/// the verb `help` go to `out`.
 pub fn run<F: Gives + Drop, O: Open<F>, W: Write, E: Write>(
     alloc: Global,
     line: &[String],
@@ -71,7 +72,7 @@ pub fn run<F: Gives + Drop, O: Open<F>, W: Write, E: Write>(
     }
 }
 
-/// The end where `clap` refuses the words: the version and, by the verb `help`, help are printed.
+/// The end if `clap` refuses the words: the version and, by the verb `help`, help are printed.
 fn end_of_refusal<W: Write>(
     alloc: Global,
     refusal: Refusal,
@@ -120,7 +121,7 @@ fn end<E: Write>(run_end: &RunEnd, errors: &mut E) -> (u8, io::Result<()>)
     (status_of_run_end(run_end), reported)
 }
 
-/// Does the job, and tells how that ended, with its explanation where that is wanted. The result is
+/// Does the job, and tells how that ended, with its explanation if that is wanted. The result is
 /// as that of `run`.
 fn run_job<F: Gives + Drop, O: Open<F>, W: Write, E: Write>(
     alloc: Global,
@@ -162,7 +163,7 @@ fn is_explained(job: &Job, host_context: HostContext) -> bool
     job.explain || host_context.on_terminal
 }
 
-/// Tells why a job asks for nothing, and explains it where that is wanted.
+/// Tells why a job asks for nothing, and explains it if that is wanted.
 fn tell_fault_of_job<E: Write>(
     alloc: Global,
     fault: TaskFault,
@@ -195,7 +196,7 @@ fn run_file_task<F: Gives + Drop, O: Open<F>, W: Write, E: Write>(
 }
 
 /// Compares solutions, and tells how that ended. The instance is opened in its place, and the
-/// certificate where one is named, and after them each solution in its own place.
+/// certificate if one is named, and after them each solution in its own place.
 fn run_comparison<F: Gives + Drop, O: Open<F>, W: Write, E: Write>(
     task_run: &TaskRun<'_, F, O>,
     comparison: &Comparison<'_, InputPath<'_>>,
@@ -218,8 +219,8 @@ fn run_comparison<F: Gives + Drop, O: Open<F>, W: Write, E: Write>(
     (status_of_run_end(&run_end), reported)
 }
 
-/// Reports how a task ended, and explains it where that is wanted, with the system's words on a
-/// write that failed. Where there is no memory for the explanation, it is left out.
+/// Reports how a task ended, and explains it if that is wanted, with the system's words on a
+/// write that failed. If there is no memory for the explanation, it is left out.
 fn tell_end<F: Read + Drop, O: Open<F>, E: Write>(
     task_run: &TaskRun<'_, F, O>,
     run_end: &RunEnd,
@@ -320,7 +321,7 @@ impl Display for Version<'_> {
 ///
 /// # Errors
 ///
-/// `Device` where the writer fails; `OutOfMemory`.
+/// `Device` if the writer fails; `OutOfMemory`.
 fn print_version<W: Write>(
     alloc: Global,
     build: &str,
@@ -339,7 +340,7 @@ fn print_version<W: Write>(
 ///
 /// # Errors
 ///
-/// `Device` where the writer fails; `OutOfMemory`.
+/// `Device` if the writer fails; `OutOfMemory`.
 fn print_help<W: Write>(
     alloc: Global,
     help: &Refusal,
@@ -358,7 +359,7 @@ fn print_help<W: Write>(
 /// The line on a terminal that is read.
 const WAITING: &str = "reading standard input; tsp --help tells more\n";
 
-/// Writes that standard input is read, where it is a terminal, as `reads_terminal` says, and no
+/// Writes that standard input is read, if it is a terminal, as `reads_terminal` says, and no
 /// words follow the program's own name, which is the first of `line`. Else nothing is written.
 ///
 /// # Errors

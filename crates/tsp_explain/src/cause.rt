@@ -7,7 +7,7 @@ use tsp_format::{Field, is_blank, is_letter};
 use tsp_number::NumberFault;
 use tsp_text::{LineFault, ReadFault};
 
-/// The likely cause of a fault, where one is known.
+/// The likely cause of a fault, if one is known.
 pub(crate) fn cause(look: &Look, fault: ReadFault) -> Option<&'static str> {
     match fault {
         ReadFault::Line {

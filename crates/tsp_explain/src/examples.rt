@@ -27,7 +27,7 @@ pub fn examples_of_shown_bytes()
     ensures nothing { all_shown [] ≡ [] }
 {}
 
-/// A file's name stays in one line, and is as it is where it has no control byte.
+/// A file's name stays in one line, and is as it is if it has no control byte.
 pub fn examples_of_shown_names()
     ensures plain { name_shown (codes "a b.tsp") ≡ codes "a b.tsp" }
     ensures line_end { name_shown (97 ∷ 10 ∷ codes "b.tsp:1") ≡ codes "a^Jb.tsp:1" }

@@ -26,7 +26,7 @@ impl Excerpt {
         }
     }
 
-    /// Takes the line's next byte, which the fault is said of where it is marked.
+    /// Takes the line's next byte, which the fault is said of if it is marked.
     pub(crate) fn take(&mut self, byte: u8, is_marked: bool) {
         if is_marked {
             self.cuts.1 = self.marked.try_push(byte).is_err() || self.cuts.1;
@@ -37,7 +37,7 @@ impl Excerpt {
         }
     }
 
-    /// Takes a byte before the marked ones. Where the excerpt is full, the bytes before it are left
+    /// Takes a byte before the marked ones. If the excerpt is full, the bytes before it are left
     /// out.
     fn take_before(&mut self, byte: u8) {
         if self.before.is_full() {

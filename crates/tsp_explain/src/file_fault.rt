@@ -18,7 +18,7 @@ use tsp_report::Role;
 use tsp_text::{LineFault, ReadFault};
 
 /// Appends why a file isn't read. `name` is what the user calls it, `given` what it is given for in
-/// a check, and `again` the file opened once more, where it can be. The text at the fault is shown
+/// a check, and `again` the file opened once more, if it can be. The text at the fault is shown
 /// as far as that second look shows it.
 ///
 /// # Errors
@@ -129,7 +129,7 @@ fn push_meaning(
     }
 }
 
-/// Appends the line that has the fault, where one has it.
+/// Appends the line that has the fault, if one has it.
 fn push_excerpt(text: &mut Vec<u8>, seen: &Look, fault: ReadFault) -> Result<(), AllocError> {
     match fault {
         ReadFault::Line {
@@ -211,7 +211,7 @@ fn push_near(text: &mut Vec<u8>, seen: &Look, fault: ReadFault) -> Result<(), Al
 }
 
 /// Appends the explanation of a file that can't be read a second time, with what the system says.
-/// Of a file that couldn't be read the first time either, that comes first.
+/// What the system says comes first if the file couldn't be read the first time either.
 fn explain_failed(
     alloc: Global,
     text: &mut Vec<u8>,
@@ -416,7 +416,7 @@ fn push_weights(text: &mut Vec<u8>, weights: i64, nodes: i64) -> Result<(), Allo
     }
 }
 
-/// The layouts that list this number of weights for this number of nodes, where there are some.
+/// The layouts that list this number of weights for this number of nodes, if there are some.
 fn layouts_with(weights: i64, nodes: i64) -> Option<&'static str> {
     let all = nodes.saturating_mul(nodes);
     let twice = weights.saturating_mul(2);

@@ -44,7 +44,7 @@ pub(crate) enum Form {
     Routes,
 }
 
-/// The form of another program that a file seems to have, which is given for this, where it has
+/// The form of another program that a file seems to have, which is given for this, if it has
 /// one.
 pub(crate) fn foreign_form(look: &Look, given: Option<Role>, fault: ReadFault) -> Option<Form> {
     match fault {
@@ -80,7 +80,7 @@ fn form_of_words(look: &Look, line: u32) -> Option<Form> {
     }
 }
 
-/// The form of a file with a number, or a sign, where no section is open.
+/// The form of a file with a number, or a sign, if no section is open.
 fn form_of_numbers(look: &Look, given: Option<Role>, line: u32) -> Option<Form> {
     if look.other.as_slice() == b"PI_SECTION".as_slice() {
         return Some(Form::LkhPotentials);
@@ -281,7 +281,7 @@ fn looks_like(form: Form) -> &'static str {
     }
 }
 
-/// The recipe that makes of a form what the file is given for, where there is one.
+/// The recipe that makes of a form what the file is given for, if there is one.
 fn recipe(form: Form, given: Option<Role>) -> Option<&'static str> {
     match (given, form) {
         (Some(Role::Potentials) | None, Form::LkhPotentials) => Some("lkh-pi.awk"),

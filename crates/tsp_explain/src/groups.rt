@@ -8,7 +8,7 @@ use tsp_format::{Field, Word};
 /// The groups of a section, as far as it is seen.
 #[derive(Clone, Copy)]
 pub(crate) struct Groups {
-    /// How many words a group has; 0 where the section has no groups.
+    /// How many words a group has; 0 if the section has no groups.
     size: u64,
     /// How many words of a group came before the line that is being read.
     begun: u32,
@@ -63,7 +63,7 @@ impl Groups {
         self.begun = rest_of(self.begun.saturating_add(words), self.size);
     }
 
-    /// The only line so far that has others than whole groups. Where there are several, groups
+    /// The only line so far that has others than whole groups. If there are several, groups
     /// aren't lines of this section.
     pub(crate) fn shift(&self) -> Option<Shift> {
         if self.uneven == 1 {

@@ -21,7 +21,7 @@ pub(crate) enum Guess {
     Near(&'static str),
     /// A section that isn't read.
     Section,
-    /// A word where this section wants a number.
+    /// A word if this section wants a number.
     Numbers(Field),
     /// The node 0, in a file with this many nodes.
     Zero(i64),
@@ -43,7 +43,7 @@ pub(crate) enum Guess {
     Value(Field),
 }
 
-/// What explains a fault better than its rule does, where something does.
+/// What explains a fault better than its rule does, if something does.
 pub(crate) fn guess_at(look: &Look, fault: ReadFault) -> Option<Guess> {
     match fault {
         ReadFault::Line {
@@ -68,7 +68,7 @@ fn guess_of_line(look: &Look, fault: LineFault) -> Option<Guess> {
     }
 }
 
-/// What explains a line fault where each word is in its place.
+/// What explains a line fault if each word is in its place.
 fn guess_of_place(look: &Look, fault: LineFault) -> Option<Guess> {
     let marked = look.excerpt.marked();
     match fault {

@@ -21,7 +21,7 @@ const MOST_SEEN_AT_ONCE: usize = 4_096;
 /// The line and word that a look seeks in a file.
 #[derive(Clone, Copy)]
 pub(crate) enum Sought {
-    /// A line, counted from 1, and a word of it, counted from 1, or the whole line where it is 0.
+    /// A line, counted from 1, and a word of it, counted from 1, or the whole line if it is 0.
     Place { line: u32, word: u32 },
     /// The words of a section, or of the keyword that is missing, in the whole file.
     Field(Field),
@@ -67,9 +67,9 @@ pub(crate) struct Look {
     pub(crate) has_arrow: bool,
     /// Whether that line has `(#`, as a route of LKH-3.
     pub(crate) has_count: bool,
-    /// The value of DIMENSION, where such a line was seen.
+    /// The value of DIMENSION, if such a line was seen.
     pub(crate) dimension: Option<i64>,
-    /// The value of TYPE, where such a line was seen.
+    /// The value of TYPE, if such a line was seen.
     pub(crate) kind: Option<Kind>,
     /// Whether a line says that each node has three coordinates.
     pub(crate) is_spatial: bool,
@@ -195,8 +195,8 @@ impl Look {
         }
     }
 
-    /// Ends the line, and begins the next one. Of the line after the one that was looked for only
-    /// the words count.
+    /// Ends the line, and begins the next one. In the line after the sought one, only the number of
+    /// words matters.
     fn end_line(&mut self) {
         if self.is_past() {
             self.next_words = self.line.words;
@@ -287,7 +287,7 @@ impl Line {
         true
     }
 
-    /// Whether the last byte is of this word; where it is 0, of the line from its first word on.
+    /// Whether the last byte is of this word; if it is 0, of the line from its first word on.
     fn is_in(&self, word: u32) -> bool {
         if word == 0 {
             self.words > 0
@@ -320,7 +320,7 @@ fn is_control(byte: u8) -> bool {
     }
 }
 
-/// The groups of a section that begins; none where another section is sought, whose groups stay.
+/// The groups of a section that begins; none if another section is sought, whose groups stay.
 fn groups_in(sought: Sought, field: Field, is_spatial: bool) -> Option<Groups> {
     match sought {
         Sought::Field(wanted) if wanted != field => None,
@@ -330,7 +330,7 @@ fn groups_in(sought: Sought, field: Field, is_spatial: bool) -> Option<Groups> {
     }
 }
 
-/// The keyword that may be missing where something is sought. At a place it is DIMENSION, which a
+/// The keyword that may be missing if something is sought. At a place it is DIMENSION, which a
 /// section may come before.
 fn sought_word(sought: Sought) -> &'static [u8] {
     match sought {

@@ -1,5 +1,5 @@
-//! Lines of `--explain` on a solution that is refused: the rule, and the nodes and numbers that the
-//! reason is about.
+//! Lines of `--explain` on a reason against a solution or an instance: the rule, and the nodes and
+//! numbers that the reason is about. `verdict_reasons.rt` comes here from a verdict.
 
 ghost use Rattle.std.specs.Io.{StartsWith};
 
@@ -43,7 +43,7 @@ fn push_reason(text: &mut Vec<u8>, name: &str, reason: Reason) -> Result<(), All
 }
 
 /// Appends the nodes and numbers that a reason is about, as the files show them: the instance, the
-/// solution and the certificate, where they are there. The caller may have read them a second time,
+/// solution and the certificate, if they are there. The caller may have read them a second time,
 /// so they may be others than those that were judged.
 ///
 /// # Errors
@@ -130,13 +130,13 @@ fn push_of_solution(
     }
 }
 
-/// Appends a node that is in no route, and which customer it was where the solution was converted.
+/// Appends a node that is in no route, and which customer it was if the solution was converted.
 fn push_unserved(text: &mut Vec<u8>, node: u32, solution: &File) -> Result<(), AllocError> {
     say(text, &[("No route has node ", i64::from(node))])?;
     push_customer(text, node, solution)
 }
 
-/// Appends which customer a node was, where the solution was converted.
+/// Appends which customer a node was, if the solution was converted.
 fn push_customer(text: &mut Vec<u8>, node: u32, solution: &File) -> Result<(), AllocError> {
     if !is_converted(solution.comments()) {
         return Ok(());
@@ -202,7 +202,7 @@ pub(crate) fn push_type(text: &mut Vec<u8>, file: &File) -> Result<(), AllocErro
     )
 }
 
-/// The value of DIMENSION, and 0 where it is missing.
+/// The value of DIMENSION, and 0 if it is missing.
 fn nodes_of(file: &File) -> i64 {
     i64::from(file.dimension().unwrap_or(0))
 }

@@ -191,7 +191,7 @@ fn push_kind(text: &mut Vec<u8>, kind: Kind) -> Result<(), AllocError> {
     )
 }
 
-/// The TYPE that a file has, or `None` where it isn't seen.
+/// The TYPE that a file has, or `None` if it isn't seen.
 fn kind_in<R: Read>(reader: &mut R) -> Option<Kind> {
     match look_for(reader, Sought::Nothing) {
         Ok(seen) => seen.kind,
@@ -229,7 +229,7 @@ const ROUNDED: &str =
     ": every distance along the solution is 0 or 1, since TSPLIB rounds distances to whole numbers; \
     multiply the coordinates by a power of ten, and say so where the length is published.\n";
 
-/// Appends that distances are rounded, where each one along the solution is 0 or 1 and some points
+/// Appends that distances are rounded, if each one along the solution is 0 or 1 and some points
 /// of it differ. `name` is what the user calls the instance.
 fn push_rounding(
     text: &mut Vec<u8>,
@@ -268,7 +268,7 @@ fn are_rounded(instance: &Instance, points: &Coords, tours: &[Vec<u32>]) -> bool
     some_differ
 }
 
-/// Whether points differ along a tour, or `None` where a distance is more than 1. A route begins
+/// Whether points differ along a tour, or `None` if a distance is more than 1. A route begins
 /// and ends at the depot.
 fn step_of_tour(instance: &Instance, points: &Coords, tour: &[u32]) -> Option<bool> {
     let (first, last) = (*tour.first()?, *tour.last()?);
@@ -281,8 +281,8 @@ fn step_of_tour(instance: &Instance, points: &Coords, tour: &[u32]) -> Option<bo
     Some(some_differ)
 }
 
-/// Whether points differ on the way from the last node to the first one, through the depot where
-/// there is one, or `None` where a distance is more than 1.
+/// Whether points differ on the way from the last node to the first one, through the depot if
+/// there is one, or `None` if a distance is more than 1.
 fn closing_step(instance: &Instance, points: &Coords, first: u32, last: u32) -> Option<bool> {
     match depot_of(instance) {
         Some(depot) => {
@@ -301,7 +301,7 @@ fn depot_of(instance: &Instance) -> Option<u32> {
     }
 }
 
-/// Whether two nodes have different points, or `None` where their distance is more than 1.
+/// Whether two nodes have different points, or `None` if their distance is more than 1.
 fn step(instance: &Instance, points: &Coords, from: u32, to: u32) -> Option<bool> {
     let nodes = 1..=instance.count();
     if !nodes.contains(&from) || !nodes.contains(&to) || instance.cost(from, to) > 1 {
@@ -330,7 +330,7 @@ enum CommentClaim<'a> {
     Real(&'a [u8]),
 }
 
-/// Appends one sentence where a comment of a solution claims another length than its own: the first
+/// Appends one sentence if a comment of a solution claims another length than its own: the first
 /// comment that ends in `Length = N`, `(N)` or `Cost N` with another number. `name` is what the
 /// user calls the solution.
 ///

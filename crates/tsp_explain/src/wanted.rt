@@ -173,7 +173,7 @@ pub(crate) fn asked(field: Field) -> &'static str {
     }
 }
 
-/// How many words a group of a section has, in a spatial file or in another, or `None` where it has
+/// How many words a group of a section has, in a spatial file or in another, or `None` if it has
 /// no groups.
 pub(crate) fn group(field: Field, is_spatial: bool) -> Option<u64> {
     match field.shape(is_spatial) {

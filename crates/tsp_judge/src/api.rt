@@ -1,5 +1,6 @@
-//! Public calls that check, show or convert, as example_check does. Each is a case of the run of a
-//! verb, such as `run` in `src/check.rt`, and returns its fault without the token of a refusal.
+//! The calls for other programs, as example_check makes them: `run_check` and the like. Each is a
+//! case of the run of a verb, such as `run` in `check.rt`, and its fault is a plain `RunFault`.
+//! Also the runs of a check and a comparison without a certificate.
 
 ghost use Rattle.tsp_judge.specs.Prelude.{None, Some, false, TakesAtMost, sink_of, read_trace_of, IsReadOn, most_taken};
 ghost use Rattle.std.specs.Prelude.{◌≡◌};
@@ -18,17 +19,17 @@ use tsp_verdict::CertificateKind;
 
 /// Judges a solution of an instance, and writes the report.
 ///
-/// The result is `true` where the solution is a tour of the instance, or for TYPE CVRP a plan of
-/// routes, and `false` where the report has the line `no` with its first reason; the whole report
+/// The result is `true` if the solution is a tour of the instance, or for TYPE CVRP a plan of
+/// routes, and `false` if the report has the line `no` with its first reason; the whole report
 /// was written then. Each file is read whole before the next, and the first file that is none
 /// decides. Nothing is written before the verdict exists.
 ///
 /// # Errors
 ///
-/// `File` where a file is none, or can't be read; `WrongKind` where both are files and the first is
-/// of TYPE TOUR, POTENTIALS or BRANCHES; `OutOfMemory` where the judgement runs out of memory, and
+/// `File` if a file is none, or can't be read; `WrongKind` if both are files and the first is
+/// of TYPE TOUR, POTENTIALS or BRANCHES; `OutOfMemory` if the judgement runs out of memory, and
 /// then no reason up to `NodeOutOfRange`, in the order of its TYPE, applies to the second; `Write`
-/// where the writer fails. Of each file at most 4,096 bytes past `MOST_FILE_BYTES` are read.
+/// if the writer fails. Of each file at most 4,096 bytes past `MOST_FILE_BYTES` are read.
 pub fn run_check<I: Gives, S: Gives, W: Write>(
     alloc: Global,
     inst: &mut Watched<I>,
@@ -47,8 +48,8 @@ pub fn run_check<I: Gives, S: Gives, W: Write>(
 /// Judges a tour of an instance of TYPE TSP or ATSP with a certificate of a bound, and writes the
 /// report.
 ///
-/// The result is `true` where the second file's one tour visits every node once and uses every
-/// fixed edge and the third file's potentials give a bound, and `false` where the report has the
+/// The result is `true` if the second file's one tour visits every node once and uses every
+/// fixed edge and the third file's potentials give a bound, and `false` if the report has the
 /// line `no` with its first reason; the whole report was written then. At `Ok(true)` no tour of the
 /// instance is shorter than the printed bound, so that a tour whose length equals it, which the
 /// report calls optimal, is a shortest one. Under TYPE TSP the bound is that of a least 1-tree
@@ -60,9 +61,9 @@ pub fn run_check<I: Gives, S: Gives, W: Write>(
 ///
 /// # Errors
 ///
-/// `File` where a file is none, or can't be read; `WrongKind` where all three are files and the
-/// first is of TYPE CVRP, TOUR, POTENTIALS or BRANCHES; `OutOfMemory` where the judgement runs out
-/// of memory, and then no reason up to `NodeOutOfRange` applies to the tour; `Write` where the
+/// `File` if a file is none, or can't be read; `WrongKind` if all three are files and the
+/// first is of TYPE CVRP, TOUR, POTENTIALS or BRANCHES; `OutOfMemory` if the judgement runs out
+/// of memory, and then no reason up to `NodeOutOfRange` applies to the tour; `Write` if the
 /// writer fails. Of each file at most 4,096 bytes past `MOST_FILE_BYTES` are read.
 pub fn run_bound_check<I: Gives, S: Gives, P: Gives, W: Write>(
     alloc: Global,
@@ -84,8 +85,8 @@ pub fn run_bound_check<I: Gives, S: Gives, P: Gives, W: Write>(
 
 /// Judges a tour of an instance of TYPE TSP or ATSP with a tree of cases, and writes the report.
 ///
-/// The result is `true` where the second file's one tour visits every node once and uses every
-/// fixed edge and the third file's leaves give a bound, and `false` where the report has the line
+/// The result is `true` if the second file's one tour visits every node once and uses every
+/// fixed edge and the third file's leaves give a bound, and `false` if the report has the line
 /// `no` with its first reason; the whole report was written then. At `Ok(true)` no tour of the
 /// instance is shorter than the printed bound, so that a tour whose length equals it, which the
 /// report calls optimal, is a shortest one. The bound is the least of those of the leaves, each for
@@ -98,9 +99,9 @@ pub fn run_bound_check<I: Gives, S: Gives, P: Gives, W: Write>(
 ///
 /// # Errors
 ///
-/// `File` where a file is none, or can't be read; `WrongKind` where all three are files and the
-/// first isn't of TYPE TSP or ATSP; `OutOfMemory` where the judgement runs out of memory, and then
-/// no reason up to `NodeOutOfRange` applies to the tour; `Write` where the writer fails. Of each
+/// `File` if a file is none, or can't be read; `WrongKind` if all three are files and the
+/// first isn't of TYPE TSP or ATSP; `OutOfMemory` if the judgement runs out of memory, and then
+/// no reason up to `NodeOutOfRange` applies to the tour; `Write` if the writer fails. Of each
 /// file at most 4,096 bytes past `MOST_FILE_BYTES` are read.
 pub fn run_branch_check<I: Gives, S: Gives, B: Gives, W: Write>(
     alloc: Global,
@@ -129,7 +130,7 @@ pub fn run_branch_check<I: Gives, S: Gives, B: Gives, W: Write>(
 ///
 /// # Errors
 ///
-/// `File` where the bytes are no file, or can't be read; `Write` where the writer fails. Nothing
+/// `File` if the bytes are no file, or can't be read; `Write` if the writer fails. Nothing
 /// is written but at `Write`. At most 4,096 bytes past `MOST_FILE_BYTES` are read.
 pub fn run_show<R: Gives, W: Write>(
     alloc: Global,
@@ -143,15 +144,15 @@ pub fn run_show<R: Gives, W: Write>(
     Ok(show_file(alloc, r, out)?)
 }
 
-/// Writes the canonical text of a file, with its weights in the layout `to` where one is given.
+/// Writes the canonical text of a file, with its weights in the layout `to` if one is given.
 ///
 /// The file is read whole, and the weights are in their layout, before anything is written. The
 /// text isn't held in memory as a whole.
 ///
 /// # Errors
 ///
-/// `File` where the bytes are no file, or can't be read; `Relayout` where the weights can't
-/// go into the layout, or there is no memory for that; `Write` where the writer fails.
+/// `File` if the bytes are no file, or can't be read; `Relayout` if the weights can't
+/// go into the layout, or there is no memory for that; `Write` if the writer fails.
 /// `OutOfMemory` is never returned. Nothing is written but at `Write`. At most 4,096 bytes past
 /// `MOST_FILE_BYTES` are read.
 pub fn run_convert<R: Gives, W: Write>(
@@ -167,7 +168,7 @@ pub fn run_convert<R: Gives, W: Write>(
     Ok(convert_file(alloc, r, to, out)?)
 }
 
-/// Whether the solution is accepted, where there is a verdict.
+/// Whether the solution is accepted, if there is a verdict.
 fn acceptance(ended: Result<Judged, RunError>) -> Result<bool, RunFault>
     ensures { result ≡ acceptance ended }
 {

@@ -16,8 +16,8 @@ use tsp_verdict::{BoundVerdict, CertificateKind, is_bounded, judge_bound, strict
 /// The files that a run has read, and the bound that it found.
 #[derive(Drop)]
 pub struct Bounded {
-    /// The bound, or that the instance has no tour; or the first reason against the files. The
-    /// report is of it.
+    /// The bound, or that the instance has no solution, or the first reason against the files: what
+    /// the report says.
     pub found: BoundVerdict,
     /// The first file.
     pub instance: Instance,
@@ -28,20 +28,20 @@ pub struct Bounded {
 /// Bounds the tours of an instance by a certificate, writes the report, and returns the bound, with
 /// the files that were read.
 ///
-/// Every tour of the instance is at least as long as the bound. Where the instance has no tour,
-/// which a tree of cases may show, there is none. Where the report has the line `no`, the result
+/// Every tour of the instance is at least as long as the bound. If the instance has no tour,
+/// which a tree of cases may show, there is none. If the report has the line `no`, the result
 /// has its reason: `TooFewNodes`, `NotSymmetric`, or one against the certificate, in this order;
-/// with `strict` then `NotJudged` or `NotUsed`, where a line of the instance isn't judged.
+/// with `strict` then `NotJudged` or `NotUsed`, if a line of the instance isn't judged.
 ///
 /// Each file is read whole before the next, and the first file that is none decides. Nothing is
 /// written before the bound exists.
 ///
 /// # Errors
 ///
-/// `File` where a file is none, or can't be read; `WrongKind` where both are files and tours of the
-/// first one's TYPE have no bound by the certificate; `OutOfMemory` where the judgement runs out of
+/// `File` if a file is none, or can't be read; `WrongKind` if both are files and tours of the
+/// first one's TYPE have no bound by the certificate; `OutOfMemory` if the judgement runs out of
 /// memory, and then no reason applies to the instance, nor one to the certificate that is found
-/// without memory; `Write` where the writer fails. Of each file at most 4,096 bytes past
+/// without memory; `Write` if the writer fails. Of each file at most 4,096 bytes past
 /// `MOST_FILE_BYTES` are read.
 pub fn run_bound<I: Gives, C: Gives, W: Write>(
     alloc: Global,
@@ -61,7 +61,11 @@ pub fn run_bound<I: Gives, C: Gives, W: Write>(
     bound_read(alloc, by, instance, certificate, strict, out)
 }
 
-/// The run on these files, or the fault of the first that is none, whatever readers they came from.
+/// The run of `tsp bound` on files that were read.
+///
+/// # Errors
+///
+/// `WrongKind`, `OutOfMemory` and `Write`, as [`run_bound`] says.
 fn bound_read<W: Write>(
     alloc: Global,
     by: CertificateKind,
@@ -86,7 +90,7 @@ fn bound_read<W: Write>(
     }
 }
 
-/// Bounds the tours of an instance, and writes the report.
+/// Finds the bound of an instance, and writes the report.
 fn bound_files<W: Write>(
     alloc: Global,
     by: CertificateKind,

@@ -29,11 +29,11 @@ use tsp_verdict::{CertificateKind, Verdict, is_bounded, judge, strict_verdict};
 ///
 /// # Errors
 ///
-/// `File` where a file is none, or can't be read; `WrongKind` where all are files and solutions of
+/// `File` if a file is none, or can't be read; `WrongKind` if all are files and solutions of
 /// the first one's TYPE aren't judged so: TYPE TOUR, POTENTIALS or BRANCHES, and with potentials
-/// CVRP too; `OutOfMemory` where the judgement runs out of memory, and then no reason up to
-/// `NodeOutOfRange`, in the order of its TYPE, applies to the second; `Write` where the writer
-/// fails. Of each file at most 4,096 bytes past `MOST_FILE_BYTES` are read.
+/// CVRP too; `OutOfMemory` if the judgement runs out of memory, and then no reason up to
+/// `NodeOutOfRange`, in the order of its TYPE, applies to the second; `Write` if the writer fails.
+/// From each reader, at most 4,096 bytes past `MOST_FILE_BYTES` are read.
 pub fn run<I: Gives, S: Gives, C: Gives, W: Write>(
     alloc: Global,
     inst: &mut Watched<I>,
@@ -72,7 +72,11 @@ pub(crate) fn read_certificate<C: Gives>(
     Ok(Some((*by, file)))
 }
 
-/// The run on these files, or the fault of the first that is none, whatever readers they came from.
+/// The run of `tsp check` on files that were read.
+///
+/// # Errors
+///
+/// `WrongKind`, `OutOfMemory` and `Write`, as [`run`] says.
 pub(crate) fn judge_read<W: Write>(
     alloc: Global,
     instance: File,
@@ -119,7 +123,7 @@ pub struct Judged {
     pub instance: Instance,
     /// The second file.
     pub solution: File,
-    /// The third file, where a certificate was asked for.
+    /// The third file, if a certificate was asked for.
     pub certificate: Option<(CertificateKind, File)>,
 }
 
@@ -154,7 +158,7 @@ fn judge_files<W: Write>(
 ///
 /// # Errors
 ///
-/// `Write` where the writer fails.
+/// `Write` if the writer fails.
 pub fn report_verdict<W: Write>(
     instance: &Instance,
     verdict: Verdict,
@@ -180,7 +184,7 @@ pub(crate) fn is_judged(certificate: &Option<(CertificateKind, File)>, instance:
     }
 }
 
-/// The certificate, lent.
+/// Moves the borrow of a certificate to its file.
 pub(crate) fn lent(
     certificate: &Option<(CertificateKind, File)>,
 ) -> Option<(CertificateKind, &File)>
@@ -194,11 +198,11 @@ pub(crate) fn lent(
 
 // ---- reads a file of a run, and adds its number to a fault
 
-/// Reads the file with this number, counted from 1, of those that a run is given.
+/// Reads one of the files of a run. Its number, from 1 on, goes into a fault.
 ///
 /// # Errors
 ///
-/// `File` with this number, where the file is none, or can't be read.
+/// `File` with this number, if the file is none, or can't be read.
 pub(crate) fn read_file<R: Gives>(
     alloc: Global,
     number: u32,

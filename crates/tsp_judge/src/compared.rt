@@ -22,7 +22,7 @@ use tsp_verdict::{
 /// What a comparison came to.
 #[derive(Drop)]
 pub struct Compared {
-    /// What the solutions were judged by. Where its known bound is a reason, none was opened.
+    /// What the solutions were judged by. If its known bound is a reason, none was opened.
     pub common: ComparisonContext,
     /// The exit status: the largest of those of the solutions.
     pub status: u8,
@@ -44,12 +44,12 @@ pub struct Compared {
 ///
 /// # Errors
 ///
-/// `File` where the instance (1) or the certificate (2) is none, or can't be read; `WrongKind`
-/// where both are files and solutions of the first one's TYPE aren't judged so. Then nothing is
-/// written. `OutOfMemory` where the judgement runs out of memory, or the reading of a solution
-/// does: the head and the lines of the solutions before were written. `Write` where the writer
-/// fails, after a prefix of the text. Of each file at most 4,096 bytes past `MOST_FILE_BYTES` are
-/// read.
+/// `File` if the instance (1) or the certificate (2) is none, or can't be read; `WrongKind`
+/// if both are files and solutions of the first one's TYPE aren't judged so. Then nothing is
+/// written. `OutOfMemory` if the judgement runs out of memory, or the reading of a solution
+/// does: the head and the lines of the solutions before were written. `Write` if the writer
+/// fails, after a prefix of the text. From each reader, at most 4,096 bytes past `MOST_FILE_BYTES`
+/// are read.
 pub fn run_compare<I: Gives, C: Gives, R: Gives + Drop, E, S: Solutions<R> + Follow<E>, W: Write>(
     alloc: Global,
     inst: &mut Watched<I>,
@@ -71,7 +71,11 @@ pub fn run_compare<I: Gives, C: Gives, R: Gives + Drop, E, S: Solutions<R> + Fol
     compare_read(alloc, instance, certificate, solutions, strict, out, to)
 }
 
-/// The run on these files, or the fault of the first that is none, whatever readers they came from.
+/// The run of `tsp compare` on an instance and a certificate that were read.
+///
+/// # Errors
+///
+/// All but `File`, as [`run_compare`] says.
 pub(crate) fn compare_read<R: Gives + Drop, E, S: Solutions<R> + Follow<E>, W: Write>(
     alloc: Global,
     instance: File,
@@ -96,7 +100,7 @@ pub(crate) fn compare_read<R: Gives + Drop, E, S: Solutions<R> + Follow<E>, W: W
     }
 }
 
-/// Writes the head, and compares the solutions where no reason applies to all of them.
+/// Writes the head, and compares the solutions if no reason applies to all of them.
 fn compare_with<R: Gives + Drop, E, S: Solutions<R> + Follow<E>, W: Write>(
     alloc: Global,
     common: &ComparisonContext,
@@ -185,7 +189,7 @@ pub struct ComparisonContext {
     pub known_bound: KnownBound,
     /// The first file.
     pub instance: Instance,
-    /// The second file, where a certificate was asked for.
+    /// The second file, if a certificate was asked for.
     pub certificate: Option<(CertificateKind, File)>,
 }
 
@@ -225,7 +229,7 @@ fn status_of_found(found: Result<Verdict, ReadFault>) -> u8
 ///
 /// # Errors
 ///
-/// `WrongKind` where the solutions aren't judged so, and `OutOfMemory`.
+/// `WrongKind` if the solutions aren't judged so, and `OutOfMemory`.
 fn comparison_context_of(
     alloc: Global,
     instance: Instance,

@@ -61,7 +61,7 @@ pub fn convert_file<R: Gives, W: Write>(
     }
 }
 
-/// The file with its weights in a layout, or as it is where none is given.
+/// The file with its weights in a layout, or as it is if none is given.
 fn in_layout(alloc: Global, file: File, to: Option<Layout>) -> Result<File, RelayoutFault>
     ensures { Becomes to file result }
 {

@@ -1,5 +1,5 @@
-//! Laws that state values of the definitions in `specs/`, worked out by hand: the exit status of a
-//! comparison, its lines, and which file a fault is of.
+//! Laws that state values of the definitions in `specs/`, worked out by hand: runs of each verb and
+//! their reports, lines of comparisons, exit statuses, and which file a fault is of.
 
 ghost use Rattle.tsp_judge.specs.Prelude.{ℕ, List, [], true, false, None, Some, Ok, Err, pos, codes, Bool, Option, ℤ, decimal, Result, Sink, HasStopped, HasWritten, IsUnwritten, ReadTrace, IsUnread, TakesAtMost, Fields, IsReadOn, StopsAt, most_taken, kind_of, is_bounded, IsKnownBound, head_of, is_bound_yes, is_clear, is_yes, CertificateKind, read_trace_of};
 ghost use Rattle.std.specs.Prelude.{◌≡◌, ◌∷◌, ◌++◌};

@@ -53,7 +53,7 @@ pub fn explain_outcome<'a>(
     }
 }
 
-/// Appends what explains why no solution of a comparison was opened, where none was.
+/// Appends what explains why no solution of a comparison was opened, if none was.
 ///
 /// # Errors
 ///
@@ -110,7 +110,7 @@ pub fn explain_solution<'a>(
     explain_verdict(alloc, text, files, solution.verdict)
 }
 
-/// Appends what explains a fault. `again` is the file that has it, to be read once more, where it
+/// Appends what explains a fault. `again` is the file that has it, to be read once more, if it
 /// can be: the first one if that is of the wrong kind; `error` is what the system said of a write that failed.
 ///
 /// # Errors
@@ -185,7 +185,7 @@ fn names_of<'a>(names: &Task<'_, &'a str>, solution: &'a str) -> Names<'a> {
     all
 }
 
-/// The file of a certificate, where one was read.
+/// The file of a certificate, if one was read.
 fn file_of(certificate: &Option<(CertificateKind, File)>) -> Option<&File> {
     match certificate {
         Some((_, file)) => Some(file),

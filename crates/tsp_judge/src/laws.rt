@@ -50,7 +50,7 @@ pub fn lines_of_bounded_routes()
         ≡ signed_decimal length ++ codes " routes " ++ decimal routes ++ codes " optimal" ++ codes " " ++ path ++ codes "\n" }
 {}
 
-/// Where solutions are compared with `strict`, and each is judged, so is every line of the instance:
+/// If solutions are compared with `strict`, and each is judged, so is every line of the instance:
 /// no line of a comparison accepts a solution of an instance with an unknown keyword, or with a field
 /// that it doesn't use.
 pub fn strict_comparisons_leave_nothing_unjudged<R: Gives + Drop, S: Solutions<R>>(solutions: &S)
@@ -70,7 +70,7 @@ pub fn lines_of_checks()
         → IsVerdictWith common.certificate None common.instance solution other → is_yes other ≡ is_yes verdict) }
 {}
 
-/// Where a reason applies to the instance or to the certificate, and where the instance has no
+/// If a reason applies to the instance or to the certificate, and if the instance has no
 /// tour, a check accepts no solution at all.
 pub fn solutions_without_a_known_bound()
     ensures reason { (given : Option (CertificateKind × Fields)) (instance solution : Fields) (reason : Reason) (verdict : Verdict)

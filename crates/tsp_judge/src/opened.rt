@@ -11,7 +11,7 @@ use tsp_read::file_of_bytes;
 use tsp_report::{BoundVerdict, CertificateKind, KnownBound, Verdict};
 use tsp_verdict::{is_bounded, judge_bound, judge_next, known_bound_alone, known_bound_of};
 
-/// An instance, the certificate that is bound to it, where one is, and what is known of all
+/// An instance, the certificate that is bound to it, if one is, and what is known of all
 /// solutions by the two: that is found once, when the certificate is bound or the instance is
 /// opened.
 #[derive(Drop)]
@@ -40,7 +40,7 @@ impl Opened {
     ///
     /// # Errors
     ///
-    /// `File` with the number 1 where the text is no file; `WrongKind` where the file is no
+    /// `File` with the number 1 if the text is no file; `WrongKind` if the file is no
     /// instance.
     pub fn of(alloc: Global, text: &[u8]) -> Result<Opened, RunError>
         ensures { MatchResult result
@@ -68,12 +68,12 @@ impl Opened {
     }
 
     /// Binds the certificate that a text is, in the place of the one before, and returns what it
-    /// gives the instance. Where that is a reason, solutions are rejected with it that are accepted
+    /// gives the instance. If that is a reason, solutions are rejected with it that are accepted
     /// on their own.
     ///
     /// # Errors
     ///
-    /// `File` with the number 2 where the text is no file; `WrongKind` where solutions of the
+    /// `File` with the number 2 if the text is no file; `WrongKind` if solutions of the
     /// instance have no bound by the certificate; `OutOfMemory`. In each case nothing has changed.
     pub fn bind(
         &mut self,
@@ -98,12 +98,12 @@ impl Opened {
         Ok(found)
     }
 
-    /// The verdict on the solution that a text is, with the certificate that is bound, where one
-    /// is, and with the length that is claimed, where one is.
+    /// The verdict on the solution that a text is, with the certificate that is bound, if one
+    /// is, and with the length that is claimed, if one is.
     ///
     /// # Errors
     ///
-    /// `File` with the number 2 where the text is no file; `OutOfMemory`.
+    /// `File` with the number 2 if the text is no file; `OutOfMemory`.
     pub fn judge(
         &self,
         alloc: Global,
@@ -126,7 +126,7 @@ impl Opened {
 ///
 /// # Errors
 ///
-/// `File` with the number where the text is none.
+/// `File` with the number if the text is none.
 pub fn read_text(alloc: Global, number: u32, text: &[u8]) -> Result<File, RunError>
     ensures { ReadsText number text.now result }
 {

@@ -1,5 +1,5 @@
-//! Why a run ended early, as an enum. Each run of this crate returns it in a `RunError`, and
-//! tsp_cli, tsp_judge and tsp_c report it.
+//! Why a run ended early (`RunFault`, which the runs of this crate return in a `RunError`), and the
+//! exit status of a run (`Status`).
 
 ghost use Rattle.std.specs.Prelude.{◌≡◌};
 ghost use Rattle.tsp_text.specs.declared.fault.ReadFault.TheVariants as read_faults;
@@ -16,14 +16,14 @@ use tsp_read::{ReadError, ReadFault};
 /// Why a run ended early.
 #[derive(Clone, Copy, Debug, PartialEq, Eq, Error)]
 pub enum RunFault {
-    /// A file, counted from 1, is none.
+    /// The file with this number, from 1 on, can't be read, or isn't a valid file.
     File { file: u32, fault: ReadFault },
-    /// Of the checks and of bounds alone: the first file is of TYPE TOUR, POTENTIALS or BRANCHES,
-    /// or of TYPE CVRP where potentials are given.
+    /// Only in checks, comparisons and bounds: the first file is of TYPE TOUR, POTENTIALS or
+    /// BRANCHES, or of TYPE CVRP with potentials as its certificate.
     WrongKind,
     /// The output could not be written.
     Write(WriteFault),
-    /// Of the checks and of bounds alone: out of memory for the judgement.
+    /// Only in checks, comparisons and bounds: out of memory for the judgement.
     OutOfMemory,
     /// Of converting alone: the weights of the file can't go into the layout that is wanted, or
     /// there is no memory for that.
@@ -165,9 +165,9 @@ pub enum Status {
     TooSmall = 6,
 }
 
-/// The exit status of a run: 0 where a solution is accepted, or a file is shown or converted; 1
-/// where one is rejected, or weights can't be put into a layout; 2 where a file has a fault or is
-/// of the wrong kind; 3 where memory ran out; 5 where a device failed.
+/// The exit status of a run: 0 if a solution is accepted, or a file is shown or converted; 1
+/// if one is rejected, or weights can't be put into a layout; 2 if a file has a fault or is
+/// of the wrong kind; 3 if memory ran out; 5 if a device failed.
 pub fn status_of(answer: &Result<bool, RunFault>) -> u8
     ensures { result ≡ status_of answer.now }
 {

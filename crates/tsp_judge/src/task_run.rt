@@ -22,7 +22,7 @@ pub enum Outcome {
     Done,
     /// A solution was judged.
     Judged(Judged),
-    /// The tours of an instance were bounded, or there is a reason against that.
+    /// A bound was found without a solution, or a reason against it.
     Bounded(Bounded),
 }
 
@@ -37,12 +37,13 @@ pub fn is_yes_outcome(outcome: &Outcome) -> bool
     }
 }
 
-/// Does a task on files that are read from these readers, and writes what comes of it. The outcome
-/// has the files that were judged.
+/// Does a task by the run of its verb: reads its files, writes what comes of it.
+///
+/// The outcome has the files that were judged.
 ///
 /// # Errors
 ///
-/// Those of the call of the task's verb.
+/// Those of the run: `show_file`, `convert_file`, `run`, `run_uncertified` or `run_bound`.
 pub fn perform<R: Gives, W: Write>(
     alloc: Global,
     task: &mut FileTask<Watched<R>>,

@@ -18,12 +18,12 @@ use tsp_number::NumberFault;
 use tsp_text::{LineFault, ReadFault};
 
 /// Writes the head of a comparison of solutions of an instance: the lines on the instance; the
-/// bound, or `none` where the instance has no solution; for TYPE CVRP the least number of routes
+/// bound, or `none` if the instance has no solution; for TYPE CVRP the least number of routes
 /// before it. Or `no` with the first reason against the instance or the certificate.
 ///
 /// # Errors
 ///
-/// `Device` where the writer fails, or had failed before: then a prefix of the head was written,
+/// `Device` if the writer fails, or had failed before: then a prefix of the head was written,
 /// and nothing else. No memory is taken, so `OutOfMemory` is never returned.
 pub fn write_head<W: Write>(
     instance: &File,
@@ -99,7 +99,7 @@ fn put_known_bound<W: Write>(
     }
 }
 
-/// Adds the line of a bound, where there is one.
+/// Adds the line of a bound, if there is one.
 fn put_bound_line<W: Write>(piece: &mut Piece, out: &mut Watched<W>, bound: Option<i128>)
     ensures { Puts W.contents out.old piece.old out.new piece.new (known_bound_bound bound) }
 {
@@ -147,7 +147,7 @@ fn put_words<W: Write>(piece: &mut Piece, out: &mut Watched<W>, verdict: Verdict
     }
 }
 
-/// Adds the words on a bound, where there is one.
+/// Adds the words on a bound, if there is one.
 fn put_bound_words<W: Write>(
     piece: &mut Piece,
     out: &mut Watched<W>,

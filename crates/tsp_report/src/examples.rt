@@ -1,5 +1,5 @@
-//! Laws that state values of the definitions in `specs/`, worked out by hand: heads and lines of
-//! comparisons.
+//! Laws that state values of the definitions in `specs/`, worked out by hand: reports, lines of
+//! `tsp show` and `tsp compare`, the files of tasks, and the names of reasons.
 
 ghost use Rattle.std.specs.Fmt.{signed_decimal};
 ghost use Rattle.std.specs.List.{All};
@@ -174,7 +174,7 @@ pub fn examples_of_whole_reports()
         ≡ codes "type CVRP\nnodes 2\nroutes 3\nleast 2\nlength 20\nbound 18\ngap 2\nyes\n" }
 {}
 
-/// Whole reports on the same instance, where its tours are bounded.
+/// Whole reports on the same instance, if its tours are bounded.
 pub fn examples_of_bound_reports()
     ensures bound { bound_report_of matrix (bounds.Bound (pos 12))
         ≡ codes "type TSP\nnodes 2\nnot judged FOO\nnot judged BAR\nbound 12\nyes\n" }

@@ -1,4 +1,4 @@
-//! Writes the report of `tsp check`.
+//! Writes the reports of `tsp check` and `tsp bound`.
 
 ghost use Rattle.std.specs.Prelude.{◌≡◌, ◌++◌, ◌≤◌, ◌^◌, ◌-ℤ◌, Some, map, codes, unsigned_abs};
 ghost use Rattle.tsp_io.specs.Streams.{Writes};
@@ -13,16 +13,17 @@ use tsp_file::File;
 use tsp_format::{Field, Kind, Word};
 use tsp_io::{Piece, Watched, WriteFault, hand_over, put, put_next_number, put_number};
 
-/// Writes the report on a solution of an instance, line by line, by the verdict on it: the lines on
-/// the instance, those on the verdict, `yes` or `no`.
-///
-/// At `Device` a prefix of the report was written, and nothing else. A writer that had failed
-/// before gets nothing. No memory is taken, and `OutOfMemory` is never returned.
+/// Writes the report of a check: lines on the instance, on the verdict, `yes` or `no`.
 ///
 /// # Requires
 ///
-/// A bound of at most 2^126 in size, so that the gap to the length fits 128 bits. A verdict's is at
-/// most 2^100.
+/// A bound of at most 2^126 in size, so that the gap to the length fits 128 bits. That of a verdict
+/// is at most 2^100.
+///
+/// # Errors
+///
+/// `Device` if the writer fails, or had failed before: then a prefix of the report was written, and
+/// nothing else. No memory is taken, so `OutOfMemory` is never returned.
 pub fn write_report<W: Write>(
     instance: &File,
     verdict: Verdict,
@@ -130,7 +131,7 @@ fn put_verdict<W: Write>(piece: &mut Piece, out: &mut Watched<W>, instance: &Fil
     }
 }
 
-/// Adds the lines of a length and of a bound, where there is one, and the line `yes`.
+/// Adds the lines of a length and of a bound, if there is one, and the line `yes`.
 fn put_accepted<W: Write>(piece: &mut Piece, out: &mut Watched<W>, length: i64, bound: Option<i128>)
     requires { IsGapSized bound }
     ensures { Puts W.contents out.old piece.old out.new piece.new (accepted_lines length bound) }
@@ -157,7 +158,7 @@ pub(crate) fn put_no<W: Write>(
     put(piece, out, b"\n");
 }
 
-/// Adds a blank and the first unknown keyword of the instance, where that is the reason, or the word
+/// Adds a blank and the first unknown keyword of the instance, if that is the reason, or the word
 /// of the field that isn't used.
 fn put_keyword<W: Write>(piece: &mut Piece, out: &mut Watched<W>, instance: &File, reason: Reason)
     ensures { Puts W.contents out.old piece.old out.new piece.new
@@ -170,7 +171,7 @@ fn put_keyword<W: Write>(piece: &mut Piece, out: &mut Watched<W>, instance: &Fil
     }
 }
 
-/// Adds a blank and the first keyword, where there is one.
+/// Adds a blank and the first keyword, if there is one.
 fn put_first<W: Write>(piece: &mut Piece, out: &mut Watched<W>, others: &[(Vec<u8>, Vec<u8>)])
     ensures { Puts W.contents out.old piece.old out.new piece.new
         (first_keyword (map (λ line. (line.0.items, line.1.items)) others.now)) }
@@ -189,7 +190,7 @@ fn put_field<W: Write>(piece: &mut Piece, out: &mut Watched<W>, field: Field)
     put(piece, out, field.word().as_bytes());
 }
 
-/// Adds the line of a bound and the line after it, where there is one.
+/// Adds the line of a bound and the line after it, if there is one.
 fn put_bound<W: Write>(piece: &mut Piece, out: &mut Watched<W>, length: i64, bound: Option<i128>)
     requires { IsGapSized bound }
     ensures { Puts W.contents out.old piece.old out.new piece.new (bound_lines length bound) }
@@ -232,7 +233,7 @@ pub(crate) fn put_reason<W: Write>(piece: &mut Piece, out: &mut Watched<W>, reas
     put_after_blank(piece, out, row.numbers.1);
 }
 
-/// Adds a blank and a number, where there is one. A length may be below 0.
+/// Adds a blank and a number, if there is one. A length may be below 0.
 fn put_after_blank<W: Write>(piece: &mut Piece, out: &mut Watched<W>, number: Option<i64>)
     ensures { Puts W.contents out.old piece.old out.new piece.new (after_blank number) }
 {
@@ -244,12 +245,12 @@ fn put_after_blank<W: Write>(piece: &mut Piece, out: &mut Watched<W>, number: Op
 // ---- writes the report of `tsp bound`
 
 /// Writes the report on the bound of an instance, line by line: the lines on the instance; the
-/// bound, or `none` where the instance has no solution, and `yes`; or `no` with the first reason
+/// bound, or `none` if the instance has no solution, and `yes`; or `no` with the first reason
 /// against the instance or the certificate.
 ///
 /// # Errors
 ///
-/// `Device` where the writer fails, or had failed before: then a prefix of the report was written,
+/// `Device` if the writer fails, or had failed before: then a prefix of the report was written,
 /// and nothing else. No memory is taken, so `OutOfMemory` is never returned.
 pub fn write_bound<W: Write>(
     instance: &File,

@@ -22,8 +22,10 @@ use tsp_io::{Piece, Watched, WriteFault, hand_over, put};
 /// Writes the lines of `show`: a file's NAME, its TYPE, the number of its nodes, and the rest of
 /// its contents.
 ///
-/// At `Device` a prefix of the lines was written, and nothing else. A writer that had failed before
-/// gets nothing. No memory is taken, and `OutOfMemory` is never returned.
+/// # Errors
+///
+/// `Device` if the writer fails, or had failed before: then a prefix of the lines was written, and
+/// nothing else. No memory is taken, so `OutOfMemory` is never returned.
 pub fn write_shown<W: Write>(file: File, out: &mut Watched<W>) -> Result<(), WriteFault>
     ensures { Writes (sink_of W.contents out.old out.new) (shown file) result }
 {
@@ -70,7 +72,7 @@ fn put_rest<W: Write>(piece: &mut Piece, out: &mut Watched<W>, file: File)
     }
 }
 
-/// Adds the line of NAME, where it has a value that isn't empty.
+/// Adds the line of NAME, if it has a value that isn't empty.
 fn put_name<W: Write>(piece: &mut Piece, out: &mut Watched<W>, name: Option<&[u8]>)
     ensures { Puts W.contents out.old piece.old out.new piece.new
         (name_line (option_map (λ value. value.now) name.entry)) }
@@ -86,7 +88,7 @@ fn put_name<W: Write>(piece: &mut Piece, out: &mut Watched<W>, name: Option<&[u8
     put(piece, out, b"\n");
 }
 
-/// Adds the line of DIMENSION, where it is present.
+/// Adds the line of DIMENSION, if it is present.
 fn put_dimension<W: Write>(piece: &mut Piece, out: &mut Watched<W>, dimension: Option<u32>)
     ensures { Puts W.contents out.old piece.old out.new piece.new
         (option_map_or nodes_line dimension []) }
@@ -121,7 +123,7 @@ fn put_weights<W: Write>(
     put(piece, out, b"\n");
 }
 
-/// Adds a blank and the word of the layout, where the weights are listed.
+/// Adds a blank and the word of the layout, if the weights are listed.
 fn put_layout<W: Write>(
     piece: &mut Piece,
     out: &mut Watched<W>,
@@ -137,7 +139,7 @@ fn put_layout<W: Write>(
     put_word(piece, out, format);
 }
 
-/// Adds the word of a value, where it is present.
+/// Adds the word of a value, if it is present.
 fn put_word<W: Write, V: Word>(piece: &mut Piece, out: &mut Watched<W>, value: Option<V>)
     ensures { Puts W.contents out.old piece.old out.new piece.new (option_map_or V.text value []) }
 {
@@ -154,7 +156,7 @@ fn put_canonical<W: Write>(piece: &mut Piece, out: &mut Watched<W>, length: i64)
     put(piece, out, b"\n");
 }
 
-/// Adds the line of the number of fixed pairs, where a section lists them.
+/// Adds the line of the number of fixed pairs, if a section lists them.
 fn put_fixed<W: Write>(piece: &mut Piece, out: &mut Watched<W>, pairs: Option<&[(u32, u32)]>)
     ensures { Puts W.contents out.old piece.old out.new piece.new
         (fixed_line (option_map (λ pairs. pairs.now) pairs.entry)) }
@@ -209,7 +211,7 @@ fn put_tour<W: Write>(piece: &mut Piece, out: &mut Watched<W>, number: usize, to
     put(piece, out, b"\n");
 }
 
-/// Adds the line of SCALE, which is 1 where it is missing.
+/// Adds the line of SCALE, which is 1 if it is missing.
 fn put_scale<W: Write>(piece: &mut Piece, out: &mut Watched<W>, scale: Option<i64>)
     ensures { Puts W.contents out.old piece.old out.new piece.new (scale_line scale) }
 {
@@ -217,7 +219,7 @@ fn put_scale<W: Write>(piece: &mut Piece, out: &mut Watched<W>, scale: Option<i6
     put(piece, out, b"\n");
 }
 
-/// Adds the line of LOAD_UNIT, where it is present.
+/// Adds the line of LOAD_UNIT, if it is present.
 fn put_load_unit<W: Write>(piece: &mut Piece, out: &mut Watched<W>, unit: Option<i64>)
     ensures { Puts W.contents out.old piece.old out.new piece.new (load_unit_line unit) }
 {
@@ -248,7 +250,7 @@ fn put_parts<W: Write>(piece: &mut Piece, out: &mut Watched<W>, file: &File)
     put_rows(piece, out, file.subset_rows());
 }
 
-/// Adds the line of the number of families, where a section lists them.
+/// Adds the line of the number of families, if a section lists them.
 fn put_families<W: Write>(
     piece: &mut Piece,
     out: &mut Watched<W>,
@@ -263,7 +265,7 @@ fn put_families<W: Write>(
     }
 }
 
-/// Adds the line of the number of lists of a memory, where a section has them.
+/// Adds the line of the number of lists of a memory, if a section has them.
 fn put_memory<W: Write>(piece: &mut Piece, out: &mut Watched<W>, lists: Option<&[Vec<u32>]>)
     ensures { Puts W.contents out.old piece.old out.new piece.new
         (memory_line (option_map (λ lists. map (λ list. list.items) lists.now) lists.entry)) }
@@ -274,7 +276,7 @@ fn put_memory<W: Write>(piece: &mut Piece, out: &mut Watched<W>, lists: Option<&
     }
 }
 
-/// Adds the line of the number of subset rows, where a section lists them.
+/// Adds the line of the number of subset rows, if a section lists them.
 fn put_rows<W: Write>(piece: &mut Piece, out: &mut Watched<W>, rows: Option<&[RowSets]>)
     ensures { Puts W.contents out.old piece.old out.new piece.new
         (rows_line (option_map (λ rows. subset_rows_of rows.now) rows.entry)) }

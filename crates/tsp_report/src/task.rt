@@ -1,5 +1,5 @@
-//! A task: a verb with its options and files. tsp_cli makes one of a command line, tsp_cli opens
-//! its files, tsp_judge does it; tsp_c makes one to explain.
+//! A task: a verb with its options and files. A file is a place, a reader or a name, since tsp_cli
+//! opens the files of a task before tsp_judge does it.
 
 ghost use Rattle.std.specs.Fn.{FnReturnsAt};
 ghost use Rattle.std.specs.Prelude.{◌≡◌, option_map};
@@ -26,13 +26,13 @@ pub enum FileTask<F> {
     Show {
         file: F,
     },
-    /// Write a file anew, its matrix in this layout where one is named.
+    /// Write a file anew, its matrix in this layout if one is named.
     Convert {
         file: F,
         layout: Option<Layout>,
     },
-    /// Judge the solution of an instance, with this length where one is claimed, and bound every
-    /// tour by the certificate where one is named. With `strict`, lines of the instance that aren't
+    /// Judge the solution of an instance, with this length if one is claimed, and bound every
+    /// tour by the certificate if one is named. With `strict`, lines of the instance that aren't
     /// judged are a reason.
     Check {
         instance: F,
@@ -56,7 +56,7 @@ pub enum FileTask<F> {
 pub struct Comparison<'a, F> {
     /// The instance.
     pub instance: F,
-    /// The certificate, where one is named.
+    /// The certificate, if one is named.
     pub certificate: Option<(CertificateKind, F)>,
     /// The paths of the solutions, one at least, in the order in which they are judged.
     pub solutions: &'a [String],
@@ -65,9 +65,10 @@ pub struct Comparison<'a, F> {
 }
 
 impl<'a, F> Task<'a, F> {
-    /// The file with this number, counted from 1 in the order in which they are read, and what it
-    /// is given for where that matters; or `None` where fewer are read. Solutions that are compared
-    /// have no number.
+    /// The file with this number, and its role; `None` if the task has fewer files.
+    ///
+    /// Files count from 1, in the order in which they are read. Without a role, any TYPE will do.
+    /// Solutions that are compared have no number.
     pub fn file(&self, number: u32) -> Option<(Option<Role>, &F)>
         ensures { option_map (λ file. (file.0, file.1.now)) result
             ≡ numbered number (files_of_task self.now) }
@@ -91,8 +92,9 @@ impl<'a, F> Task<'a, F> {
 }
 
 impl<F> FileTask<F> {
-    /// The file with this number, counted from 1 in the order in which they are read, and what it
-    /// is given for where that matters; or `None` where the task reads fewer.
+    /// The file with this number, and its role; `None` if the task has fewer files.
+    ///
+    /// Files count from 1, in the order in which they are read. Without a role, any TYPE will do.
     pub fn file(&self, number: u32) -> Option<(Option<Role>, &F)>
         ensures { option_map (λ file. (file.0, file.1.now)) result
             ≡ numbered number (files_of self.now) }
@@ -121,7 +123,7 @@ impl<F> FileTask<F> {
         }
     }
 
-    /// The same task on what `map` gives for each file.
+    /// The same task, with each file replaced by what `map` makes of it.
     pub fn map<G, M: Fn(&F) -> G>(&self, map: M) -> FileTask<G>
         requires { M.IsAlwaysCallable map }
         ensures { IsMapped (FnReturnsAt M.Fn map) self.now result }
@@ -162,7 +164,7 @@ impl<F> FileTask<F> {
 
 impl<'a, F> Comparison<'a, F> {
     /// The file with this number, counted from 1, and what it is given for: the instance, or the
-    /// certificate where one is named.
+    /// certificate if one is named.
     pub fn file(&self, number: u32) -> Option<(Option<Role>, &F)>
         ensures { option_map (λ file. (file.0, file.1.now)) result
             ≡ numbered number (files_compared self.now) }

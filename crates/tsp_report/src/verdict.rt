@@ -8,7 +8,7 @@ ghost use Rattle.tsp_report.specs.declared.task.Role.TheVariants.{Potentials};
 use crate::task::Role::{self, Branches, Instance, Potentials, Solution};
 use tsp_format::Field;
 
-/// Why a solution is refused, in the order in which reasons are judged.
+/// Why a solution is rejected, or why there is no bound, in the order in which reasons are judged.
 ///
 /// Places, routes, fixed pairs, multipliers, families, branches and leaves count from 1: places
 /// through all tours of the solution, one after the other, branches and leaves through their
@@ -17,7 +17,7 @@ use tsp_format::Field;
 pub enum Reason {
     /// The solution is not a file of TYPE TOUR.
     NotASolution,
-    /// The instance has fewer than 3 nodes, or fewer than 2 where routes are judged.
+    /// The instance has fewer than 3 nodes, or fewer than 2 if routes are judged.
     TooFewNodes,
     /// The instance is of TYPE TSP, and this is the first pair, the smaller node first, by rows,
     /// whose two costs differ.
@@ -70,19 +70,23 @@ pub enum Reason {
     NotBranches,
     /// The certificate by branching has a DIMENSION other than that of the instance.
     BranchesDimension,
-    /// This family is the first one that isn't good: it has a node twice in a set, or is neither a
-    /// lone set nor a comb and has more than 63 sets, or sets that divide the nodes into more than
-    /// 14 parts, or into one.
+    /// This family is the first one that isn't good. For tours it has a node twice in a set, or is
+    /// neither a lone set nor a comb and has more than 63 sets, or sets that divide the nodes into
+    /// more than 14 parts, or into one. For routes it isn't a single set of customers, each once.
+    ///
+    /// Reports call it `BadComb`, as they did when combs were the only families.
     BadFamily { index: u32 },
-    /// This branch is the first one of the wrong kind: on a family where tours are judged, or where
+    /// This branch is the first one of the wrong kind: on a family if tours are judged, or if
     /// routes are judged on something else than one of the certificate's families.
     BadBranch { index: u32 },
     /// This branch is the first one whose pair is decided above it or fixed: for a TSP in either
     /// direction, for an ATSP the same arc.
     BranchTwice { index: u32 },
     /// This leaf is the first one that isn't good: it has an index past those of the nodes and the
-    /// families, a potential above 10^15 in size, a negative multiplier, or multipliers that sum to
-    /// more than 9 * 10^17, each times the most sets of its family that two nodes cross.
+    /// families, a potential above 10^15 in size, or multipliers that are too large. For tours
+    /// these are at least 0 and sum to at most 9 * 10^17, each times the most sets of its family
+    /// that two nodes cross. For routes they may be negative, and their sizes sum to at most 3 *
+    /// 10^17.
     BadLeaf { index: u32 },
     /// Routes are judged, and the number of nodes times one more than the capacity, which is
     /// counted in loads, is more than 10^7.
@@ -99,14 +103,14 @@ pub enum Reason {
 /// applies.
 #[derive(Clone, Copy, Debug, PartialEq, Eq)]
 pub enum Verdict {
-    /// Accepted: the solution is a tour of this length. Where a certificate was judged too, no tour
+    /// Accepted: the solution is a tour of this length. If a certificate was judged too, no tour
     /// of the instance is shorter than the bound.
     Tour {
         length: i64,
         bound: Option<i128>,
     },
     /// Accepted: the solution is a plan of this many routes, of this length in all. No plan of the
-    /// instance has fewer than `least` routes. Where a certificate was judged too, no plan whose
+    /// instance has fewer than `least` routes. If a certificate was judged too, no plan whose
     /// routes each have a customer is shorter than the bound.
     Routes {
         length: i64,
@@ -136,9 +140,10 @@ impl Verdict {
 /// The verdict on an instance with a certificate, without a solution.
 #[derive(Clone, Copy, Debug, PartialEq, Eq)]
 pub enum BoundVerdict {
-    /// Accepted: no tour of the instance is shorter than this bound.
+    /// Accepted: no tour of the instance is shorter than this bound, or for a CVRP no plan whose
+    /// routes each have a customer.
     Bound(i128),
-    /// Accepted: the instance has no tour.
+    /// Accepted: the instance has no tour, or for a CVRP no such plan.
     NoSolution,
     /// Rejected, with the first reason that applies to the instance or the certificate.
     No(Reason),
@@ -164,12 +169,13 @@ impl BoundVerdict {
 /// What is known of all solutions of an instance, before any is read.
 #[derive(Clone, Copy, Debug, PartialEq, Eq)]
 pub enum KnownBound {
-    /// Tours are judged. No tour of the instance is shorter than the bound, where there is one.
+    /// Tours are judged. No tour of the instance is shorter than the bound, if there is one.
     Tours { bound: Option<i128> },
-    /// The certificate shows that the instance has no tour.
+    /// The certificate shows that the instance has no tour, or no plan whose routes each have a
+    /// customer.
     NoSolution,
     /// Routes are judged. No plan of the instance has fewer than `least` routes, and none whose
-    /// routes each have a customer is shorter than the bound, where there is one.
+    /// routes each have a customer is shorter than the bound, if there is one.
     Routes { least: u64, bound: Option<i128> },
     /// No solution is accepted, with the first reason that applies to the instance or the
     /// certificate.
@@ -207,7 +213,7 @@ pub struct ReasonRow {
     pub numbers: (Option<i64>, Option<i64>),
 }
 
-/// The row of a reason.
+/// The name, rank, file and numbers of a reason, as reports print them.
 pub fn row_of_reason(reason: Reason) -> ReasonRow
     ensures name { result.name.now ≡ (row_of_reason reason).name }
     ensures rank { result.rank ≡ (row_of_reason reason).rank }

@@ -9,7 +9,7 @@ use std::test::Fail;
 use tsp_bound::{Multipliers, OneTree, Potentials, one_tree};
 use tsp_cost::{Costs, Symmetric};
 
-/// The 1-tree under potentials, where there is one for each of three or more nodes.
+/// The 1-tree under potentials, if there is one for each of three or more nodes.
 fn tree_under<C: Symmetric>(
     alloc: Global,
     costs: &C,

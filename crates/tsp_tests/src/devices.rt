@@ -106,7 +106,7 @@ pub enum Refusal {
     Error(ErrorKind),
 }
 
-/// A writer that takes a few bytes a call, and refuses at one call. Where it refuses by an error,
+/// A writer that takes a few bytes a call, and refuses at one call. If it refuses by an error,
 /// each flush answers that error too.
 #[derive(Drop)]
 pub struct Drip {

@@ -29,7 +29,7 @@ fn matrix_is_right(alloc: Global) -> Result<bool, AllocError> {
         return Ok(false);
     };
     let traced = have_lengths(alloc, &instance);
-    // Where memory was refused to that, it is to these calls too, and they have to answer all the
+    // If memory was refused to that, it is to these calls too, and they have to answer all the
     // same.
     let viewed = has_matrix(&instance);
     let handed_back = is_handed_back(instance, Kind::Atsp);

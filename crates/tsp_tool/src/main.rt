@@ -27,7 +27,7 @@ fn main(rt: HostRuntime) -> ExitCode {
         counts: errors.is_terminal() && !rt.stdout().is_terminal(),
         build: BUILD,
     };
-    // Where the reason can't be written, only the status reports it.
+    // If the reason can't be written, only the status reports it.
     let (status, _) = match words_of_line(&rt) {
         Ok(line) => {
             let _ = tell_waiting(&line, rt.stdin().is_terminal(), &mut errors);
@@ -82,7 +82,7 @@ impl Open<InputFile<Stdin, File>> for Host<'_> {
 
 /// The file at a path, opened to be read, under another number than a standard stream has.
 ///
-/// Where a standard stream was closed before the program started, the system gives its number to
+/// If a standard stream was closed before the program started, the system gives its number to
 /// the next file. That file would then be read as standard input.
 fn opened(rt: &HostRuntime, path: &str) -> io::Result<File>
     ensures { IfOk result IsBesideStreams }

@@ -14,7 +14,7 @@ use tsp_file::File;
 use tsp_report::{CertificateKind, Verdict};
 
 /// The verdict on a solution of an instance of TYPE TSP or ATSP: rejected with the first reason
-/// against it, or accepted, where the solution is one tour of the instance, with its length.
+/// against it, or accepted, if the solution is one tour of the instance, with its length.
 ///
 /// A tour has each node of the instance once and uses every fixed pair (TSPLIB 95): as neighbours
 /// in either direction, under TYPE ATSP from the pair's first to its second node. The reasons are
@@ -38,7 +38,7 @@ pub fn judge_tour(alloc: Global, inst: &Instance, sol: &File) -> Result<Verdict,
 }
 
 /// The verdict on a solution of an instance of TYPE CVRP: rejected with the first reason against
-/// it, or accepted, where its tours are a plan of routes, with their length and number.
+/// it, or accepted, if its tours are a plan of routes, with their length and number.
 ///
 /// A plan's routes hold each node other than the depot exactly once and nothing else, and the
 /// demands of each sum to at most the capacity (TSPLIB 95). Each route goes from the depot through

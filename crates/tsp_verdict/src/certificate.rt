@@ -1,4 +1,6 @@
-//! The bound that a certificate gives tours, by its kind, and which instances it can be for.
+//! The bound that a certificate gives the tours of an instance, and which TYPEs it can be for. A
+//! tree of cases is judged here, with the fixed pairs as decisions of all its cases; potentials in
+//! `potentials_certificate.rt`, and the trees of a CVRP in `routes.rt`.
 
 ghost use Rattle.tsp_verdict.specs.Prelude.{Some, IfOk, IsOk, IsErr, true, MatchResult, nodes_of, is_branches_file, HoldsCases, take_pairs};
 ghost use Rattle.std.specs.Prelude.{◌≡◌, ◌⊎◌, ◌≤◌};
@@ -25,7 +27,7 @@ use tsp_format::Kind;
 use tsp_io::{Refused, insert, push};
 use tsp_report::{BoundVerdict, CertificateKind, Reason};
 
-/// Whether tours or routes of instances of this TYPE have a bound by a certificate.
+/// Whether a certificate can bound the solutions of instances of this TYPE.
 pub fn is_bounded(by: CertificateKind, kind: Kind) -> bool
     ensures { result ≡ is_bounded by (Some kind) }
 {
@@ -37,8 +39,9 @@ pub fn is_bounded(by: CertificateKind, kind: Kind) -> bool
     }
 }
 
-/// The bound that a certificate gives tours, or that the instance has no tour; or the first reason
-/// against it. Of duals no memory is taken.
+/// The bound of the tours by a certificate, or the first reason against it.
+///
+/// Or that the instance has no tour. Duals take no memory.
 ///
 /// # Errors
 ///
@@ -108,7 +111,11 @@ fn tour_tree_bound(
     }
 }
 
-/// The tree that a certificate holds, or the first reason that needs no look at it.
+/// The tree that a certificate holds.
+///
+/// # Errors
+///
+/// `NotBranches` or `BranchesDimension`: the reasons that show before the tree is looked at.
 pub(crate) fn tree_of<'a>(instance: &Instance, branches: &'a File) -> Result<TreeData<'a>, Reason>
     ensures { MatchResult result (λ tree. (is_branches_file branches.now.kind ≡ true)
         × (nodes_of branches.now ≡ nodes_of instance.now)
@@ -182,7 +189,7 @@ fn judge_tour_tree<C: Costs>(
 
 // ---- the fixed pairs of an instance as decisions of all cases, each once
 
-/// Pairs as decisions that take them, each once: without those that are an earlier one; where pairs
+/// Pairs as decisions that take them, each once: without those that are an earlier one; if pairs
 /// have no direction, in either.
 ///
 /// # Errors
@@ -210,7 +217,7 @@ fn taken_once(alloc: Global, directed: bool, pairs: &[(u32, u32)]) -> Result<Vec
 
 // ---- a pair of nodes as the key of a set of pairs
 
-/// A pair as a set of pairs has it: as it is, or with its smaller node first where pairs have no
+/// A pair as a set of pairs has it: as it is, or with its smaller node first if pairs have no
 /// direction.
 pub(crate) fn key_of(directed: bool, pair: (u32, u32)) -> (u32, u32)
     ensures { result ≡ key_of directed pair }

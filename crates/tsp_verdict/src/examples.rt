@@ -1,5 +1,5 @@
-//! Laws that state values of the definitions in `specs/`, worked out by hand: the verdict on a
-//! solution with a claimed length, and fixed arcs as decisions.
+//! Laws that state values of the definitions in `specs/`, worked out by hand: which reasons apply
+//! to small instances, tours, routes and certificates, in which order, and with which bounds.
 
 ghost use Rattle.tsp_verdict.specs.Prelude.{[], None, Some, pos, negsuc, ℕ, Option, ℤ, Branch, Leaf, cost, scale_in, Fields, nodes_of, IsAdjustedBound, entry, is_directed, depot_of, capacity_of, routing_of, IsPlanOf, decided_number, IsLeastRoutes, plan_length, CertificateKind};
 ghost use Rattle.std.specs.Prelude.{◌≡◌, ◌∷◌, ◌+◌, ◌*◌, ◌<◌, ◌+ℤ◌, ◌*ℤ◌, ◌<ℤ◌};

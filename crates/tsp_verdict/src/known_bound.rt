@@ -1,5 +1,6 @@
-//! The known bound of all solutions of an instance, before any is read: their bounds, or the reason
-//! against all.
+//! What holds for all solutions of an instance: a bound, or the reason against all of them. It is
+//! known before any solution is read (`judge_known_bound`), and is all that `tsp bound` asks for
+//! (`judge_bound`).
 
 ghost use Rattle.tsp_verdict.specs.Prelude.{IsTrue, None, Some, MatchResult, option_map, Fields, nodes_of, capacity_of, IsLeastRoutes, CertificateKind};
 ghost use Rattle.std.specs.Prelude.{◌≡◌, ◌⊎◌, ◌≤◌};
@@ -22,12 +23,12 @@ use tsp_format::Kind;
 use tsp_io::Refused;
 use tsp_report::{BoundVerdict, CertificateKind, KnownBound, Reason};
 
-/// What is known of all solutions of an instance, before any is read.
+/// The bound of all solutions of an instance, or the reason against all of them.
 ///
-/// That is the first reason that applies whatever the solution: `TooFewNodes` and `NotSymmetric` of
-/// tours, or `TooFewNodes`, `DepotCount`, `DepotDemand` and `FixedEdgesInRoutes` of routes, or one
-/// against the certificate. Where none applies, it is the bound of the certificate, as of
-/// [`judge_bound`], and for TYPE CVRP the least number of routes too.
+/// The reason is the first that applies whatever the solution: `TooFewNodes` and `NotSymmetric` for
+/// tours, or `TooFewNodes`, `DepotCount`, `DepotDemand` and `FixedEdgesInRoutes` for routes, or one
+/// against the certificate. If none applies, the bound is that of the certificate, as
+/// [`judge_bound`] finds it, along with the least number of routes for TYPE CVRP.
 ///
 /// # Requires
 ///
@@ -232,7 +233,11 @@ fn routes_bound(
     }
 }
 
-/// The costs of an instance, or the first reason against it, whatever the tour.
+/// The costs of an instance whose tours are judged.
+///
+/// # Errors
+///
+/// `TooFewNodes` or `NotSymmetric`, which apply whatever the tour.
 pub(crate) fn costs_of_tours(instance: &Instance) -> Result<TourCosts<'_>, Reason>
     requires { (instance.now.kind ≡ Some kinds.Tsp) ⊎ (instance.now.kind ≡ Some kinds.Atsp) }
     ensures { MatchResult result

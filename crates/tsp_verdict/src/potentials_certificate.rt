@@ -32,8 +32,7 @@ struct NodeNumbers<'a> {
     triples: &'a [(u32, u32, i64)],
 }
 
-/// The bound that the potentials of nodes give an instance of TYPE TSP, or the first reason against
-/// the certificate.
+/// The bound of a TSP by potentials of nodes, or the first reason against them.
 ///
 /// # Errors
 ///
@@ -104,7 +103,7 @@ fn first_against_file(inst: &Instance, pot: &File) -> Option<Reason>
     None
 }
 
-/// The duals that a certificate holds; none where it holds none.
+/// The duals that a certificate holds; none if it holds none.
 fn duals_of(pot: &File) -> Option<Duals<'_>>
     requires { pot.now.kind ≡ Some kinds.Potentials }
     ensures { MatchOption result
@@ -116,7 +115,7 @@ fn duals_of(pot: &File) -> Option<Duals<'_>>
     Duals::new(held.scale, held.rows, held.columns)
 }
 
-/// The potentials of nodes that a certificate holds; none where it holds none.
+/// The potentials of nodes that a certificate holds; none if it holds none.
 fn node_numbers(pot: &File) -> Option<NodeNumbers<'_>>
     requires { pot.now.kind ≡ Some kinds.Potentials }
     ensures { MatchOption result
@@ -133,12 +132,12 @@ fn node_numbers(pot: &File) -> Option<NodeNumbers<'_>>
     })
 }
 
-/// The first reason against the multipliers of a certificate of an instance of TYPE TSP. Where no
+/// The first reason against the multipliers of a certificate of an instance of TYPE TSP. If no
 /// reason applies to them, they are on different pairs, each of which is fixed.
 ///
 /// # Errors
 ///
-/// Out of memory for the fixed pairs and for those of the multipliers; none is taken where there
+/// Out of memory for the fixed pairs and for those of the multipliers; none is taken if there
 /// are no multipliers.
 fn first_against_multipliers(
     alloc: Global,

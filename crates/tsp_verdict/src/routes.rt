@@ -1,5 +1,5 @@
-//! The verdict on routes: the first reason against the instance or the plan, or its number of
-//! routes and its length.
+//! The verdict on the routes of a CVRP: the first reason against the instance or the plan, or how
+//! many routes there are and how long they are. Also the bound that a tree of cases gives routes.
 
 ghost use Rattle.tsp_verdict.specs.Prelude.{All, length, pos, Some, MatchOption, MatchResult, ℕ, true, false, vec_len, slice_index_or, map, IfOk, IsErr, most_nodes, most_tour_nodes, most_capacity, IsNode, nodes_to, cost, HoldsCases, nodes_of, is_branches_file, IsFromTo, length_of, demand_of, load_of, IsLeastRoutes, plan_length, demands_of, depots_of, depot_of};
 ghost use Rattle.std.specs.Prelude.{◌≡◌, ◌≤◌, ◌≢◌, ◌+◌, ◌^◌, ◌<◌, ◌≤ℤ◌, ◌∷◌};
@@ -24,8 +24,10 @@ use tsp_routing::{PlanTree, PlanVerdict, judge_plans};
 /// The fewest nodes of an instance whose routes are judged.
 pub(crate) const FEWEST_NODES_OF_ROUTES: u32 = 2;
 
-/// The first reason against the routes of a CVRP, in the order that [`Reason`] says; or their
-/// number, the least number, and their length.
+/// Judges the routes of a CVRP: their length, or the first reason against them.
+///
+/// Reasons are judged in the order of [`Reason`]. Accepted routes come with their number, and with
+/// the least number of routes that any plan has.
 ///
 /// # Errors
 ///
@@ -322,8 +324,9 @@ fn route_length(inst: &Instance, depot: u32, route: &[u32]) -> i64
 
 // ---- the bound that a tree of cases gives routes, or the first reason against it
 
-/// The bound that a certificate by branching gives an instance of TYPE CVRP, or that it has no plan
-/// whose routes each have a customer; or the first reason against the certificate.
+/// The bound of the routes by a tree of cases, or the first reason against it.
+///
+/// Or that the instance, of TYPE CVRP, has no plan whose routes each have a customer.
 ///
 /// # Errors
 ///

@@ -1,5 +1,5 @@
-//! The verdict on a solution, by a certificate or by the known bound of all solutions, and by a claimed
-//! length, if any.
+//! The verdict on a solution, with a certificate or with a bound that is known already, and with a
+//! claimed length, if any. Also `--strict`: verdicts and bounds if unknown keywords are a reason.
 
 ghost use Rattle.tsp_verdict.specs.Prelude.{IsTrue, MatchResult, Option, option_map, true, false, None, Some, MatchOption, Fields, CertificateKind, Verdict};
 ghost use Rattle.std.specs.Prelude.{◌≡◌};
@@ -23,7 +23,7 @@ use tsp_report::{BoundVerdict, CertificateKind, KnownBound, Reason, Verdict};
 /// The verdict on a solution of an instance: on a tour, or for TYPE CVRP on routes.
 ///
 /// The reasons of [`crate::judge_tour`] or of [`crate::judge_routes`] are judged first. Then a
-/// length that is claimed has to be that of the solution, and is refused with `LengthClaimed` where
+/// length that is claimed has to be that of the solution, and is refused with `LengthClaimed` if
 /// it isn't. The reasons against a certificate are judged last.
 ///
 /// # Requires
@@ -85,11 +85,11 @@ pub fn judge_next(
 
 // ---- what a solution is judged by: an instance with a certificate, or with a known bound
 
-/// What solutions are judged by: an instance, and a certificate of a bound, where one is given, or
+/// What solutions are judged by: an instance, and a certificate of a bound, if one is given, or
 /// what is known of all solutions by the two.
 ///
-/// The verdict is the same either way. Where it is known, neither the costs of the instance nor the
-/// certificate are judged again. Where it isn't, the certificate is judged after the solution.
+/// The verdict is the same either way. If it is known, neither the costs of the instance nor the
+/// certificate are judged again. If it isn't, the certificate is judged after the solution.
 #[derive(Clone, Copy)]
 pub(crate) struct JudgeInput<'a> {
     pub(crate) instance: &'a Instance,
@@ -106,7 +106,7 @@ impl<'a> JudgeInput<'a> {
     ghost use Rattle.tsp_verdict.specs.Solutions.{NoneOfTourBeforeRepeats};
     ghost use Rattle.tsp_verdict.specs.states.TourKnownBounds.{IsJudgeInput, IsVerdictGiven, IsKnownBoundGiven, IsTourKnownBound};
 
-    /// The verdict on a solution: on a tour, or for TYPE CVRP on routes. Where a length is claimed,
+    /// The verdict on a solution: on a tour, or for TYPE CVRP on routes. If a length is claimed,
     /// a solution of another length is rejected with `LengthClaimed`: after all other reasons
     /// against the solution, and before those against the certificate.
     ///
@@ -272,7 +272,7 @@ impl<'a> JudgeInput<'a> {
 /// The origin of the bound of a verdict.
 #[derive(Clone, Copy)]
 pub(crate) enum BoundOrigin<'a> {
-    /// A certificate, where there is one. It is judged after the solution.
+    /// A certificate, if there is one. It is judged after the solution.
     Certificate(Option<(CertificateKind, &'a File)>),
     /// What is known of all solutions, which was found before.
     KnownBound(KnownBound),
@@ -329,7 +329,7 @@ fn tour_verdict(known_bound: KnownBound, length: i64) -> Verdict
 
 // ---- whether the claimed length of a solution is another one than its own
 
-/// The length of an accepted solution, or `None` where it is rejected.
+/// The length of an accepted solution, or `None` if it is rejected.
 fn length_in(verdict: Verdict) -> Option<i64>
     ensures { MatchOption result (HasNoLength verdict) (λ length. HasLength verdict length) }
 {

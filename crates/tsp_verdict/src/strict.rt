@@ -37,7 +37,7 @@ pub fn strict_verdict(strict: bool, instance: &Instance, verdict: Verdict) -> Ve
     }
 }
 
-/// The bound of an instance, or the first reason against it, in the same way.
+/// The bound of an instance, or the reason against it, with `strict` as in [`strict_verdict`].
 pub fn strict_bound(strict: bool, instance: &Instance, found: BoundVerdict) -> BoundVerdict
     ensures { result ≡ strict_bound (strict_reason strict instance.now) found }
 {
@@ -49,7 +49,7 @@ pub fn strict_bound(strict: bool, instance: &Instance, found: BoundVerdict) -> B
     }
 }
 
-/// What is known of all solutions of an instance, in the same way.
+/// What is known of all solutions of an instance, with `strict` as in [`strict_verdict`].
 pub fn strict_known_bound(strict: bool, instance: &Instance, known_bound: KnownBound) -> KnownBound
     ensures { result ≡ strict_known_bound (strict_reason strict instance.now) known_bound }
 {
@@ -146,8 +146,8 @@ fn is_explicit(instance: &Draft) -> bool
 
 // ---- laws
 
-/// With `strict`, every line of the instance is judged where a solution is accepted, where the
-/// instance has a bound, and where solutions are judged one by one; and what is said then is said
+/// With `strict`, every line of the instance is judged if a solution is accepted, if the
+/// instance has a bound, and if solutions are judged one by one; and what is said then is said
 /// without `strict` too.
 pub fn strict_yes_leaves_nothing_unjudged()
     ensures verdict { (instance : Fields) (plain : Verdict)
@@ -206,7 +206,7 @@ pub fn examples_of_fields_in_use()
     ensures by_function { leaves_unused (weighing weight_kinds.Ceil2d (Some formats.ByFunction)) fields.EdgeWeightFormatKey ≡ false }
 {}
 
-/// What becomes of verdicts, bounds and known bounds where there is such a reason. A reason that was
+/// What becomes of verdicts, bounds and known bounds if there is such a reason. A reason that was
 /// found before stays.
 ///
 /// No code calls it: it evaluates the definitions of `specs/Strict.antt` on examples.

@@ -1,4 +1,6 @@
-//! The tour of a solution, the reasons that its nodes show, and the costs of an instance of tours.
+//! The parts of a verdict on a tour: the one tour of a solution, the reasons against its nodes, the
+//! first fixed pair that it misses, and the costs of the instance. `routes.rt` shares the searches
+//! for a place in a list of nodes, and `routing`, the depot, demands and capacity of a CVRP.
 
 ghost use Rattle.tsp_verdict.specs.Prelude.{All, [], length, Some, MatchOption, MatchResult, ℕ, List, vec_len, IfOk, slice_index_or, MatchBool, false, pos, most_capacity, IsNode, cost, nodes_of, is_tour_file, IsFromTo, IsFirstAsymmetric, IsCycle, Uses, is_directed, depots_of, demands_of, capacity_of, FixedEdgeUnused, TourCount};
 ghost use Rattle.std.specs.Bool.{OnTrue};
@@ -51,7 +53,7 @@ pub(crate) fn the_tour<'a>(
     Ok(tour.as_slice())
 }
 
-/// The first reason that the nodes of a tour show, whatever is fixed.
+/// The first reason against the nodes of a tour: one out of range, or repeated.
 ///
 /// # Errors
 ///
@@ -85,7 +87,11 @@ pub(crate) fn first_against_nodes(
     }
 }
 
-/// The costs of an instance, or under TYPE TSP the first pair of nodes whose two costs differ.
+/// The costs of an instance of TYPE TSP or ATSP.
+///
+/// # Errors
+///
+/// For TYPE TSP, the first pair of nodes whose two costs differ.
 pub(crate) fn tour_costs(inst: &Instance) -> Result<TourCosts<'_>, (u32, u32)>
     requires { (inst.now.kind ≡ Some kinds.Tsp) ⊎ (inst.now.kind ≡ Some kinds.Atsp) }
     ensures { MatchResult result
@@ -114,9 +120,10 @@ pub(crate) fn is_directed(kind: Kind) -> bool
 
 // ---- the first place of a list of nodes with a repeated, a too large or a sought node
 
-/// Whether each node is at most n and at one place alone. Where memory was refused, the answer is
-/// `false` too.
-// (one pass with no places: almost every list passes it, and of the others the place is sought)
+/// Whether each node is at most n and comes only once; `false` also if memory was refused.
+///
+/// This is the quick test, which almost every tour passes. If it fails, the caller looks for the
+/// place.
 fn are_different(alloc: Global, nodes: &[u32], n: u32) -> bool
     ensures { OnTrue result (All (λ node. node ≤ n) nodes.now
         × HoldsAtNone (IsAtEarlierPlace nodes.now) (length nodes.now)) }
@@ -221,7 +228,7 @@ pub(crate) fn mark(seen: &mut Vec<bool>, nodes: &[u32]) -> Option<u32>
 ///
 /// # Errors
 ///
-/// Out of memory for a number for each node, where a pair is fixed.
+/// Out of memory for a number for each node, if a pair is fixed.
 pub(crate) fn first_unused_by(
     alloc: Global,
     cycle: &[u32],
@@ -309,7 +316,7 @@ pub(crate) fn solution_tours(sol: &File) -> Option<&[Vec<u32>]>
     sol.as_tours()
 }
 
-/// What a routing instance holds beside its costs.
+/// The depots, demands and capacity of an instance of TYPE CVRP.
 pub(crate) fn routing(inst: &Instance) -> RoutingData<'_>
     requires { inst.now.kind ≡ Some kinds.Cvrp }
     ensures capacity { result.capacity ≡ capacity_of inst.now }

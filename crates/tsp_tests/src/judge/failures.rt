@@ -148,7 +148,7 @@ fn sound(rt: &impl AllocGlobal) -> Watched<Drip> {
     Watched::new(Drip::sound(rt.alloc()))
 }
 
-/// The result where a read of a file failed.
+/// The result if a read of a file failed.
 fn device_of(file: u32) -> RunFault {
     let fault = ReadFault::Device;
     RunFault::File { file, fault }
@@ -423,7 +423,7 @@ fn a_reader_that_had_failed_counts_in_its_turn_and_is_not_asked(rt: HostRuntime)
     }
 }
 
-/// The result where a writer had failed.
+/// The result if a writer had failed.
 const OUTPUT: RunFault = RunFault::Write(WriteFault::Device);
 
 const NO_FIRST: RunFault = RunFault::File {
@@ -436,7 +436,7 @@ const NO_THIRD: RunFault = RunFault::File {
     fault: ReadFault::Device,
 };
 
-/// Runs, the calls at which their readers fail, and the result where the writer had failed before.
+/// Runs, the calls at which their readers fail, and the result if the writer had failed before.
 const WRITERS_HAD_FAILED: &[(Job, [usize; 3], RunFault)] = &[
     ((Task::Check, [NO_FILE, TOUR, ""]), [NEVER, 0, 0], NO_FIRST),
     (

@@ -18,7 +18,7 @@ pub(crate) enum Task<'a> {
     BranchCheck,
     /// The first is shown.
     Show,
-    /// The first is written anew, in the layout with this word, or where it is empty in its own.
+    /// The first is written anew, in the layout with this word, or if it is empty in its own.
     Convert(&'a str),
 }
 

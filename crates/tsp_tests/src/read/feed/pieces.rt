@@ -155,7 +155,7 @@ const TAKEN: &[(&[&str], Result<&str, ReadFault>)] = &[
         ],
         Ok("NAME : x\nTYPE : TOUR\nTOUR_SECTION\n1\n2\n3\n-1\nEOF\n"),
     ),
-    // and is kept where the value goes on
+    // and is kept if the value goes on
     (
         &["NAME : x\r", "y\nTYPE : TOUR\nTOUR_SECTION\n1 2 3\n-1\n"],
         Ok("NAME : x\ry\nTYPE : TOUR\nTOUR_SECTION\n1\n2\n3\n-1\nEOF\n"),
