@@ -268,11 +268,11 @@ pub record TellsTexts (given : GivenText) (claimed : Option ℤ) (strict : Bool)
 -- the same, by the numbers of the certificate and of the claim that the caller gave; others are refused, and all
 -- numbers are 0
 abbrev pub TellsBy : ℕ → ℕ → ℤ → List ℕ → List ℕ → List ℕ → ℕ → CallResult → Type 0
-TellsBy by has_claim claimed one two three status call_result =
-    (by ≤ 2 → has_claim ≤ 3
-    → TellsTexts (with_certificate (nth by certificates) three) (claim_of has_claim claimed) (strict_of has_claim) one two status call_result)
+TellsBy by flags claimed one two three status call_result =
+    (by ≤ 2 → flags ≤ 3
+    → TellsTexts (with_certificate (nth by certificates) three) (claim_of flags claimed) (strict_of flags) one two status call_result)
     × (2 < by → call_result ≡ blank_result)
-    × (3 < has_claim → call_result ≡ blank_result)
+    × (3 < flags → call_result ≡ blank_result)
 
 -- the numbers and the status are those of the bound, or of the reason, for the files that the texts parse to
 pub record IsTextBound (by : CertificateKind) (strict : Bool) (one two : List ℕ) (status : ℕ) (call_result : CallResult) : Type 0 where

@@ -86,12 +86,12 @@ abbrev pub ChecksOpen : Open → Option ℤ → Bool → List ℕ → ℕ → Li
 ChecksOpen opened claimed strict two status text call_result = ChecksAsTexts opened claimed strict two status text
     × TellsJudged opened claimed strict two status call_result
 
--- the same, by what `has_claim` asks for; numbers above 3 are refused, and so is a closed handle
+-- the same, by what `flags` asks for; numbers above 3 are refused, and so is a closed handle
 abbrev pub ChecksHeld : Held → ℕ → ℤ → List ℕ → ℕ → List ℕ → CallResult → Type 0
-ChecksHeld None has_claim claimed two status text call_result = IsRefusedNumber status text × (call_result ≡ blank_result)
-ChecksHeld (Some opened) has_claim claimed two status text call_result =
-    (has_claim ≤ 3 → ChecksOpen opened (claim_of has_claim claimed) (strict_of has_claim) two status text call_result)
-    × (3 < has_claim → IsRefusedNumber status text × (call_result ≡ blank_result))
+ChecksHeld None flags claimed two status text call_result = IsRefusedNumber status text × (call_result ≡ blank_result)
+ChecksHeld (Some opened) flags claimed two status text call_result =
+    (flags ≤ 3 → ChecksOpen opened (claim_of flags claimed) (strict_of flags) two status text call_result)
+    × (3 < flags → IsRefusedNumber status text × (call_result ≡ blank_result))
 
 -- ---- numbers of the instance
 

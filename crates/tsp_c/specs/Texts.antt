@@ -180,15 +180,15 @@ ChecksTexts given claimed strict one two status text = EndsWithText
     (IsRejected given claimed strict one two)
     (StopsCheck given claimed strict one two) status text
 
--- The same by the number of the certificate: 0 for none, 1 for potentials, 2 for branches; and by what `has_claim` asks
+-- The same by the number of the certificate: 0 for none, 1 for potentials, 2 for branches; and by what `flags` asks
 -- for. Other numbers are refused.
 abbrev pub ChecksBy : ℕ → ℕ → ℤ → List ℕ → List ℕ → List ℕ → ℕ → List ℕ → Type 0
-ChecksBy by has_claim claimed one two three status text =
-    (by ≤ 2 → has_claim ≤ 3
-    → ChecksTexts (with_certificate (nth by certificates) three) (claim_of has_claim claimed) (strict_of has_claim) one two status
+ChecksBy by flags claimed one two three status text =
+    (by ≤ 2 → flags ≤ 3
+    → ChecksTexts (with_certificate (nth by certificates) three) (claim_of flags claimed) (strict_of flags) one two status
     text)
     × (2 < by → IsRefusedNumber status text)
-    × (3 < has_claim → IsRefusedNumber status text)
+    × (3 < flags → IsRefusedNumber status text)
 
 -- ---- a bound without a solution
 
@@ -260,13 +260,13 @@ BoundsBy (Some asked) one two status text = BoundsTexts asked.0 asked.1 one two 
 -- the calls that are explained, by their numbers, with the other numbers that each takes: 0 shows, 1 converts, 2
 -- checks, 3 bounds
 abbrev pub IsExplained : ℕ → ℕ → ℕ → Type 0
-IsExplained call number has_claim = (call ≡ 0)
+IsExplained call number flags = (call ≡ 0)
     ⊎ ((call ≡ 1) × (number ≤ 9))
-    ⊎ ((call ≡ 2) × (number ≤ 2) × (has_claim ≤ 3))
+    ⊎ ((call ≡ 2) × (number ≤ 2) × (flags ≤ 3))
     ⊎ ((call ≡ 3) × (1 ≤ number) × (number ≤ 4))
 
 -- The words of an explanation have no contract. Out of memory there is none; a call that isn't explained is refused.
 abbrev pub ExplainsTexts : ℕ → ℕ → ℕ → ℕ → List ℕ → Type 0
-ExplainsTexts call number has_claim status text =
-    (IsExplained call number has_claim × ((status ≡ 0) ⊎ ((status ≡ 3) × (text ≡ []))))
-    ⊎ (¬ IsExplained call number has_claim × IsRefusedNumber status text)
+ExplainsTexts call number flags status text =
+    (IsExplained call number flags × ((status ≡ 0) ⊎ ((status ≡ 3) × (text ≡ []))))
+    ⊎ (¬ IsExplained call number flags × IsRefusedNumber status text)

@@ -25,7 +25,7 @@ pub(crate) struct Numbers {
     pub(crate) call: u32,
     pub(crate) number: u32,
     pub(crate) claimed: i64,
-    pub(crate) has_claim: u32,
+    pub(crate) flags: u32,
 }
 
 /// The texts of a call. `names` has what the user calls them, one behind the other, and a byte 0
@@ -47,7 +47,7 @@ struct Named<'a> {
 
 /// The explanation of the result of a call on these texts, with its status.
 pub(crate) fn explained(alloc: Global, numbers: Numbers, texts: Texts<'_>) -> (u8, Vec<u8>)
-    ensures { ExplainsTexts numbers.call numbers.number numbers.has_claim result.0 result.1.items }
+    ensures { ExplainsTexts numbers.call numbers.number numbers.flags result.0 result.1.items }
 {
     let mut text = Vec::new(alloc);
     let Some(task) = task_of(numbers, texts) else {
@@ -64,7 +64,7 @@ pub(crate) fn explained(alloc: Global, numbers: Numbers, texts: Texts<'_>) -> (u
 
 /// The task of a call, or `None` if a number is refused.
 fn task_of<'a>(numbers: Numbers, texts: Texts<'a>) -> Option<FileTask<Named<'a>>>
-    ensures { IsSome result ↔ IsExplained numbers.call numbers.number numbers.has_claim }
+    ensures { IsSome result ↔ IsExplained numbers.call numbers.number numbers.flags }
 {
     let (instance, solution, certificate) = texts_with_names(texts);
     let number = numbers.number;
@@ -74,15 +74,15 @@ fn task_of<'a>(numbers: Numbers, texts: Texts<'a>) -> Option<FileTask<Named<'a>>
             file: instance,
             layout: layout_of(number),
         }),
-        CHECK if number <= 2 && numbers.has_claim <= 3 => Some(FileTask::Check {
+        CHECK if number <= 2 && numbers.flags <= 3 => Some(FileTask::Check {
             instance,
             solution,
             certificate: match certificate_of(number) {
                 Some(by) => Some((by, certificate)),
                 None => None,
             },
-            claimed: claim_of(numbers.has_claim, numbers.claimed),
-            strict: strict_of(numbers.has_claim),
+            claimed: claim_of(numbers.flags, numbers.claimed),
+            strict: strict_of(numbers.flags),
         }),
         BOUND => {
             let (by, strict) = bound_asked(number)?;

@@ -1,14 +1,11 @@
 //! The calls on a handle: open, bind, check, count, costs, points, lengths, close. Points and
-//! lengths are filled in here for texts too (`tsp_points`, `tsp_lengths`); costs in
-//! `pair_costs.rt`.
+//! lengths are filled in by `point_calls.rt`, costs by `pair_costs.rt`, for texts as well.
 
-ghost use Rattle.tsp_c.specs.Prelude.{None, Some, MatchResult, length, option_map, slice_index_or, IsTrue, slice_index, origin, nodes_of, report_of, IsSized, is_yes, Open, IsOpened, IsUnopened, status_of_fault, OutOfMemory};
-ghost use Rattle.std.specs.List.{All, count_by, position};
-ghost use Rattle.std.specs.Prelude.{◌≡◌, ◌≤◌, ◌<◌, ◌*◌, ◌-◌, ◌==◌, ◌↔◌};
+ghost use Rattle.tsp_c.specs.Prelude.{None, Some, MatchResult, report_of, IsSized, is_yes, Open, IsOpened, IsUnopened, status_of_fault, OutOfMemory};
+ghost use Rattle.std.specs.Prelude.{◌≡◌, ◌<◌, ◌*◌, ◌-◌};
 ghost use Rattle.tsp_io.specs.states.Watched.{sink_of};
-ghost use Rattle.tsp_file.specs.states.Drafts.{points_of};
 ghost use Rattle.tsp_c.specs.CallResult.{result_of_fault};
-ghost use Rattle.tsp_c.specs.NumberCalls.{Reports, nth, EndsCount, EndsLengths, EndsMatrix, EndsWeights, EndsPoints, FillsPoints, IsFilled, IsSection, coordinate, point_number, section_points, AreLists, FillsLengths, list_count, list_length};
+ghost use Rattle.tsp_c.specs.NumberCalls.{Reports, nth, EndsCount, EndsLengths, EndsMatrix, EndsWeights};
 ghost use Rattle.tsp_c.specs.Opened.{BindsOpen, BindsText, ChecksAsTexts, ChecksHeld, EndsSection, OfHeld, OpensText, TellsJudged};
 ghost use Rattle.tsp_c.specs.Texts.{certificates};
 
@@ -18,17 +15,14 @@ use crate::ended::{Answer, ended};
 use crate::handle::{Handle, NoBox, in_box};
 use crate::pair_costs::{put, rows_of, weights_of};
 use crate::picked_runs::{certificate_of, claim_of, strict_of};
-use crate::text_instance::instance_of;
+use crate::point_calls::{lengths_of, points_of_file};
 use std::alloc::Global;
 use std::boxed::Box;
 use std::io::Write;
-use tsp_cost::{Costs, Instance, tour_length};
-use tsp_file::{Coords, File};
+use tsp_cost::Instance;
 use tsp_judge::{
-    CertificateKind, Opened, RunError, Verdict, Watched, read_text, report_verdict,
-    verdicts_mean_reports,
+    CertificateKind, Opened, RunError, Verdict, Watched, report_verdict, verdicts_mean_reports,
 };
-use tsp_number::{InSpace, Point};
 use tsp_verdict::strict_verdict;
 
 /// Opens a handle on the instance that a text is; the status. What it was open on before is freed
@@ -140,25 +134,25 @@ fn bind_opened(
 }
 
 /// The check of the solution that a text is, of the instance of a handle, with the certificate that
-/// is bound, if one is, and with what `has_claim` asks; with its status, and in numbers.
+/// is bound, if one is, and with what `flags` asks; with its status, and in numbers.
 pub(crate) fn check_held(
     alloc: Global,
     handle: &mut Handle,
     solution: &[u8],
     claimed: i64,
-    has_claim: u32,
+    flags: u32,
 ) -> (Answer, CallResult)
     ensures same { handle.new.loose.value ≡ handle.old.loose.value }
-    ensures checks { ChecksHeld handle.old.loose.value has_claim claimed solution.now result.0.0 result.0.1 result.1 }
+    ensures checks { ChecksHeld handle.old.loose.value flags claimed solution.now result.0.0 result.0.1 result.1 }
 {
-    if has_claim > 3 {
+    if flags > 3 {
         return (Answer::refused(alloc), CallResult::blank());
     }
     match handle.take(alloc) {
         None => (Answer::refused(alloc), CallResult::blank()),
         Some(opened) => {
-            let claim = claim_of(has_claim, claimed);
-            let answer = check_opened(alloc, &opened, solution, claim, strict_of(has_claim));
+            let claim = claim_of(flags, claimed);
+            let answer = check_opened(alloc, &opened, solution, claim, strict_of(flags));
             handle.put(opened);
             answer
         }
@@ -310,169 +304,4 @@ pub(crate) fn count_held(alloc: Global, handle: &mut Handle, count: &mut u32) ->
             CallEnd::done()
         }
     }
-}
-
-// ---- the coordinates of the points of a section
-
-/// Fills in the coordinates of the points of a section of a text; the status.
-pub(crate) fn fill_points(alloc: Global, text: &[u8], section: u32, out: &mut [i64]) -> CallEnd
-    ensures { FillsPoints text.now section out.old out.new result }
-{
-    if section < 1 || section > 2 {
-        return CallEnd::refused();
-    }
-    match read_text(alloc, 1, text) {
-        Err(error) => CallEnd::of_fault(error),
-        Ok(file) => {
-            let status = points_of_file(&file, section, out);
-            drop(file);
-            status
-        }
-    }
-}
-
-/// Fills in the coordinates of the points of a section of a file; the status.
-fn points_of_file(file: &File, section: u32, out: &mut [i64]) -> CallEnd
-    requires { IsSection section }
-    ensures { EndsPoints (section_points section file.now) out.old out.new result }
-{
-    match section_of(file, section) {
-        None => CallEnd::no(),
-        Some(points) => {
-            if out.len() / 3 < points.len() {
-                return CallEnd::too_small();
-            }
-            put_points(points, out);
-            CallEnd::done()
-        }
-    }
-}
-
-/// The points of a section.
-fn section_of(file: &File, section: u32) -> Option<&Coords>
-    requires { IsSection section }
-    ensures { option_map (λ points. points_of points.now) result ≡ section_points section file.now }
-{
-    match section {
-        1 => file.coords(),
-        _ => file.display(),
-    }
-}
-
-/// Puts coordinates at the start of a buffer that has a place for each.
-fn put_points(points: &Coords, out: &mut [i64])
-    requires room { 3 * length (points_of points.now) ≤ length out.old }
-    ensures { IsFilled (3 * length (points_of points.now)) (point_number (points_of points.now)) out.old out.new }
-{
-    'places: for k in 0..3 * points.len() {
-        put(out, k, coordinate(point_at(points, k / 3), k % 3));
-    }
-}
-
-/// The point at an index, from 0 on.
-fn point_at(points: &Coords, index: usize) -> Point
-    requires { index < length (points_of points.now) }
-    ensures { result ≡ slice_index_or (points_of points.now) index origin }
-{
-    match points {
-        Coords::Plane(points) => points[index].in_space(),
-        Coords::Space(points) => points[index],
-    }
-}
-
-/// A coordinate of a point: x, y or z by 0, 1 or 2.
-fn coordinate(point: Point, axis: usize) -> i64
-    ensures { result ≡ coordinate axis point }
-{
-    match axis {
-        0 => point.x.nanos(),
-        1 => point.y.nanos(),
-        _ => point.z.nanos(),
-    }
-}
-
-// ---- the lengths of lists of nodes, each of which a 0 ends
-
-/// How many numbers a call may have.
-const MOST_NUMBERS: usize = 1_000_000;
-
-/// Fills in the lengths of lists of nodes of the instance of a text; the status.
-pub(crate) fn fill_lengths(alloc: Global, text: &[u8], nodes: &[u32], out: &mut [i64]) -> CallEnd
-    ensures { FillsLengths text.now nodes.now out.old out.new result }
-{
-    match instance_of(alloc, text) {
-        Err(error) => CallEnd::of_fault(error),
-        Ok(instance) => {
-            let status = lengths_of(&instance, nodes, out);
-            drop(instance);
-            status
-        }
-    }
-}
-
-/// Fills in the lengths of lists of nodes of an instance; the status.
-#[tactic(auto, using(crate::proofs::HandleCalls::lists_counted))]
-fn lengths_of(instance: &Instance, nodes: &[u32], out: &mut [i64]) -> CallEnd
-    ensures { EndsLengths instance.now nodes.now out.old out.new result }
-{
-    if !are_lists(instance.count(), nodes) {
-        return CallEnd::refused();
-    }
-    if out.len() < count_of(nodes) {
-        return CallEnd::too_small();
-    }
-    put_lengths(instance, nodes, out);
-    CallEnd::done()
-}
-
-/// Whether numbers are lists of nodes up to `count`, each with its 0.
-fn are_lists(count: u32, nodes: &[u32]) -> bool
-    ensures { IsTrue result ↔ AreLists nodes.now count }
-{
-    nodes.len() <= MOST_NUMBERS && is_ended(nodes) && are_up_to(count, nodes)
-}
-
-/// Whether the last number is a 0, if there is one.
-fn is_ended(nodes: &[u32]) -> bool
-    ensures { IsTrue result ↔ (slice_index nodes.now (length nodes.now - 1) ≡ 0) }
-{
-    nodes.is_empty() || nodes[nodes.len() - 1] == 0
-}
-
-/// Whether no number is above `count`.
-fn are_up_to(count: u32, nodes: &[u32]) -> bool
-    ensures { IsTrue result ↔ All (λ node. node ≤ count) nodes.now }
-{
-    nodes.iter().all(|node| *node <= count)
-}
-
-/// How many lists there are.
-fn count_of(nodes: &[u32]) -> usize
-    ensures { result ≡ count_by (λ node. node == 0) nodes.now }
-{
-    nodes.iter().filter(|node| **node == 0).count()
-}
-
-/// Puts the lengths of lists at the start of a buffer that has a place for each.
-fn put_lengths(instance: &Instance, nodes: &[u32], out: &mut [i64])
-    requires lists { AreLists nodes.now (nodes_of instance.now) }
-    requires room { list_count nodes.now ≤ length out.old }
-    ensures { IsFilled (list_count nodes.now) (list_length nodes.now instance.now) out.old out.new }
-{
-    let mut rest = nodes;
-    let mut place = 0;
-    'lists: while let Some(end) = end_of(rest) {
-        let (list, others) = rest.split_at(end);
-        put(out, place, tour_length(instance, list));
-        place += 1;
-        let (_, after) = others.split_at(1);
-        rest = after;
-    }
-}
-
-/// Where the first list ends.
-fn end_of(nodes: &[u32]) -> Option<usize>
-    ensures { result ≡ position (λ node. node == 0) nodes.now }
-{
-    nodes.iter().position(|node| *node == 0)
 }

@@ -26,6 +26,7 @@ mod handle;
 mod handle_calls;
 mod pair_costs;
 mod picked_runs;
+mod point_calls;
 mod text_instance;
 
 use crate::call_result::CallResult;
@@ -34,11 +35,12 @@ use crate::ended::place;
 use crate::explain::{Numbers, Texts, explained};
 use crate::handle::Handle;
 use crate::handle_calls::{
-    bind_text, check_held, close, count_held, fill_lengths, fill_points, lengths_held, open_text,
-    points_held, rows_held, weights_held,
+    bind_text, check_held, close, count_held, lengths_held, open_text, points_held, rows_held,
+    weights_held,
 };
 use crate::pair_costs::{fill_matrix, fill_weights};
 use crate::picked_runs::{Claim, bound_by, check_by, convert_by, shown};
+use crate::point_calls::{fill_lengths, fill_points};
 use crate::text_instance::fill_count;
 use std::alloc::Global;
 
@@ -46,7 +48,7 @@ use std::alloc::Global;
 const VERSION_NUMBER: u32 = 10100;
 
 /// Judges a solution of an instance: by 0 alone, by 1 with potentials, by 2 with branches. If
-/// `has_claim` is 1, its length has to be the claimed one; if it is 2, an instance with a line
+/// `flags` is 1, its length has to be the claimed one; if it is 2, an instance with a line
 /// that isn't judged is rejected, after all other reasons; if it is 3, both.
 #[unsafe(no_mangle)]
 pub extern "C" fn tsp_check(
@@ -56,14 +58,14 @@ pub extern "C" fn tsp_check(
     certificate: &[u8],
     by: u32,
     claimed: i64,
-    has_claim: u32,
+    flags: u32,
     out: &mut [u8],
     written: &mut usize,
 ) -> u32
-    ensures { PlacesText (ChecksBy by has_claim claimed instance.now solution.now certificate.now)
+    ensures { PlacesText (ChecksBy by flags claimed instance.now solution.now certificate.now)
         out.old out.new written.new result }
 {
-    let claim = Claim { claimed, has_claim };
+    let claim = Claim { claimed, flags };
     let (answer, _) = check_by(alloc, instance, solution, certificate, by, claim);
     let status = answer.place(out, written);
     drop(answer);
@@ -79,16 +81,16 @@ pub extern "C" fn tsp_check_result(
     certificate: &[u8],
     by: u32,
     claimed: i64,
-    has_claim: u32,
+    flags: u32,
     call_result: &mut CallResult,
     out: &mut [u8],
     written: &mut usize,
 ) -> u32
-    ensures { PlacesText (λ status text. ChecksBy by has_claim claimed instance.now solution.now certificate.now status text
-        × TellsBy by has_claim claimed instance.now solution.now certificate.now status call_result.new)
+    ensures { PlacesText (λ status text. ChecksBy by flags claimed instance.now solution.now certificate.now status text
+        × TellsBy by flags claimed instance.now solution.now certificate.now status call_result.new)
         out.old out.new written.new result }
 {
-    let claim = Claim { claimed, has_claim };
+    let claim = Claim { claimed, flags };
     let (answer, numbers) = check_by(alloc, instance, solution, certificate, by, claim);
     *call_result = numbers;
     let status = answer.place(out, written);
@@ -178,17 +180,17 @@ pub extern "C" fn tsp_explain(
     names: &[u8],
     number: u32,
     claimed: i64,
-    has_claim: u32,
+    flags: u32,
     out: &mut [u8],
     written: &mut usize,
 ) -> u32
-    ensures { PlacesText (ExplainsTexts call number has_claim) out.old out.new written.new result }
+    ensures { PlacesText (ExplainsTexts call number flags) out.old out.new written.new result }
 {
     let numbers = Numbers {
         call,
         number,
         claimed,
-        has_claim,
+        flags,
     };
     let texts = Texts {
         instance,
@@ -289,16 +291,16 @@ pub extern "C" fn tsp_instance_check(
     handle: &mut Handle,
     solution: &[u8],
     claimed: i64,
-    has_claim: u32,
+    flags: u32,
     call_result: &mut CallResult,
     out: &mut [u8],
     written: &mut usize,
 ) -> u32
     ensures same { handle.new.loose.value ≡ handle.old.loose.value }
-    ensures places { PlacesText (λ status text. ChecksHeld handle.old.loose.value has_claim claimed solution.now
+    ensures places { PlacesText (λ status text. ChecksHeld handle.old.loose.value flags claimed solution.now
         status text call_result.new) out.old out.new written.new result }
 {
-    let (answer, numbers) = check_held(alloc, handle, solution, claimed, has_claim);
+    let (answer, numbers) = check_held(alloc, handle, solution, claimed, flags);
     *call_result = numbers;
     let status = answer.place(out, written);
     drop(answer);

@@ -17,12 +17,12 @@ use tsp_judge::{
     show_file, verdicts_mean_reports,
 };
 
-/// What a check asks for beside: nothing if `has_claim` is 0; a length if that is 1; that
+/// What a check asks for beside: nothing if `flags` is 0; a length if that is 1; that
 /// lines of the instance that aren't judged be a reason if it is 2; both if it is 3.
 #[derive(Clone, Copy)]
 pub(crate) struct Claim {
     pub(crate) claimed: i64,
-    pub(crate) has_claim: u32,
+    pub(crate) flags: u32,
 }
 
 /// The check by 0 alone, by 1 with potentials, by 2 with branches, and with what else it asks for;
@@ -35,20 +35,20 @@ pub(crate) fn check_by(
     by: u32,
     claim: Claim,
 ) -> (Answer, CallResult)
-    ensures texts { ChecksBy by claim.has_claim claim.claimed instance.now solution.now certificate.now
+    ensures texts { ChecksBy by claim.flags claim.claimed instance.now solution.now certificate.now
         result.0.0 result.0.1 }
-    ensures numbers { TellsBy by claim.has_claim claim.claimed instance.now solution.now certificate.now
+    ensures numbers { TellsBy by claim.flags claim.claimed instance.now solution.now certificate.now
         result.0.0 result.1 }
 {
     if by > 2 {
         return (Answer::refused(alloc), CallResult::blank());
     }
-    if claim.has_claim > 3 {
+    if claim.flags > 3 {
         return (Answer::refused(alloc), CallResult::blank());
     }
     let by = certificate_of(by);
-    let strict = strict_of(claim.has_claim);
-    let claim = claim_of(claim.has_claim, claim.claimed);
+    let strict = strict_of(claim.flags);
+    let claim = claim_of(claim.flags, claim.claimed);
     checked(alloc, instance, solution, by, certificate, claim, strict)
 }
 
@@ -94,10 +94,10 @@ pub(crate) fn certificate_of(number: u32) -> Option<CertificateKind>
 }
 
 /// The length that is claimed, if one is.
-pub(crate) fn claim_of(has_claim: u32, claimed: i64) -> Option<i64>
-    ensures { result ≡ claim_of has_claim claimed }
+pub(crate) fn claim_of(flags: u32, claimed: i64) -> Option<i64>
+    ensures { result ≡ claim_of flags claimed }
 {
-    if has_claim == 1 || has_claim == 3 {
+    if flags == 1 || flags == 3 {
         Some(claimed)
     } else {
         None
@@ -105,10 +105,10 @@ pub(crate) fn claim_of(has_claim: u32, claimed: i64) -> Option<i64>
 }
 
 /// Whether lines that aren't judged are a reason.
-pub(crate) fn strict_of(has_claim: u32) -> bool
-    ensures { result ≡ strict_of has_claim }
+pub(crate) fn strict_of(flags: u32) -> bool
+    ensures { result ≡ strict_of flags }
 {
-    has_claim == 2 || has_claim == 3
+    flags == 2 || flags == 3
 }
 
 /// A text written anew in the layout with this number, with its status.

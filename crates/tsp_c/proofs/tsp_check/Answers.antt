@@ -11,7 +11,7 @@ returns c =
     let fits : FitsSigned w64 c.args.claimed = c.ranges.claimed in (
       made.0.0,
       made.0.1,
-      subst (λ (z : ℤ). ChecksBy c.args.by c.args.has_claim z c.args.instance.now c.args.solution.now c.args.certificate.now made.0.0 made.0.1)
+      subst (λ (z : ℤ). ChecksBy c.args.by c.args.flags z c.args.instance.now c.args.solution.now c.args.certificate.now made.0.0 made.0.1)
           (to_z-of_z w64 c.args.claimed fits) c.check_by-answer.ensures.texts,
       c.place-status.ensures,
     )

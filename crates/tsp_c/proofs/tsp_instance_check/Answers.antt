@@ -10,7 +10,7 @@ returns-clause-places c =
     let fits : FitsSigned w64 c.args.claimed = c.ranges.claimed in (
       made.0.0,
       made.0.1,
-      subst (λ (z : ℤ). ChecksHeld c.args.handle.now.loose.value c.args.has_claim z c.args.solution.now made.0.0 made.0.1 made.1)
+      subst (λ (z : ℤ). ChecksHeld c.args.handle.now.loose.value c.args.flags z c.args.solution.now made.0.0 made.0.1 made.1)
           (to_z-of_z w64 c.args.claimed fits) c.check_held-answer.ensures.checks,
       c.place-status.ensures,
     )

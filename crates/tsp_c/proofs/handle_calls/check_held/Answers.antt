@@ -10,18 +10,18 @@ pub returns-in-Some-clause-checks : goal.returns-in-Some-clause-checks
 returns-in-Some-clause-checks c =
     let two = c.args.solution.now in
     let made = c.check_opened-answer.result in
-    let few = c.if-has_claim-gt3.false in
+    let few = c.if-flags-gt3.false in
     let held : Open = c.in-Some.opened.value in
-    let claim : Option ℤ = claim_of c.args.has_claim c.args.claimed in
+    let claim : Option ℤ = claim_of c.args.flags c.args.claimed in
     let fits : FitsSigned w64 c.args.claimed = c.ranges.claimed in
     let claim_is : c.claim_of-claim.result ≡ claim =
-    c.claim_of-claim.ensures ∙ ap (λ (z : ℤ). claim_of c.args.has_claim z) (to_z-of_z w64 c.args.claimed fits) in
-    let strict : Bool = strict_of c.args.has_claim in
+    c.claim_of-claim.ensures ∙ ap (λ (z : ℤ). claim_of c.args.flags z) (to_z-of_z w64 c.args.claimed fits) in
+    let strict : Bool = strict_of c.args.flags in
     let strict_is : c.strict_of.result ≡ strict = c.strict_of.ensures in
     let checked : ChecksOpen c.deref.result.now c.claim_of-claim.result c.strict_of.result two made.0.0 made.0.1 made.1 =
     (c.check_opened-answer.ensures.texts, c.check_opened-answer.ensures.numbers) in
     let old : Some held ≡ c.args.handle.now.loose.value = search rules in
-    subst (λ (h : Held). ChecksHeld h c.args.has_claim c.args.claimed two made.0.0 made.0.1 made.1) old (
+    subst (λ (h : Held). ChecksHeld h c.args.flags c.args.claimed two made.0.0 made.0.1 made.1) old (
       λ low. subst (λ (b : Bool). ChecksOpen held claim b two made.0.0 made.0.1 made.1) strict_is
           (subst (λ (k : Option ℤ). ChecksOpen held k c.strict_of.result two made.0.0 made.0.1 made.1) claim_is
           (subst (λ (o : Open). ChecksOpen o c.claim_of-claim.result c.strict_of.result two made.0.0 made.0.1 made.1)

@@ -17,9 +17,9 @@ returns-clause-texts c =
     let by = c.certificate_of-by in
     let claim = c.claim_of-claim in
     let fits : FitsSigned w64 c.args.claim.claimed = search rules in
-    let claim_is : claim.result ≡ claim_of c.args.claim.has_claim c.args.claim.claimed =
-    claim.ensures ∙ ap (λ (z : ℤ). claim_of c.args.claim.has_claim z) (to_z-of_z w64 c.args.claim.claimed fits) in (
-      λ known claims. subst (λ (b : Option CertificateKind). ChecksTexts (with_certificate b three) (claim_of c.args.claim.has_claim c.args.claim.claimed) (strict_of c.args.claim.has_claim) one two made.0.0 made.0.1)
+    let claim_is : claim.result ≡ claim_of c.args.claim.flags c.args.claim.claimed =
+    claim.ensures ∙ ap (λ (z : ℤ). claim_of c.args.claim.flags z) (to_z-of_z w64 c.args.claim.claimed fits) in (
+      λ known claims. subst (λ (b : Option CertificateKind). ChecksTexts (with_certificate b three) (claim_of c.args.claim.flags c.args.claim.claimed) (strict_of c.args.claim.flags) one two made.0.0 made.0.1)
           by.ensures
           (subst₂ (λ (k : Option ℤ) (s : Bool). ChecksTexts (with_certificate by.result three) k s one two made.0.0 made.0.1) claim_is c.strict_of-strict.ensures c.checked.ensures.texts),
       λ many. absurd (omega (arith, low, many)),
@@ -37,9 +37,9 @@ returns-clause-numbers c =
     let by = c.certificate_of-by in
     let claim = c.claim_of-claim in
     let fits : FitsSigned w64 c.args.claim.claimed = search rules in
-    let claim_is : claim.result ≡ claim_of c.args.claim.has_claim c.args.claim.claimed =
-    claim.ensures ∙ ap (λ (z : ℤ). claim_of c.args.claim.has_claim z) (to_z-of_z w64 c.args.claim.claimed fits) in (
-      λ known claims. subst (λ (b : Option CertificateKind). TellsTexts (with_certificate b three) (claim_of c.args.claim.has_claim c.args.claim.claimed) (strict_of c.args.claim.has_claim) one two made.0.0 made.1)
+    let claim_is : claim.result ≡ claim_of c.args.claim.flags c.args.claim.claimed =
+    claim.ensures ∙ ap (λ (z : ℤ). claim_of c.args.claim.flags z) (to_z-of_z w64 c.args.claim.claimed fits) in (
+      λ known claims. subst (λ (b : Option CertificateKind). TellsTexts (with_certificate b three) (claim_of c.args.claim.flags c.args.claim.claimed) (strict_of c.args.claim.flags) one two made.0.0 made.1)
           by.ensures
           (subst₂ (λ (k : Option ℤ) (s : Bool). TellsTexts (with_certificate by.result three) k s one two made.0.0 made.1) claim_is c.strict_of-strict.ensures c.checked.ensures.numbers),
       λ many. absurd (omega (arith, low, many)),

@@ -1,7 +1,7 @@
 -- The loop of `put_points` in src/handle_calls.rt, which puts coordinates into a buffer.
 use Rattle.tsp_file.specs.states.Drafts.{points_of}
 use Rattle.tsp_c.specs.NumberCalls.{IsFilled, point_number}
-use Rattle.tsp_c.proofs.handle_calls.put_points.Given as goal
+use Rattle.tsp_c.proofs.point_calls.put_points.Given as goal
 
 -- the coordinates before this one are in the buffer, and its other numbers are as they were
 abbrev pub invariant-places : goal.invariant-places

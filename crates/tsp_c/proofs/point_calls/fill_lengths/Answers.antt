@@ -1,7 +1,7 @@
--- The goals of `fill_lengths` in src/handle_calls.rt, which puts the lengths of lists of nodes into a buffer: what it
+-- The goals of `fill_lengths` in src/point_calls.rt, which puts the lengths of lists of nodes into a buffer: what it
 -- ensures.
 use Rattle.std.proofs.Common.{inl, inr, refl}
-use Rattle.tsp_c.proofs.handle_calls.fill_lengths.Goals as goal
+use Rattle.tsp_c.proofs.point_calls.fill_lengths.Goals as goal
 
 -- plan: by whether the text is an instance: its fault is the status, or the lengths are filled in
 pub returns-in-Err : goal.returns-in-Err

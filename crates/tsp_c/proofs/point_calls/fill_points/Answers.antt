@@ -1,8 +1,8 @@
--- The goals of `fill_points` in src/handle_calls.rt, which puts the coordinates of a section into a buffer: what it
+-- The goals of `fill_points` in src/point_calls.rt, which puts the coordinates of a section into a buffer: what it
 -- ensures.
 use Rattle.std.proofs.Common.{inl, inr, refl, rules}
 use Rattle.tsp_c.specs.NumberCalls.{IsSection}
-use Rattle.tsp_c.proofs.handle_calls.fill_points.Goals as goal
+use Rattle.tsp_c.proofs.point_calls.fill_points.Goals as goal
 
 -- plan: by whether the text is a file with points in this section: they are filled in, or the status says why not
 pub returns-in-Err : goal.returns-in-Err

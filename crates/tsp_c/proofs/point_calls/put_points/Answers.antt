@@ -1,8 +1,8 @@
--- The goals of `put_points` in src/handle_calls.rt, which puts coordinates into a buffer: its loop.
+-- The goals of `put_points` in src/point_calls.rt, which puts coordinates into a buffer: its loop.
 use Rattle.tsp_c.proofs.Prelude.{◌≡◌, ℕ, ◌+◌, ◌-◌, ◌/◌, ◌%◌, ◌∙◌, ap, arith, rules, FitsSigned, w64, slice_index_or, to_z-of_z, origin}
 use Rattle.tsp_file.specs.states.Drafts.{points_of}
 use Rattle.tsp_c.specs.NumberCalls.{point_number, coordinate}
-use Rattle.tsp_c.proofs.handle_calls.put_points.Goals as goal
+use Rattle.tsp_c.proofs.point_calls.put_points.Goals as goal
 
 -- plan: the two or three coordinates of one node more are in the buffer
 pub places-preserved : goal.places-preserved

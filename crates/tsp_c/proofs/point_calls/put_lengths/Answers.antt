@@ -1,4 +1,4 @@
--- The goals of `put_lengths` in src/handle_calls.rt, which puts the lengths of lists of nodes into a buffer: its loop,
+-- The goals of `put_lengths` in src/point_calls.rt, which puts the lengths of lists of nodes into a buffer: its loop,
 -- what its calls require and what it ensures.
 use Rattle.tsp_c.proofs.Prelude.{◌≡◌, ◌+◌, ◌-◌, ◌<◌, ◌≤◌, ap, sym, subst, ◌∙◌, arith, length, drop, take, length-drop, rules, FitsSigned, w64, ℕ, List, [], to_z-of_z, cost, nodes_of}
 use Rattle.std.specs.List.{All}
@@ -8,7 +8,7 @@ use Rattle.tsp_format.specs.Nodes.{IsNode}
 use Rattle.tsp_theory.specs.Tour.{length_of}
 use Rattle.tsp_c.specs.NumberCalls.{IsFilled, list_length, lists_in}
 use Rattle.tsp_c.proofs.HandleCalls.{end_found, end_missing, lists_none, next_list, nodes_before}
-use Rattle.tsp_c.proofs.handle_calls.put_lengths.Goals as goal
+use Rattle.tsp_c.proofs.point_calls.put_lengths.Goals as goal
 
 -- plan: the lists so far are those of the nodes before (`nodes_before`); each ends at its 0, or has no end
 -- (`end_missing`)

@@ -2,7 +2,7 @@
 use Rattle.tsp_c.proofs.Prelude.{◌≡◌, ◌≤◌, length, drop, nodes_of}
 use Rattle.std.specs.List.{All}
 use Rattle.tsp_c.specs.NumberCalls.{IsFilled, list_length, lists_in}
-use Rattle.tsp_c.proofs.handle_calls.put_lengths.Given as goal
+use Rattle.tsp_c.proofs.point_calls.put_lengths.Given as goal
 
 -- the lengths of the lists before `rest` are in the buffer, and its other numbers are as they were
 abbrev pub invariant-lists : goal.invariant-lists
