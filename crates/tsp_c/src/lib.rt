@@ -47,9 +47,9 @@ use std::alloc::Global;
 /// The version, as 10,000 times the first number, 100 times the second, and the third.
 const VERSION_NUMBER: u32 = 10100;
 
-/// Judges a solution of an instance: by 0 alone, by 1 with potentials, by 2 with branches. If
-/// `flags` is 1, its length has to be the claimed one; if it is 2, an instance with a line
-/// that isn't judged is rejected, after all other reasons; if it is 3, both.
+/// Judges a solution of an instance. `by` is 0 without a certificate, 1 with potentials, 2 with
+/// branches. `flags` is a sum: with 1 the length has to be `claimed`, with 2 an instance with a
+/// line that isn't judged is rejected, after all other reasons.
 #[unsafe(no_mangle)]
 pub extern "C" fn tsp_check(
     alloc: Global,
@@ -98,8 +98,8 @@ pub extern "C" fn tsp_check_result(
     status
 }
 
-/// Bounds the tours of an instance: by 1 with potentials, by 2 with branches, and by 3 and 4 with
-/// lines that aren't judged as a reason too.
+/// Bounds all tours or routes of an instance. `by` is 1 for potentials and 2 for branches; 3 and 4
+/// are the same, but with a line that isn't judged as a reason.
 #[unsafe(no_mangle)]
 pub extern "C" fn tsp_bound(
     alloc: Global,

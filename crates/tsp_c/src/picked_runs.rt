@@ -17,8 +17,8 @@ use tsp_judge::{
     show_file, verdicts_mean_reports,
 };
 
-/// What a check asks for beside: nothing if `flags` is 0; a length if that is 1; that
-/// lines of the instance that aren't judged be a reason if it is 2; both if it is 3.
+/// What a check asks for besides the verdict. `flags` is a sum: 1 for a claimed length, 2 if a line
+/// of the instance that isn't judged is a reason.
 #[derive(Clone, Copy)]
 pub(crate) struct Claim {
     pub(crate) claimed: i64,

@@ -25,13 +25,15 @@ pub struct Bounded {
     pub certificate: File,
 }
 
-/// Bounds the tours of an instance by a certificate, writes the report, and returns the bound, with
-/// the files that were read.
+/// Runs `tsp bound`: reads both files, finds the bound, writes the report.
 ///
-/// Every tour of the instance is at least as long as the bound. If the instance has no tour,
-/// which a tree of cases may show, there is none. If the report has the line `no`, the result
-/// has its reason: `TooFewNodes`, `NotSymmetric`, or one against the certificate, in this order;
-/// with `strict` then `NotJudged` or `NotUsed`, if a line of the instance isn't judged.
+/// Returns the bound, along with the files. No tour of the instance is shorter than the bound, or
+/// for a CVRP no plan whose routes each have a customer. There is no bound if a tree of cases shows
+/// that there are no such solutions. If the report has the line `no`, the result has its reason,
+/// the first that applies: `TooFewNodes` and `NotSymmetric` for tours, or `TooFewNodes`,
+/// `DepotCount`, `DepotDemand` and `FixedEdgesInRoutes` for routes; then those against the
+/// certificate; and with `strict`, `NotJudged` or `NotUsed` for a line of the instance that isn't
+/// judged.
 ///
 /// Each file is read whole before the next, and the first file that is none decides. Nothing is
 /// written before the bound exists.

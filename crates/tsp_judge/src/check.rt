@@ -15,14 +15,14 @@ use tsp_read::file_of_reader;
 use tsp_report::write_report;
 use tsp_verdict::{CertificateKind, Verdict, is_bounded, judge, strict_verdict};
 
-/// Judges a solution of an instance, writes the report, and returns the verdict, with the files
-/// that were read.
+/// Runs `tsp check`: reads the files, judges the solution, writes the report.
 ///
-/// If a certificate is named, no tour of the instance, and no plan of routes, is shorter than the
-/// bound of an accepted solution. If a length is claimed, a solution of another length is rejected
-/// with `LengthClaimed`: after all other reasons against the solution, and before those against the
-/// certificate. With `strict`, an instance with a line that isn't judged is rejected with
-/// `NotJudged` or `NotUsed`, after all reasons.
+/// Returns the verdict, along with the files. If `certificate` names one, the verdict may have a
+/// bound: no tour of the instance is shorter, or for a CVRP no plan whose routes each have a
+/// customer. With `claimed`, a solution of another length is rejected with `LengthClaimed`: after
+/// all other reasons against the solution, and before those against the certificate. With `strict`,
+/// an instance with a line that isn't judged is rejected with `NotJudged` or `NotUsed`, after all
+/// other reasons.
 ///
 /// Each file is read whole before the next, and the first file that is none decides. Nothing is
 /// written before the verdict exists.

@@ -31,9 +31,9 @@ pub enum FileTask<F> {
         file: F,
         layout: Option<Layout>,
     },
-    /// Judge the solution of an instance, with this length if one is claimed, and bound every
-    /// tour by the certificate if one is named. With `strict`, lines of the instance that aren't
-    /// judged are a reason.
+    /// Judge a solution of an instance. `certificate` asks for a bound, `claimed` is the length
+    /// that the solution has to have, and with `strict` a line of the instance that isn't judged is
+    /// a reason.
     Check {
         instance: F,
         solution: F,
@@ -41,8 +41,8 @@ pub enum FileTask<F> {
         claimed: Option<i64>,
         strict: bool,
     },
-    /// Bound every tour of an instance by a certificate. With `strict`, lines of the instance that
-    /// aren't judged are a reason.
+    /// Bound all tours, or for a CVRP all routes, of an instance by a certificate. With `strict`, a
+    /// line of the instance that isn't judged is a reason.
     Bound {
         instance: F,
         certificate: (CertificateKind, F),
