@@ -17,9 +17,14 @@ pub mod GivenKeys
 pub mod GivenTables
 pub mod KeptLists
 pub mod KeptBefores
+pub mod SameStates
+pub mod FlatStates
+pub mod KeptCounts
+pub mod Rising
 pub mod LeastKept
 pub mod RunSizes
 pub mod RunsAlike
+pub mod StatesAlike
 pub mod RowHalves
 pub mod RouteProducts
 pub mod PlanJudging

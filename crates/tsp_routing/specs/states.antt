@@ -5,6 +5,7 @@ pub mod Judged
 pub mod RunTables
 pub mod MemoryTables
 pub mod KeptLists
+pub mod KeptCounts
 pub mod GivenMemories
 pub mod LeastKept
 pub mod RowHalves
