@@ -6,6 +6,9 @@ pub mod PlanBounds
 pub mod RouteRuns
 pub mod RunCharges
 pub mod RunBounds
+pub mod RunTrees
+pub mod PlacedSteps
+pub mod JudgedLists
 pub mod RectangleRuns
 pub mod KeptStarts
 pub mod WaysHome

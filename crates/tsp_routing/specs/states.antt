@@ -8,4 +8,5 @@ pub mod KeptLists
 pub mod KeptCounts
 pub mod GivenMemories
 pub mod LeastKept
+pub mod JudgedMemory
 pub mod RowHalves

@@ -52,13 +52,13 @@ pub(crate) fn leaf_run_bound<C: Costs>(
     requires rows { length priced.rows.now ≡ priced.memories.now.count }
     requires sets { All IsSmallRow priced.rows.now }
     requires sizes { sizes_total priced.charges.now ≤ℤ pos most_of_multipliers }
-    requires rules { (near : ℕ → List ℕ) × (rows : List (SubsetRow × ℤ))
+    requires rules { ∥ ((near : ℕ → List ℕ) × (rows : List (SubsetRow × ℤ))
         × AreMemoriesOf (leaf_rules (loads_problem leaf.now.context.now.demands (C.at leaf.now.context.now.costs.now))
         leaf.now.context.now.scale leaf.now.context.now.unit leaf.now.context.now.units.now.light
         (families_with leaf.now.context.now.crossed.now (lent_in leaf.now.context.now.families.now))
         (as_leaf_numbers leaf.now.potentials.now leaf.now.multipliers.now) near rows)
         priced.memories.now.count priced.memories.now.keys.items priced.memories.now.places.items
-        × (map (λ (row : SubsetRow × ℤ). row.1) rows ≡ priced.charges.now) × AreCharges rows }
+        × (map (λ (row : SubsetRow × ℤ). row.1) rows ≡ priced.charges.now) × AreCharges rows) ∥₁ }
     ensures bound { IfOk result (λ found. (near : ℕ → List ℕ) (rows : List (SubsetRow × ℤ))
         → AreMemoriesOf (leaf_rules (loads_problem leaf.now.context.now.demands (C.at leaf.now.context.now.costs.now))
         leaf.now.context.now.scale leaf.now.context.now.unit leaf.now.context.now.units.now.light

@@ -1,6 +1,8 @@
 -- The goals of `leaf_run_bound` in src/leaf_run_bound.rt, which bounds a leaf at a case by its least run: the facts of the sum
 -- that it makes, what its calls require, and what it ensures.
 use Rattle.tsp_routing.proofs.Prelude.{◌≡◌, ◌∙◌, ◌+◌, ◌-◌, ◌*◌, ◌^◌, Option, neg_ℤ, IsFromTo, ℕ, ℤ, List, map, length, refl, ap, ap₂, sym, subst, arith, rules, to_z, of_z, FitsSigned, pos, ◌-ℤ◌, ◌*ℤ◌, Vec, w64, w128, ints, to_z-of_z, length-map, entry, lists_of, families_with, as_leaf_numbers, lent_in, decisions_in}
+use Rattle.std.proofs.Math.Logic.{∥∥₁_elim}
+use Rattle.std.proofs.Props.{props}
 use Rattle.std.specs.Prelude.{IfSome}
 use Rattle.tsp_routing.specs.PlanBounds.{limits_total}
 use Rattle.tsp_routing.specs.PlanLinks.{sum_of_customers}
@@ -41,11 +43,11 @@ invariant_of-sum g c =
 
 pub run_bound-requires : goal.run_bound-requires
 run_bound-requires g c =
-    let given = c.requires.rules in
+    ∥∥₁_elim c.requires.rules (hlevel props) (λ given.
     let size = subst (λ (o : Option ℤ). IfSome o (IsFromTo (neg_ℤ (pos (2 ^ 83))) (pos (2 ^ 83)))) c.in-Some.is
     (c.in_ok-each.ensures.size given.0 given.1 given.2 given.3 given.4) in
     let fits : FitsSigned w128 c.in-Some.each = search rules in
-    rw (to_z-of_z w128 c.in-Some.each fits) size
+    rw (to_z-of_z w128 c.in-Some.each fits) size)
 
 pub returns-in_default-clause-bound : goal.returns-in_default-clause-bound
 returns-in_default-clause-bound g c = λ near rows are sets priced signs.
