@@ -42,7 +42,7 @@ module _ (n depot room : ℕ) (near : ℕ → List ℕ) (rows : List (SubsetRow 
           kept_alike state so_far last kept.0,
           record { customer = customer; other = may.other; unseen = may.unseen; within = omega (arith, within, load_is) },
           subst (λ (s : RunState). AreKeptFrom (with_numbers n depot room near rows other same) limit s
-          (so_far +ℤ (same state.last next +ℤ charged (with_numbers n depot room near rows other same) state next)) rest) moved
+              (so_far +ℤ (same state.last next +ℤ charged (with_numbers n depot room near rows other same) state next)) rest) moved
               (subst (λ (z : ℤ). AreKeptFrom (with_numbers n depot room near rows other same) limit after z rest) step later.0),
         ),
         later.1 ∙ ap (λ (s : RunState). state_after (with_numbers n depot room near rows other same) s rest) moved,

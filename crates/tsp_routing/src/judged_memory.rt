@@ -123,11 +123,7 @@ fn are_customers(demands: &Demands, marks: &mut [u32], mark: u32, nodes: &[u32])
 /// # Errors
 ///
 /// Out of memory.
-fn judge_rows(
-    alloc: Global,
-    demands: &Demands,
-    rows: &[RowSets],
-) -> Result<JudgedRows, Refused>
+fn judge_rows(alloc: Global, demands: &Demands, rows: &[RowSets]) -> Result<JudgedRows, Refused>
     requires demands { AreDemands demands.now }
     requires few { length rows.now ≤ 10000 }
     requires rows { AreRowsOf demands.now.nodes rows.now }

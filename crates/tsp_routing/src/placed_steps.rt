@@ -73,10 +73,7 @@ fn placed_changes(
 {
     let mut placed = Vec::new(alloc);
     'changes: for change in changes {
-        push(
-            &mut placed,
-            (place_of(nodes, families, change.0), change.1),
-        )?;
+        push(&mut placed, (place_of(nodes, families, change.0), change.1))?;
     }
     Ok(placed)
 }
