@@ -3,7 +3,7 @@ use Rattle.tsp_routing.proofs.Prelude.{◌≡◌, ℕ, zero, suc, ◌+◌, ◌-�
 use Rattle.std.proofs.lemmas.List.Elements.{Contains-append_right}
 use Rattle.tsp_routing.specs.declared.kept_state.KeptState.{KeptState}
 use Rattle.tsp_routing.specs.states.KeptLists.{AreRising, list_in}
-use Rattle.tsp_routing.specs.states.KeptCounts.{list_count, entry_count}
+use Rattle.tsp_routing.specs.states.KeptCounts.{count_in_lists, entry_count}
 use Rattle.tsp_routing.specs.states.RunTables.{item_lists}
 
 -- an entry with its load and its last customer
@@ -30,7 +30,7 @@ placed_long : (load last : ℕ) (list : List KeptState) → length (placed load 
 placed_long load last [] = refl
 placed_long load last (entry ∷ entries) = ap suc (placed_long load last entries)
 
-pub flat_lists_long : (load last : ℕ) (lists : List (List KeptState)) → length (flat_lists load last lists) ≡ list_count lists
+pub flat_lists_long : (load last : ℕ) (lists : List (List KeptState)) → length (flat_lists load last lists) ≡ count_in_lists lists
 flat_lists_long load last [] = refl
 flat_lists_long load last (list ∷ lists) =
     let whole = length-append (placed load last list) (flat_lists load (last + 1) lists) in

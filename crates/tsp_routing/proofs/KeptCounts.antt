@@ -7,7 +7,7 @@ use Rattle.tsp_routing.specs.Memories.{memory_word, memory_of, Remembers}
 use Rattle.tsp_routing.specs.Starts.{start_state}
 use Rattle.tsp_routing.specs.declared.kept_state.KeptState.{KeptState}
 use Rattle.tsp_routing.specs.states.KeptLists.{AreRising, IsEntryOf, IsKeptList, AreStateRows, list_in}
-use Rattle.tsp_routing.specs.states.KeptCounts.{list_count, entry_count, AreRisingLists, AreRisingRows}
+use Rattle.tsp_routing.specs.states.KeptCounts.{count_in_lists, entry_count, AreRisingLists, AreRisingRows}
 use Rattle.tsp_routing.specs.states.RunTables.{item_lists}
 use Rattle.tsp_routing.proofs.FlatStates.{PlacedEntry, flat_lists, flat_rows, flat_lists_long, flat_rows_long, all_lists, all_rows, Differ, Pairs, pairs_are, pairs_from, rows_and_differ, all_rows_and, rows_there}
 use Rattle.tsp_routing.proofs.PlanJudging.{few_customers}
@@ -216,7 +216,7 @@ module _ (rules : RunRules) (limit : ℤ) where
   pub table_many : (table : List (Vec (Vec KeptState))) (lists : List (List KeptState)) (count : ℕ)
       → AreStateRows rules limit table → AreRisingRows table
       → ((last : ℕ) → last < length lists → IsKeptList rules limit (length table) last (get_or lists last [])) → AreRisingLists lists
-      → count ≤ entry_count table + list_count lists → HasKeptStates rules limit count
+      → count ≤ entry_count table + count_in_lists lists → HasKeptStates rules limit count
   table_many table lists count rows rising last_row last_rising most =
       let flat : List PlacedEntry = flat_rows 0 table ++ flat_lists (0 + length table) 0 lists in
       let whole = length-append (flat_rows 0 table) (flat_lists (0 + length table) 0 lists) in
@@ -238,12 +238,12 @@ module _ (rules : RunRules) (limit : ℤ) where
 -- ---- one list more, and one row more
 
 pub list_count_pushed : (lists : List (Vec KeptState)) (own : Vec KeptState)
-    → list_count (item_lists (lists ++ own ∷ [])) ≡ list_count (item_lists lists) + length own.items
+    → count_in_lists (item_lists (lists ++ own ∷ [])) ≡ count_in_lists (item_lists lists) + length own.items
 list_count_pushed [] own = omega arith
 list_count_pushed (list ∷ lists) own = let rest = list_count_pushed lists own in omega (arith, rest)
 
 pub entry_count_pushed : (table : List (Vec (Vec KeptState))) (own : Vec (Vec KeptState))
-    → entry_count (table ++ own ∷ []) ≡ entry_count table + list_count (item_lists own.items)
+    → entry_count (table ++ own ∷ []) ≡ entry_count table + count_in_lists (item_lists own.items)
 entry_count_pushed [] own = omega arith
 entry_count_pushed (row ∷ rows) own = let rest = entry_count_pushed rows own in omega (arith, rest)
 

@@ -3,7 +3,7 @@ use Rattle.tsp_routing.proofs.Prelude.{◌≡◌, ℕ, zero, suc, ◌+◌, ◌<�
 use Rattle.tsp_format.specs.Steps as listed
 use Rattle.tsp_format.specs.states.TreeSteps.{step_of, steps_of}
 use Rattle.tsp_format.specs.declared.steps.TreeStep.{TreeStep}
-use Rattle.tsp_routing.specs.RunTrees.{place_of, placed_changes, placed_step, placed_steps}
+use Rattle.tsp_routing.specs.RunTrees.{number_place, placed_changes, step_with_places, placed_steps}
 
 pub map_pushed : {X Y : Type 0} (f : X → Y) (done new whole : List Y) (xs : List X) (index : ℕ) (d : X) → index < length xs
     → new ≡ done ++ f (get_or xs index d) ∷ [] → done ++ map f (drop index xs) ≡ whole → new ++ map f (drop (index + 1) xs) ≡ whole
@@ -33,14 +33,14 @@ steps_placed n families places steps all = All-from_recursion (IsStepOf places) 
     each [] own = tt
     each (listed.Branch a b ∷ xs) own = (own.0, each xs own.1)
     each (listed.Leaf changes ∷ xs) own = (
-      subst (λ (k : ℕ). k < 2 ^ 32) (sym (length-map changes (λ (change : ℕ × ℤ). (place_of n families change.0, change.1)))) own.0,
+      subst (λ (k : ℕ). k < 2 ^ 32) (sym (length-map changes (λ (change : ℕ × ℤ). (number_place n families change.0, change.1)))) own.0,
       each xs own.1,
     )
 
 -- one step more
 pub steps_pushed : (n families : ℕ) (done new : List TreeStep) (whole : List listed.Step) (steps : List TreeStep) (index : ℕ)
     (own : TreeStep) → index < length steps → new ≡ done ++ own ∷ []
-    → step_of own ≡ placed_step n families (step_of (get_or steps index own))
+    → step_of own ≡ step_with_places n families (step_of (get_or steps index own))
     → steps_of done ++ placed_steps n families (steps_of (drop index steps)) ≡ whole
     → steps_of new ++ placed_steps n families (steps_of (drop (index + 1) steps)) ≡ whole
 steps_pushed n families done new whole steps index own lt is placed before =
@@ -59,4 +59,4 @@ pub placed_long : (n families : ℕ) (placed steps : List TreeStep) → steps_of
 placed_long n families placed steps is =
     sym (length-map placed step_of)
     ∙ (ap (λ (xs : List listed.Step). length xs) is
-    ∙ (length-map (steps_of steps) (placed_step n families) ∙ length-map steps step_of))
+    ∙ (length-map (steps_of steps) (step_with_places n families) ∙ length-map steps step_of))

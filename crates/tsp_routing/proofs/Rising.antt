@@ -8,7 +8,7 @@ use Rattle.std.specs.Prelude.{IsSorted}
 use Rattle.std.specs.declared.cmp.Ordering.{Ordering}
 use Rattle.std.specs.declared.cmp.Ordering.TheVariants.{Less, Equal, Greater}
 use Rattle.tsp_routing.specs.declared.kept_state.KeptState.{KeptState}
-use Rattle.tsp_routing.specs.states.KeptLists.{AreLeastOf, AreRising, IsNotAfter, AreInOrder, StandsFor, IsLeastAdded}
+use Rattle.tsp_routing.specs.states.KeptLists.{AreLeastOf, AreRising, IsNotAfter, AreInOrder, LastStandsFor, IsLeastAdded}
 
 -- the order of entries
 abbrev pub state_cmp : KeptState → KeptState → Ordering
@@ -102,7 +102,7 @@ module _ (entries old new : List KeptState) (index : ℕ) (entry : KeptState) (l
           ]
         where
           stands : (d : KeptState) → 1 ≤ length old → (get_or old (length old - 1) d).word ≡ entry.word
-              → (get_or old (length old - 1) d).weight ≤ℤ entry.weight → StandsFor old entry
+              → (get_or old (length old - 1) d).weight ≤ℤ entry.weight → LastStandsFor old entry
           stands d some word lighter =
               let moved : get_or old (length old - 1) d ≡ get_or old (length old - 1) entry =
               get_or_default old (length old - 1) d entry (omega (arith, some)) in (

@@ -92,20 +92,20 @@ IsBadMemory n depot lists rows customer = IsFirstBadList n depot lists customer
 
 -- the place of an index among the numbers of a leaf, counted from 1: rows begin at n + 10,001. 0 for an index of nothing
 -- between families and rows
-abbrev pub place_of : ℕ → ℕ → ℕ → ℕ
-place_of n families index =
+abbrev pub number_place : ℕ → ℕ → ℕ → ℕ
+number_place n families index =
     if nat_le index (n + families) then index else (if nat_le index (n + 10000) then 0 else index - 10000 + families)
 
 abbrev pub placed_changes : ℕ → ℕ → List (ℕ × ℤ) → List (ℕ × ℤ)
-placed_changes n families changes = map (λ (change : ℕ × ℤ). (place_of n families change.0, change.1)) changes
+placed_changes n families changes = map (λ (change : ℕ × ℤ). (number_place n families change.0, change.1)) changes
 
 -- a step whose differences are at places
-abbrev pub placed_step : ℕ → ℕ → Step → Step
-placed_step n families (Branch first second) = Branch first second
-placed_step n families (Leaf changes) = Leaf (placed_changes n families changes)
+abbrev pub step_with_places : ℕ → ℕ → Step → Step
+step_with_places n families (Branch first second) = Branch first second
+step_with_places n families (Leaf changes) = Leaf (placed_changes n families changes)
 
 abbrev pub placed_steps : ℕ → ℕ → List Step → List Step
-placed_steps n families steps = map (placed_step n families) steps
+placed_steps n families steps = map (step_with_places n families) steps
 
 -- potentials, multipliers and charges, none too large, and no charge below 0; the sizes of multipliers and charges
 -- together don't sum to too much

@@ -5,7 +5,7 @@ ghost use Rattle.std.specs.Prelude.{◌≡◌, ◌≤◌, ◌<◌, ◌+◌, ◌+
 ghost use Rattle.tsp_cases.specs.states.GoodFamilies.{AreUnmarked, AddsNoOther};
 ghost use Rattle.tsp_routing.specs.states.Demands.{AreDemands};
 ghost use Rattle.tsp_routing.specs.states.GivenMemories.{subset_row_of};
-ghost use Rattle.tsp_routing.specs.states.JudgedMemory.{AreListsOf, AreRowsOf, AreListsJudged, AreRowsJudged, IsNearTable, IsWithin, IsFirstFullIn, AreMemoriesJudged};
+ghost use Rattle.tsp_routing.specs.states.JudgedMemory.{AreListsOf, AreRowsOf, AreListsJudged, AreRowsJudged, IsNearTable, IsKeptWithin, IsFirstFullIn, AreMemoriesJudged};
 ghost use Rattle.tsp_routing.specs.states.RunTables.{item_lists};
 
 use crate::row_sets::RowSets;
@@ -261,7 +261,7 @@ fn first_full(demands: &Demands, near: &[Vec<u32>], counts: &[u32]) -> Option<u3
 fn is_full(near: &[Vec<u32>], counts: &[u32], node: u32) -> bool
     requires near { node < length near.now }
     requires counts { node < length counts.now }
-    ensures { IsTrue result ↔ (IsWithin near.now counts.now node → ⊥) }
+    ensures { IsTrue result ↔ (IsKeptWithin near.now counts.now node → ⊥) }
 {
     near[node as usize].len() as u64 + u64::from(counts[node as usize]) > 64
 }

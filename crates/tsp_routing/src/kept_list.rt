@@ -5,7 +5,7 @@ ghost use Rattle.std.specs.Prelude.{◌≡◌, ◌≢◌, ◌≤◌, ◌<◌, �
 ghost use Rattle.tsp_routing.specs.Runs.{SubsetRow};
 ghost use Rattle.tsp_routing.specs.states.Demands.{load_at};
 ghost use Rattle.tsp_routing.specs.states.RunTables.{item_lists};
-ghost use Rattle.tsp_routing.specs.states.KeptLists.{rules_of, IsLeafOf, IsKeptList, IsKeptListTo, AreStateRows, AreSizedEntries, AreSizedRows, AreLeastOf, AreRising, AreInOrder, StandsFor, IsLeastAdded, list_in};
+ghost use Rattle.tsp_routing.specs.states.KeptLists.{rules_of, IsLeafOf, IsKeptList, IsKeptListTo, AreStateRows, AreSizedEntries, AreSizedRows, AreLeastOf, AreRising, AreInOrder, LastStandsFor, IsLeastAdded, list_in};
 
 use crate::first_entry::first_entry;
 use crate::kept_state::KeptState;
@@ -201,7 +201,7 @@ fn add_least(least: &mut Vec<KeptState>, entry: KeptState) -> Result<(), Refused
 
 /// Whether the last entry of a list has the same memory as another one, and weighs no more.
 fn stands_for(least: &[KeptState], entry: KeptState) -> bool
-    ensures { IsTrue result ↔ StandsFor least.now entry }
+    ensures { IsTrue result ↔ LastStandsFor least.now entry }
 {
     if least.is_empty() {
         return false;

@@ -4,7 +4,7 @@ ghost use Rattle.std.specs.Prelude.{◌≡◌, ◌≤◌, ◌<◌, ◌+◌, ℕ,
 ghost use Rattle.tsp_routing.specs.Runs.{SubsetRow};
 ghost use Rattle.tsp_routing.specs.KeptStates.{most_states};
 ghost use Rattle.tsp_routing.specs.states.RunTables.{item_lists};
-ghost use Rattle.tsp_routing.specs.states.KeptCounts.{list_count, entry_count, AreRisingLists, AreRisingRows, IsStateRowIfFew, AreStateRowsIfFew};
+ghost use Rattle.tsp_routing.specs.states.KeptCounts.{count_in_lists, entry_count, AreRisingLists, AreRisingRows, IsStateRowIfFew, AreStateRowsIfFew};
 ghost use Rattle.tsp_routing.specs.states.KeptLists.{rules_of, IsLeafOf, IsStateRow, AreStateRows, IsSizedRow, AreSizedRows};
 
 use crate::kept_list::kept_list;
@@ -66,7 +66,7 @@ fn states_with(
         → IsStateRowIfFew (rules_of leaf.now near rows) leaf.now.limit
         (IsStateRow (rules_of leaf.now near rows) leaf.now.limit (length table.now)) found) }
     ensures rising { IfOk result (λ found. IfSome found (λ next. AreRisingLists (item_lists next.items))) }
-    ensures count { IfOk result (λ found. IfSome found (λ next. count.new ≡ count.old + list_count (item_lists next.items))) }
+    ensures count { IfOk result (λ found. IfSome found (λ next. count.new ≡ count.old + count_in_lists (item_lists next.items))) }
     ensures fits { IfOk result (λ found. IfSome found (λ next. count.new ≤ most_states)) }
     ensures sizes { IfOk result (λ found. IfSome found (λ next. IsSizedRow leaf.now.nodes.now.nodes (length table.now)
         (item_lists next.items))) }

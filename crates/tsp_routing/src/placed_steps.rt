@@ -3,7 +3,7 @@
 ghost use Rattle.tsp_routing.specs.Prelude.{ℕ, ℤ, List, map, take, length, IfOk, most_nodes};
 ghost use Rattle.std.specs.Prelude.{◌≡◌, ◌≤◌, ◌<◌, ◌+◌, ◌∷◌};
 ghost use Rattle.tsp_format.specs.states.TreeSteps.{step_of, steps_of};
-ghost use Rattle.tsp_routing.specs.RunTrees.{place_of, placed_changes, placed_step, placed_steps};
+ghost use Rattle.tsp_routing.specs.RunTrees.{number_place, placed_changes, step_with_places, placed_steps};
 
 use std::alloc::Global;
 use tsp_format::TreeStep;
@@ -26,7 +26,7 @@ pub(crate) fn placed_steps(
 {
     let mut placed = Vec::new(alloc);
     'steps: for step in steps {
-        let own = placed_step(alloc, nodes, families, step)?;
+        let own = step_with_places(alloc, nodes, families, step)?;
         push(&mut placed, own)?;
     }
     Ok(placed)
@@ -37,7 +37,7 @@ pub(crate) fn placed_steps(
 /// # Errors
 ///
 /// Out of memory.
-fn placed_step(
+fn step_with_places(
     alloc: Global,
     nodes: u32,
     families: u32,
@@ -45,7 +45,7 @@ fn placed_step(
 ) -> Result<TreeStep, Refused>
     requires nodes { nodes ≤ most_nodes }
     requires families { families ≤ 10000 }
-    ensures { IfOk result (λ placed. step_of placed ≡ placed_step nodes families (step_of step.now)) }
+    ensures { IfOk result (λ placed. step_of placed ≡ step_with_places nodes families (step_of step.now)) }
 {
     match step {
         TreeStep::Branch(first, second) => Ok(TreeStep::Branch(*first, *second)),
@@ -73,16 +73,19 @@ fn placed_changes(
 {
     let mut placed = Vec::new(alloc);
     'changes: for change in changes {
-        push(&mut placed, (place_of(nodes, families, change.0), change.1))?;
+        push(
+            &mut placed,
+            (number_place(nodes, families, change.0), change.1),
+        )?;
     }
     Ok(placed)
 }
 
 /// The place of an index among the numbers of a leaf, from 1 on; 0 where it is none.
-fn place_of(nodes: u32, families: u32, index: u32) -> u32
+fn number_place(nodes: u32, families: u32, index: u32) -> u32
     requires nodes { nodes ≤ most_nodes }
     requires families { families ≤ 10000 }
-    ensures { result ≡ place_of nodes families index }
+    ensures { result ≡ number_place nodes families index }
 {
     if index <= nodes + families {
         return index;

@@ -36,13 +36,13 @@ pub record IsNearTable (n : ℕ) (lists : List (List ℕ)) (near : List (Vec ℕ
   pub are : (node : ℕ) → node ≤ n → near_in near node ≡ near_of lists node
 
 -- Some: the first customer up to a node that keeps more than 64 by the table and the counts. None: there is none.
-abbrev pub IsWithin : List (Vec ℕ) → List ℕ → ℕ → Type 0
-IsWithin near counts node = length (near_in near node) + slice_index_or counts node 0 ≤ 64
+abbrev pub IsKeptWithin : List (Vec ℕ) → List ℕ → ℕ → Type 0
+IsKeptWithin near counts node = length (near_in near node) + slice_index_or counts node 0 ≤ 64
 
 abbrev pub IsFirstFullIn : ℕ → ℕ → List (Vec ℕ) → List ℕ → Option ℕ → Type 0
-IsFirstFullIn n depot near counts None = (customer : ℕ) → IsCustomer n depot customer → IsWithin near counts customer
-IsFirstFullIn n depot near counts (Some full) = IsCustomer n depot full × (IsWithin near counts full → ⊥)
-    × ((earlier : ℕ) → IsCustomer n depot earlier → earlier < full → IsWithin near counts earlier)
+IsFirstFullIn n depot near counts None = (customer : ℕ) → IsCustomer n depot customer → IsKeptWithin near counts customer
+IsFirstFullIn n depot near counts (Some full) = IsCustomer n depot full × (IsKeptWithin near counts full → ⊥)
+    × ((earlier : ℕ) → IsCustomer n depot earlier → earlier < full → IsKeptWithin near counts earlier)
 
 -- the judgement on all of it
 abbrev pub AreMemoriesJudged : ℕ → ℕ → List (List ℕ) → List SubsetRow → JudgedMemory → Type 0

@@ -9,14 +9,14 @@ use Rattle.tsp_routing.specs.states.KeptLists.{AreRising, AreStateRows}
 use Rattle.tsp_routing.specs.states.RunTables.{item_lists}
 
 -- how many entries the lists of a load have
-abbrev pub list_count : List (List KeptState) → ℕ
-list_count [] = 0
-list_count (list ∷ lists) = length list + list_count lists
+abbrev pub count_in_lists : List (List KeptState) → ℕ
+count_in_lists [] = 0
+count_in_lists (list ∷ lists) = length list + count_in_lists lists
 
 -- how many entries the lists of all loads have
 abbrev pub entry_count : List (Vec (Vec KeptState)) → ℕ
 entry_count [] = 0
-entry_count (row ∷ rows) = list_count (item_lists row.items) + entry_count rows
+entry_count (row ∷ rows) = count_in_lists (item_lists row.items) + entry_count rows
 
 -- no list of a load has two entries with the same memory
 abbrev pub AreRisingLists : List (List KeptState) → Type 0

@@ -103,13 +103,13 @@ AreInOrder entries = (k : ℕ) (d : KeptState) → k + 1 < length entries
     → IsNotAfter (slice_index_or entries k d) (slice_index_or entries (k + 1) d)
 
 -- the last entry has the same memory as this one, and weighs no more
-abbrev pub StandsFor : List KeptState → KeptState → Type 0
-StandsFor entries entry = (1 ≤ length entries) × ((slice_index_or entries (length entries - 1) entry).word ≡ entry.word)
+abbrev pub LastStandsFor : List KeptState → KeptState → Type 0
+LastStandsFor entries entry = (1 ≤ length entries) × ((slice_index_or entries (length entries - 1) entry).word ≡ entry.word)
     × ((slice_index_or entries (length entries - 1) entry).weight ≤ℤ entry.weight)
 
 -- an entry is put behind others, unless the last one stands for it
 abbrev pub IsLeastAdded : List KeptState → KeptState → List KeptState → Type 0
-IsLeastAdded old entry new = ((new ≡ old) × StandsFor old entry) ⊎ ((new ≡ old ++ entry ∷ []) × (StandsFor old entry → ⊥))
+IsLeastAdded old entry new = ((new ≡ old) × LastStandsFor old entry) ⊎ ((new ≡ old ++ entry ∷ []) × (LastStandsFor old entry → ⊥))
 
 -- the lists of a load, each at the index of its last customer
 abbrev pub IsStateRow : RunRules → ℤ → ℕ → List (List KeptState) → Type 0

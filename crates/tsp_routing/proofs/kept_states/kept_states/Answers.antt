@@ -4,7 +4,7 @@ use Rattle.std.specs.Prelude.{IfSome}
 use Rattle.tsp_routing.specs.KeptStates.{most_states}
 use Rattle.tsp_routing.specs.declared.kept_state.KeptState.{KeptState}
 use Rattle.tsp_routing.specs.states.RunTables.{item_lists}
-use Rattle.tsp_routing.specs.states.KeptCounts.{list_count, entry_count, AreRisingLists, AreRisingRows, IsStateRowIfFew}
+use Rattle.tsp_routing.specs.states.KeptCounts.{count_in_lists, entry_count, AreRisingLists, AreRisingRows, IsStateRowIfFew}
 use Rattle.tsp_routing.specs.states.KeptLists.{rules_of, IsStateRow, AreStateRows, IsSizedRow, AreSizedRows}
 use Rattle.tsp_routing.proofs.KeptCounts.{entry_count_pushed}
 use Rattle.tsp_routing.proofs.WaysHome.{rows_pushed}
@@ -23,7 +23,7 @@ loads-preserved c =
     let rising = subst (λ (o : Option (Vec (Vec KeptState))). IfSome o (λ (own : Vec (Vec KeptState)). AreRisingLists (item_lists own.items)))
     c.in-Some.is c.in_ok-next.ensures.rising in
     let count = subst (λ (o : Option (Vec (Vec KeptState))). IfSome o (λ (own : Vec (Vec KeptState)).
-    c.states_with.new.count ≡ c.loads.count + list_count (item_lists own.items))) c.in-Some.is c.in_ok-next.ensures.count in
+    c.states_with.new.count ≡ c.loads.count + count_in_lists (item_lists own.items))) c.in-Some.is c.in_ok-next.ensures.count in
     let fits = subst (λ (o : Option (Vec (Vec KeptState))). IfSome o (λ (own : Vec (Vec KeptState)). c.states_with.new.count ≤ most_states))
     c.in-Some.is c.in_ok-next.ensures.fits in
     let sizes = subst (λ (o : Option (Vec (Vec KeptState))). IfSome o (λ (own : Vec (Vec KeptState)).

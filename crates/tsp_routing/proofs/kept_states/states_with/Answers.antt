@@ -4,7 +4,7 @@ use Rattle.tsp_routing.specs.Runs.{RunRules}
 use Rattle.tsp_routing.specs.KeptStates.{most_states}
 use Rattle.tsp_routing.specs.declared.kept_state.KeptState.{KeptState}
 use Rattle.tsp_routing.specs.states.RunTables.{item_lists}
-use Rattle.tsp_routing.specs.states.KeptCounts.{list_count, AreRisingLists}
+use Rattle.tsp_routing.specs.states.KeptCounts.{count_in_lists, AreRisingLists}
 use Rattle.tsp_routing.specs.states.KeptLists.{rules_of, IsKeptList, AreSizedEntries}
 use Rattle.tsp_routing.proofs.KeptBefores.{no_customer}
 use Rattle.tsp_routing.proofs.KeptCounts.{list_count_pushed, rising_lists, table_many}
@@ -24,7 +24,7 @@ nodes-init c =
           → IsKeptList (rules_of c.args.leaf.now near rows) c.args.leaf.now.limit (length c.args.table.now) last (get_or (item_lists xs) last []))
           (sym items) (none_first (rules_of c.args.leaf.now near rows) c.args.leaf.now.limit (length c.args.table.now) none c.new.ensures.items);
       rising = subst (λ (xs : List (Vec KeptState)). AreRisingLists (item_lists xs)) (sym items) (one_rising none c.new.ensures.items);
-      counted = omega (arith, ap (λ (xs : List (Vec KeptState)). list_count (item_lists xs)) items, ap (λ (xs : List KeptState). length xs) c.new.ensures.items);
+      counted = omega (arith, ap (λ (xs : List (Vec KeptState)). count_in_lists (item_lists xs)) items, ap (λ (xs : List KeptState). length xs) c.new.ensures.items);
       fits = c.requires.fits;
       sizes = subst (λ (xs : List (Vec KeptState)). (node : ℕ) → node < length xs
           → AreSizedEntries (length c.args.table.now) (get_or (item_lists xs) node [])) (sym items)
@@ -69,7 +69,7 @@ nodes-preserved c =
           (c.in_ok-list.ensures.exact near rows leaf_of states)));
       rising = subst (λ (xs : List (Vec KeptState)). AreRisingLists (item_lists xs)) (sym pushed) (rising_lists before own h.rising c.in_ok-list.ensures.rising);
       counted =
-          let more = ap (λ (xs : List (Vec KeptState)). list_count (item_lists xs)) pushed in
+          let more = ap (λ (xs : List (Vec KeptState)). count_in_lists (item_lists xs)) pushed in
           let sum = list_count_pushed before own in
           let so_far = h.counted in
           let first = c.len.ensures in

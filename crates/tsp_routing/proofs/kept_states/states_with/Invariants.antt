@@ -3,7 +3,7 @@ use Rattle.tsp_routing.proofs.Prelude.{◌≡◌, ◌≤◌, ◌<◌, ◌+◌, �
 use Rattle.tsp_routing.specs.Runs.{SubsetRow}
 use Rattle.tsp_routing.specs.KeptStates.{most_states}
 use Rattle.tsp_routing.specs.states.RunTables.{item_lists}
-use Rattle.tsp_routing.specs.states.KeptCounts.{list_count, AreRisingLists}
+use Rattle.tsp_routing.specs.states.KeptCounts.{count_in_lists, AreRisingLists}
 use Rattle.tsp_routing.specs.states.KeptLists.{rules_of, IsLeafOf, IsKeptList, AreStateRows, AreSizedEntries}
 use Rattle.tsp_routing.proofs.kept_states.states_with.Given as goal
 
@@ -16,7 +16,7 @@ invariant-nodes l = record {
       → (last : ℕ) → last < length l.lists.items
       → IsKeptList (rules_of l.leaf near rows) l.leaf.limit (length l.table) last (get_or (item_lists l.lists.items) last []);
   rising : AreRisingLists (item_lists l.lists.items);
-  counted : l.count ≡ l.fn.count + list_count (item_lists l.lists.items);
+  counted : l.count ≡ l.fn.count + count_in_lists (item_lists l.lists.items);
   fits : l.count ≤ most_states;
   sizes : (node : ℕ) → node < length l.lists.items → AreSizedEntries (length l.table) (get_or (item_lists l.lists.items) node []);
 }
