@@ -819,7 +819,7 @@ class Memory:
         run so far, by what it remembers. Those that can't end below `most` are left out."""
         depot, customers = self.fleet.depot, self.fleet.customers
         rows = [row(max(1, node)) for node in range(self.fleet.count + 1)]
-        home, open_rows = self.ways_home(rows, loads, room), [(gain, *it) for gain, it in zip(gains, self.rows) if gain]
+        home, open_rows = self.ways_home(rows, loads, room), [(gain, *it) for gain, it in zip(gains, self.rows)]
         bit = {node: 1 << len(open_rows) + place for place, node in enumerate(customers)}
         inside, keeps = dict.fromkeys(customers, 0), {node: sum(bit[it] for it in self.near.get(node, [])) for node in customers}
         for place, (_, nodes, more) in enumerate(open_rows):

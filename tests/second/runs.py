@@ -63,11 +63,12 @@ class Memory:
 
 
 class Runs:
-    """The runs of a leaf, under its weights and what its rows cost. A row that costs nothing is left out."""
+    """The runs of a leaf, under its weights and what its rows cost. A row that costs nothing is remembered like the others, so
+    it counts in what a state is."""
 
     def __init__(self, memory: Memory, weight: Cost, gains: list[int], depot: int, load: dict[int, int], room: int) -> None:
         self.memory, self.weight, self.depot, self.load, self.room = memory, weight, depot, load, room
-        self.gains = {row: gain for row, gain in enumerate(gains) if gain}
+        self.gains = dict(enumerate(gains))
         self.half_sum = sum(gain * (len(memory.sets[row]) // 2) for row, gain in self.gains.items())
 
     def starts(self) -> Iterator[tuple[int, State]]:

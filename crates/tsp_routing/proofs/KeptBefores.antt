@@ -2,13 +2,14 @@
 -- entries.
 use Rattle.tsp_routing.proofs.Prelude.{◌≡◌, ◌≢◌, ℕ, ◌+◌, ◌-◌, ◌*◌, ◌^◌, ◌≤◌, ◌<◌, List, [], ◌∷◌, ◌++◌, take, length, get_or, refl, sym, ap, ◌∙◌, subst, arith, inl, inr, ◌⊎◌, Some, None, ℤ, pos, neg_ℤ, ◌+ℤ◌, ◌≤ℤ◌, All, Contains, ints, cases_eq, take_more, All-nil, All-cons, All-push, All-contains, All-weaker, Contains-append_left, Contains-push, Contains-push_cases, IsFromTo, IsCustomer}
 use Rattle.std.specs.List.Sorted.{IsPermutation}
+use Rattle.std.proofs.lemmas.List.Elements.{Contains-get_or}
 use Rattle.std.proofs.lemmas.List.Sorted.{Contains-permutation, IsPermutation-sym}
 use Rattle.tsp_routing.specs.Runs.{RunRules, first_state, MayServe}
 use Rattle.tsp_routing.specs.KeptStates.{IsKeptState}
 use Rattle.tsp_routing.specs.Memories.{Remembers}
 use Rattle.tsp_routing.specs.Starts.{start_state, start_weight, IsStart}
 use Rattle.tsp_routing.specs.declared.kept_state.KeptState.{KeptState}
-use Rattle.tsp_routing.specs.states.KeptLists.{IsFirstEntry, IsEntryOf, CoversStart, IsKeptList, IsKeptListTo, AddsNexts, AreLeastOf, AreSizedEntries}
+use Rattle.tsp_routing.specs.states.KeptLists.{IsFirstEntry, IsEntryOf, CoversStart, IsKeptList, IsKeptListTo, AddsNexts, AreLeastOf, IsLeastAdded, AreSizedEntries}
 use Rattle.tsp_routing.proofs.Starts.{last_is, last_serves, holds_own}
 use Rattle.tsp_routing.proofs.KeptLists.{covered_by_more}
 
@@ -123,12 +124,18 @@ no_list rules limit load last heavy = record {
   covers = λ earlier start load_is. absurd (let own = holds_own rules last earlier in omega (arith, own, load_is, heavy));
 }
 
+-- no start ends where there is no customer
+pub no_customer : (rules : RunRules) (limit : ℤ) (load last : ℕ) → (IsCustomer rules.nodes rules.depot last → ⊥)
+    → IsKeptList rules limit load last []
+no_customer rules limit load last none = record {
+  met = All-nil (IsEntryOf rules limit load last);
+  covers = λ earlier start load_is. absurd (none (last_serves rules limit last earlier start));
+}
+
 -- one entry more, or one that another one stands for
 pub least_more : (entries old new : List KeptState) (index : ℕ) (entry : KeptState) → index < length entries
     → entry ≡ get_or entries index entry
-    → ((new ≡ old) × ((other : KeptState) × Contains old other × (other.word ≡ entry.word) × (other.weight ≤ℤ entry.weight)))
-    ⊎ (new ≡ old ++ entry ∷ [])
-    → AreLeastOf (take index entries) old → AreLeastOf (take (index + 1) entries) new
+    → IsLeastAdded old entry new → AreLeastOf (take index entries) old → AreLeastOf (take (index + 1) entries) new
 least_more entries old new index entry lt is chosen h =
     subst (λ (xs : List KeptState). AreLeastOf xs new) (sym whole) (elim chosen [
       | inl stays ↦ subst (AreLeastOf (take index entries ++ entry ∷ [])) (sym stays.0) (record {
@@ -136,10 +143,15 @@ least_more entries old new index entry lt is chosen h =
             (λ other there. Contains-append_left (take index entries) (entry ∷ []) other there) old h.among;
         each = λ other there. elim (Contains-push_cases (take index entries) entry other there) [
           | inl before ↦ h.each other before
-          | inr it ↦ subst (λ (e : KeptState). (k : KeptState) × Contains old k × (k.word ≡ e.word) × (k.weight ≤ℤ e.weight)) it stays.1
+          | inr it ↦ subst (λ (e : KeptState). (k : KeptState) × Contains old k × (k.word ≡ e.word) × (k.weight ≤ℤ e.weight)) it (
+            get_or old (length old - 1) entry,
+            Contains-get_or old (length old - 1) entry (let some = stays.1.0 in omega (arith, some)),
+            stays.1.1,
+            stays.1.2,
+          )
         ];
       })
-      | inr pushed ↦ subst (AreLeastOf (take index entries ++ entry ∷ [])) (sym pushed) (record {
+      | inr pushed ↦ subst (AreLeastOf (take index entries ++ entry ∷ [])) (sym pushed.0) (record {
         among = All-push (Contains (take index entries ++ entry ∷ [])) old entry
             (All-weaker (Contains (take index entries)) (Contains (take index entries ++ entry ∷ []))
             (λ other there. Contains-append_left (take index entries) (entry ∷ []) other there) old h.among)

@@ -26,7 +26,7 @@ least_is rules limit table least signs long rows within below met =
         let state = start_state rules last earlier in
         let serves = last_serves rules limit last earlier start.2 in
         let lt : state.load < length table = let fits = within_room rules limit last earlier start.2 in omega (arith, fits, long) in
-        let covers = (rows state.load lt last serves).covers earlier start.2 refl in
+        let covers = (rows state.load lt last).covers earlier start.2 refl in
         let own = All-contains (λ (entry : KeptState). least ≤ℤ (entry.weight +ℤ rules.weight last rules.depot))
         (list_in table state.load last) covers.entry (below state.load lt last serves) covers.there in
         let lighter = covers.lighter in
@@ -42,7 +42,7 @@ least_is rules limit table least signs long rows within below met =
         let last : ℕ = by.2.0 in
         let entry : KeptState = by.2.2.0 in
         let own = All-contains (IsEntryOf rules limit load last) (list_in table load last) entry
-        (rows load by.1 last by.2.1).met by.2.2.1 in
+        (rows load by.1 last).met by.2.2.1 in
         let start = starts_are_kept_starts rules limit last own.earlier own.start in
         let weight = own.weight_is in
         let whole = start.3 in

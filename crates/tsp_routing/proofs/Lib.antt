@@ -6,6 +6,9 @@ pub mod PlanBounds
 pub mod RouteRuns
 pub mod RunCharges
 pub mod RunBounds
+pub mod RunTrees
+pub mod PlacedSteps
+pub mod JudgedLists
 pub mod RectangleRuns
 pub mod KeptStarts
 pub mod WaysHome
@@ -17,9 +20,14 @@ pub mod GivenKeys
 pub mod GivenTables
 pub mod KeptLists
 pub mod KeptBefores
+pub mod SameStates
+pub mod FlatStates
+pub mod KeptCounts
+pub mod Rising
 pub mod LeastKept
 pub mod RunSizes
 pub mod RunsAlike
+pub mod StatesAlike
 pub mod RowHalves
 pub mod RouteProducts
 pub mod PlanJudging

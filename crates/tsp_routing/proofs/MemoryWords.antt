@@ -39,7 +39,7 @@ has_at (x ∷ xs) (suc place) lt =
     ]
 
 -- a key is at most the last node where all are nodes
-not_beyond : (nodes : ℕ) (xs : List ℕ) (key : ℕ) → AllByRecursion (IsNode nodes) xs → nodes < key → has xs key ≡ false
+pub not_beyond : (nodes : ℕ) (xs : List ℕ) (key : ℕ) → AllByRecursion (IsNode nodes) xs → nodes < key → has xs key ≡ false
 not_beyond nodes [] key all beyond = refl
 not_beyond nodes (x ∷ xs) key all beyond =
     ap (λ (b : Bool). b || has xs key) (ne_eqb x key (λ same. let le = all.0.1 in omega (arith, same, le, beyond)))
@@ -97,7 +97,7 @@ pub at_node : (nodes : ℕ) (rows : List (SubsetRow × ℤ)) (state : RunState) 
 at_node nodes rows state key le =
     ap (λ (b : Bool). if b then state.seen key else odd_at rows (key - (nodes + 1)) state) (le-leb key nodes le)
 
-at_row : (nodes : ℕ) (rows : List (SubsetRow × ℤ)) (state : RunState) (key : ℕ) → nodes < key
+pub at_row : (nodes : ℕ) (rows : List (SubsetRow × ℤ)) (state : RunState) (key : ℕ) → nodes < key
     → told nodes rows state key ≡ odd_at rows (key - (nodes + 1)) state
 at_row nodes rows state key lt =
     ap (λ (b : Bool). if b then state.seen key else odd_at rows (key - (nodes + 1)) state) (lt-leb key nodes lt)

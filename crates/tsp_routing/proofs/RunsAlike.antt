@@ -12,7 +12,7 @@ with_numbers n depot room near rows load weight =
     record { nodes = n; depot = depot; load = load; room = room; weight = weight; near = near; rows = rows }
 
 -- the next state with this load
-abbrev at_load : (ℕ → List ℕ) → RunState → ℕ → ℕ → RunState
+abbrev pub at_load : (ℕ → List ℕ) → RunState → ℕ → ℕ → RunState
 at_load near state next q = record {
   load = q;
   last = next;
@@ -20,11 +20,11 @@ at_load near state next q = record {
   odd = λ row. keeps row next && (if has row.set next then not (state.odd row) else state.odd row);
 }
 
-abbrev first_at : ℕ → ℕ → RunState
+abbrev pub first_at : ℕ → ℕ → RunState
 first_at first q = record { load = q; last = first; seen = λ customer. false; odd = λ row. has row.set first }
 
 module _ (n depot room : ℕ) (near : ℕ → List ℕ) (rows : List (SubsetRow × ℤ)) (there : IsNode n depot) where
-  rest_alike : (load other : ℕ → ℕ) (weight same : ℕ → ℕ → ℤ) → ((node : ℕ) → IsNode n node → load node ≡ other node)
+  pub rest_alike : (load other : ℕ → ℕ) (weight same : ℕ → ℕ → ℤ) → ((node : ℕ) → IsNode n node → load node ≡ other node)
       → ((i j : ℕ) → IsNode n i → IsNode n j → weight i j ≡ same i j) → (state : RunState) (rest : List ℕ) → IsNode n state.last
       → IsRunRest (with_numbers n depot room near rows load weight) state rest
       → IsRunRest (with_numbers n depot room near rows other same) state rest

@@ -1,7 +1,7 @@
 -- Kept states: the states of runs that a programme over states has to keep, by completion bounds. The completions are
 -- plain: a way home may visit customers in any order, also back and forth between two of them.
 use Rattle.tsp_routing.specs.Prelude.{ℕ, false, List, [], length, Some, ℤ, All, AllPairs, IsCustomer}
-use Rattle.std.specs.Prelude.{◌≡◌, ◌⊎◌, ◌↔◌, ◌≤◌, ◌∷◌, ◌+ℤ◌, ◌≤ℤ◌, ◌<ℤ◌}
+use Rattle.std.specs.Prelude.{◌≡◌, ◌⊎◌, ◌↔◌, ◌≤◌, ◌+◌, ◌∷◌, ◌+ℤ◌, ◌≤ℤ◌, ◌<ℤ◌}
 use Rattle.tsp_routing.specs.QRoutes.{IsLeastAmong}
 use Rattle.tsp_routing.specs.Runs.{RunRules, RunState, first_state, next_state, MayServe, charged, IsRunRest, rest_weight, IsRunUnder, run_weight, AreCharges}
 use Rattle.tsp_routing.specs.RunBounds.{IsLeastRun}
@@ -64,6 +64,14 @@ pub record AreSameStates (rules : RunRules) (a b : RunState) : Type 0 where
 abbrev pub HasKeptStates : RunRules → ℤ → ℕ → Type 0
 HasKeptStates rules limit count = (starts : List (List ℕ)) × (length starts ≡ count) × All (IsKeptStart rules limit) starts
     × AllPairs (λ a b. AreSameStates rules (end_state rules a) (end_state rules b) → ⊥) starts
+
+-- the most kept states of a leaf
+abbrev pub most_states : ℕ
+most_states = 10000000
+
+-- there are more kept states than a leaf may have
+abbrev pub HasTooManyStates : RunRules → ℤ → Type 0
+HasTooManyStates rules limit = HasKeptStates rules limit (most_states + 1)
 
 -- the lesser of a limit and of the least weight of a run that is a kept start
 pub record IsLeastKeptRun (rules : RunRules) (limit each : ℤ) : Type 0 where

@@ -11,4 +11,5 @@ pub mod KeptStates
 pub mod Memories
 pub mod Starts
 pub mod PlanVerdicts
+pub mod RunTrees
 pub mod Examples

@@ -5,6 +5,8 @@ pub mod Judged
 pub mod RunTables
 pub mod MemoryTables
 pub mod KeptLists
+pub mod KeptCounts
 pub mod GivenMemories
 pub mod LeastKept
+pub mod JudgedMemory
 pub mod RowHalves

@@ -1,11 +1,11 @@
 //! The list of kept states of one load and one last customer.
 
-ghost use Rattle.tsp_routing.specs.Prelude.{[], ℕ, ℤ, List, true, pos, neg_ℤ, length, slice_index_or, IfOk, Contains, IsNode, IsCustomer};
-ghost use Rattle.std.specs.Prelude.{◌≡◌, ◌≢◌, ◌≤◌, ◌<◌, ◌+◌, ◌-◌, ◌*◌, ◌^◌, ◌≤ℤ◌};
+ghost use Rattle.tsp_routing.specs.Prelude.{[], ℕ, ℤ, List, pos, neg_ℤ, length, slice_index_or, IfOk, IsTrue, IsNode, IsCustomer};
+ghost use Rattle.std.specs.Prelude.{◌≡◌, ◌≢◌, ◌≤◌, ◌<◌, ◌+◌, ◌-◌, ◌*◌, ◌^◌, ◌≤ℤ◌, ◌↔◌};
 ghost use Rattle.tsp_routing.specs.Runs.{SubsetRow};
 ghost use Rattle.tsp_routing.specs.states.Demands.{load_at};
 ghost use Rattle.tsp_routing.specs.states.RunTables.{item_lists};
-ghost use Rattle.tsp_routing.specs.states.KeptLists.{rules_of, IsLeafOf, IsKeptList, IsKeptListTo, AreStateRows, AreSizedEntries, AreSizedRows, AreLeastOf, IsLeastAdded, list_in};
+ghost use Rattle.tsp_routing.specs.states.KeptLists.{rules_of, IsLeafOf, IsKeptList, IsKeptListTo, AreStateRows, AreSizedEntries, AreSizedRows, AreLeastOf, AreRising, AreInOrder, LastStandsFor, IsLeastAdded, list_in};
 
 use crate::first_entry::first_entry;
 use crate::kept_state::KeptState;
@@ -32,8 +32,8 @@ pub(crate) fn kept_list(
     requires sizes { AreSizedRows leaf.now.nodes.now.nodes table.now }
     ensures exact { IfOk result (λ list. (near : ℕ → List ℕ) (rows : List (SubsetRow × ℤ)) → IsLeafOf leaf.now near rows
         → AreStateRows (rules_of leaf.now near rows) leaf.now.limit table.now
-        → IsCustomer leaf.now.nodes.now.nodes leaf.now.nodes.now.depot last
         → IsKeptList (rules_of leaf.now near rows) leaf.now.limit (length table.now) last list.items) }
+    ensures rising { IfOk result (λ list. AreRising list.items) }
     ensures sizes { IfOk result (λ list. AreSizedEntries (length table.now) list.items) }
 {
     if last == leaf.nodes.depot {
@@ -152,13 +152,15 @@ pub(crate) fn list_at(table: &[Vec<Vec<KeptState>>], load: usize, node: u32) -> 
     table[load][node as usize].as_slice()
 }
 
-/// Entries of which no two have the same memory: of each memory, the one that weighs the least.
+/// Entries whose words rise, so no two have the same memory: of each memory, the one that weighs the
+/// least.
 ///
 /// # Errors
 ///
 /// Out of memory.
 fn least_of(alloc: Global, entries: Vec<KeptState>) -> Result<Vec<KeptState>, Refused>
-    ensures { IfOk result (λ least. AreLeastOf entries.items least.items) }
+    ensures least { IfOk result (λ least. AreLeastOf entries.items least.items) }
+    ensures rising { IfOk result (λ least. AreRising least.items) }
 {
     let mut sorted = entries;
     sort(&mut sorted)?;
@@ -166,13 +168,15 @@ fn least_of(alloc: Global, entries: Vec<KeptState>) -> Result<Vec<KeptState>, Re
     Ok(least)
 }
 
-/// The entries without those that follow on one of the same memory that weighs no more.
+/// The entries, which are in order, without those that follow on one of the same memory.
 ///
 /// # Errors
 ///
 /// Out of memory.
 fn least_in(alloc: Global, entries: &[KeptState]) -> Result<Vec<KeptState>, Refused>
-    ensures { IfOk result (λ least. AreLeastOf entries.now least.items) }
+    requires order { AreInOrder entries.now }
+    ensures least { IfOk result (λ least. AreLeastOf entries.now least.items) }
+    ensures rising { IfOk result (λ least. AreRising least.items) }
 {
     let mut least = Vec::new(alloc);
     'entries: for index in 0..entries.len() {
@@ -197,8 +201,7 @@ fn add_least(least: &mut Vec<KeptState>, entry: KeptState) -> Result<(), Refused
 
 /// Whether the last entry of a list has the same memory as another one, and weighs no more.
 fn stands_for(least: &[KeptState], entry: KeptState) -> bool
-    ensures { result ≡ true → (other : KeptState) × Contains least.now other × (other.word ≡ entry.word)
-        × (other.weight ≤ℤ entry.weight) }
+    ensures { IsTrue result ↔ LastStandsFor least.now entry }
 {
     if least.is_empty() {
         return false;

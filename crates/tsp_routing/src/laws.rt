@@ -7,6 +7,7 @@ ghost use Rattle.tsp_routing.specs.PlanLinks.{LengthsAreWeights, PlanSums, Plans
 ghost use Rattle.tsp_routing.specs.PlanVerdicts.{PlanBoundsFoundAreUnique};
 ghost use Rattle.tsp_routing.specs.QRoutes.{RoutesAreQRoutes};
 ghost use Rattle.tsp_routing.specs.RunBounds.{RunBoundsBoundPlans, RunBoundsAreUnique};
+ghost use Rattle.tsp_routing.specs.RunTrees.{RunTreesBoundPlans};
 ghost use Rattle.tsp_routing.specs.Runs.{ApartCustomersAreRuns, RoutesAreRuns, RunsWeighLinksAndCharges, RowsAreChargedForTwo, PlansAreChargedHalf, PlansWeighAtMost};
 ghost use Rattle.tsp_routing.specs.Starts.{KeptStartsAreStarts, StartsAreKeptStarts};
 
@@ -62,6 +63,12 @@ pub fn plan_bounds_bound_plans()
 pub fn plan_trees_bound_plans()
     ensures plans { PlanTreesBoundPlans }
     ensures one { PlanTreeBoundsAreUnique }
+{}
+
+/// The bound of a tree of cases by least runs is at most the length of every plan whose routes each
+/// have a customer.
+pub fn run_trees_bound_plans()
+    ensures { RunTreesBoundPlans }
 {}
 
 /// A certificate has one bound, or none.

@@ -1,7 +1,7 @@
 //! The bound of a leaf by its least run.
 
-ghost use Rattle.tsp_routing.specs.Prelude.{All, ℕ, ℤ, List, map, length, true, pos, IfOk, IsBoundSized, families_with, as_leaf_numbers, lent_in};
-ghost use Rattle.std.specs.Prelude.{◌≡◌, ◌≤◌, ◌+◌, ◌≤ℤ◌};
+ghost use Rattle.tsp_routing.specs.Prelude.{All, ℕ, ℤ, List, map, length, true, pos, IfOk, IfSome, IsBoundSized, entry, families_with, as_leaf_numbers, lent_in};
+ghost use Rattle.std.specs.Prelude.{◌≡◌, ◌≤◌, ◌+◌, ◌≤ℤ◌, ◌*ℤ◌};
 ghost use Rattle.tsp_cases.specs.states.OpenCases.{IsOpenCase, decisions_in};
 ghost use Rattle.tsp_routing.specs.PlanVerdicts.{most_of_multipliers, sizes_total};
 ghost use Rattle.tsp_routing.specs.PlanBounds.{most_capacity_in_parts};
@@ -9,6 +9,7 @@ ghost use Rattle.tsp_routing.specs.Runs.{SubsetRow, AreCharges};
 ghost use Rattle.tsp_routing.specs.RunBounds.{leaf_rules, IsRunBound};
 ghost use Rattle.tsp_routing.specs.states.Demands.{loads_problem};
 ghost use Rattle.tsp_routing.specs.states.GivenMemories.{subset_row_of};
+ghost use Rattle.tsp_routing.specs.states.KeptCounts.{IsFoundIfFew};
 ghost use Rattle.tsp_routing.specs.states.MemoryTables.{AreMemoriesOf};
 ghost use Rattle.tsp_routing.specs.states.RowHalves.{IsSmallRow};
 
@@ -31,7 +32,8 @@ pub(crate) struct PricedRows<'a> {
     pub(crate) charges: &'a [i64],
 }
 
-/// The bound of a leaf at a case by the least weight of a run, where each row has its charge.
+/// The bound of a leaf at a case by the least weight of a run, where each row has its charge. `None`
+/// where there are more than 10,000,000 kept states.
 ///
 /// # Errors
 ///
@@ -41,7 +43,7 @@ pub(crate) fn leaf_run_bound<C: Costs>(
     leaf: &PlanLeaf<C>,
     case: &OpenCase,
     priced: PricedRows,
-) -> Result<i128, Refused>
+) -> Result<Option<i128>, Refused>
     requires case { IsOpenCase (leaf.now.context.now.demands.nodes + length leaf.now.context.now.crossed.now) case.now }
     requires direction { case.now.by_node.directed ≡ true }
     requires few { leaf.now.context.now.units.now.room ≤ most_capacity_in_parts }
@@ -50,14 +52,14 @@ pub(crate) fn leaf_run_bound<C: Costs>(
     requires rows { length priced.rows.now ≡ priced.memories.now.count }
     requires sets { All IsSmallRow priced.rows.now }
     requires sizes { sizes_total priced.charges.now ≤ℤ pos most_of_multipliers }
-    requires rules { (near : ℕ → List ℕ) × (rows : List (SubsetRow × ℤ))
+    requires rules { ∥ ((near : ℕ → List ℕ) × (rows : List (SubsetRow × ℤ))
         × AreMemoriesOf (leaf_rules (loads_problem leaf.now.context.now.demands (C.at leaf.now.context.now.costs.now))
         leaf.now.context.now.scale leaf.now.context.now.unit leaf.now.context.now.units.now.light
         (families_with leaf.now.context.now.crossed.now (lent_in leaf.now.context.now.families.now))
         (as_leaf_numbers leaf.now.potentials.now leaf.now.multipliers.now) near rows)
         priced.memories.now.count priced.memories.now.keys.items priced.memories.now.places.items
-        × (map (λ (row : SubsetRow × ℤ). row.1) rows ≡ priced.charges.now) × AreCharges rows }
-    ensures bound { IfOk result (λ bound. (near : ℕ → List ℕ) (rows : List (SubsetRow × ℤ))
+        × (map (λ (row : SubsetRow × ℤ). row.1) rows ≡ priced.charges.now) × AreCharges rows) ∥₁ }
+    ensures bound { IfOk result (λ found. (near : ℕ → List ℕ) (rows : List (SubsetRow × ℤ))
         → AreMemoriesOf (leaf_rules (loads_problem leaf.now.context.now.demands (C.at leaf.now.context.now.costs.now))
         leaf.now.context.now.scale leaf.now.context.now.unit leaf.now.context.now.units.now.light
         (families_with leaf.now.context.now.crossed.now (lent_in leaf.now.context.now.families.now))
@@ -65,13 +67,20 @@ pub(crate) fn leaf_run_bound<C: Costs>(
         priced.entry.memories.now.count priced.entry.memories.now.keys.items priced.entry.memories.now.places.items
         → map (λ (row : SubsetRow × ℤ). row.0) rows ≡ map subset_row_of priced.entry.rows.now
         → map (λ (row : SubsetRow × ℤ). row.1) rows ≡ priced.entry.charges.now → AreCharges rows
-        → IsRunBound (loads_problem leaf.now.context.now.demands (C.at leaf.now.context.now.costs.now))
+        → IsFoundIfFew (leaf_rules (loads_problem leaf.now.context.now.demands (C.at leaf.now.context.now.costs.now))
+        leaf.now.context.now.scale leaf.now.context.now.unit leaf.now.context.now.units.now.light
+        (families_with leaf.now.context.now.crossed.now (lent_in leaf.now.context.now.families.now))
+        (as_leaf_numbers leaf.now.potentials.now leaf.now.multipliers.now) near rows)
+        (pos 2 *ℤ entry leaf.now.potentials.now leaf.now.context.now.demands.depot)
+        (IsRunBound (loads_problem leaf.now.context.now.demands (C.at leaf.now.context.now.costs.now))
         leaf.now.context.now.scale leaf.now.context.now.unit leaf.now.context.now.units.now.light
         (families_with leaf.now.context.now.crossed.now (lent_in leaf.now.context.now.families.now)) (decisions_in case.now)
-        (as_leaf_numbers leaf.now.potentials.now leaf.now.multipliers.now) near rows bound) }
-    ensures size { IfOk result IsBoundSized }
+        (as_leaf_numbers leaf.now.potentials.now leaf.now.multipliers.now) near rows) found) }
+    ensures size { IfOk result (λ found. IfSome found IsBoundSized) }
 {
-    let each = least_leaf_run(alloc, leaf, priced.memories, priced.charges)?;
+    let Some(each) = least_leaf_run(alloc, leaf, priced.memories, priced.charges)? else {
+        return Ok(None);
+    };
     let context = leaf.context;
     let nodes = context.demands.nodes;
     let limits = limits_total(case, nodes, context.crossed, leaf.multipliers);
@@ -84,5 +93,5 @@ pub(crate) fn leaf_run_bound<C: Costs>(
         own: leaf.potentials[context.demands.depot as usize - 1],
         fewest: context.demands.fewest(),
     };
-    Ok(run_bound(sum, each))
+    Ok(Some(run_bound(sum, each)))
 }

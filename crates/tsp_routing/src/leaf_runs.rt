@@ -1,11 +1,12 @@
 //! The least weight of a run under the numbers of a leaf.
 
-ghost use Rattle.tsp_routing.specs.Prelude.{ℕ, ℤ, List, map, length, pos, neg_ℤ, IfOk, most_potential, IsFromTo, entry, families_with, as_leaf_numbers, lent_in};
+ghost use Rattle.tsp_routing.specs.Prelude.{ℕ, ℤ, List, map, length, pos, neg_ℤ, IfOk, IfSome, most_potential, IsFromTo, entry, families_with, as_leaf_numbers, lent_in};
 ghost use Rattle.std.specs.Prelude.{◌≡◌, ◌≤◌, ◌^◌, ◌*ℤ◌};
 ghost use Rattle.tsp_routing.specs.PlanBounds.{most_capacity_in_parts};
 ghost use Rattle.tsp_routing.specs.Runs.{SubsetRow, AreCharges};
-ghost use Rattle.tsp_routing.specs.RunBounds.{IsLeastRun, leaf_rules};
+ghost use Rattle.tsp_routing.specs.RunBounds.{leaf_rules};
 ghost use Rattle.tsp_routing.specs.states.Demands.{loads_problem};
+ghost use Rattle.tsp_routing.specs.states.KeptCounts.{IsLeastRunIfFew};
 ghost use Rattle.tsp_routing.specs.states.MemoryTables.{AreMemoriesOf};
 
 use crate::kept_weights::rows_of;
@@ -19,7 +20,7 @@ use tsp_io::Refused;
 use tsp_theory::Costs;
 
 /// The lesser of twice the potential of the depot and of the least weight of a run, where each row
-/// has its charge.
+/// has its charge. `None` where there are more than 10,000,000 kept states.
 ///
 /// # Errors
 ///
@@ -30,30 +31,30 @@ pub(crate) fn least_leaf_run<C: Costs>(
     leaf: &PlanLeaf<C>,
     memories: &Memories,
     charges: &[i64],
-) -> Result<i128, Refused>
+) -> Result<Option<i128>, Refused>
     requires same { memories.now.nodes ≡ leaf.now.context.now.demands.nodes }
     requires priced { length charges.now ≡ memories.now.count }
     requires few { leaf.now.context.now.units.now.room ≤ most_capacity_in_parts }
-    ensures exact { IfOk result (λ least. (near : ℕ → List ℕ) (rows : List (SubsetRow × ℤ))
+    ensures exact { IfOk result (λ found. (near : ℕ → List ℕ) (rows : List (SubsetRow × ℤ))
         → AreMemoriesOf (leaf_rules (loads_problem leaf.now.context.now.demands (C.at leaf.now.context.now.costs.now))
         leaf.now.context.now.scale leaf.now.context.now.unit leaf.now.context.now.units.now.light
         (families_with leaf.now.context.now.crossed.now (lent_in leaf.now.context.now.families.now))
         (as_leaf_numbers leaf.now.potentials.now leaf.now.multipliers.now) near rows)
         memories.now.count memories.now.keys.items memories.now.places.items
         → map (λ (row : SubsetRow × ℤ). row.1) rows ≡ charges.now → AreCharges rows
-        → IsLeastRun (leaf_rules (loads_problem leaf.now.context.now.demands (C.at leaf.now.context.now.costs.now))
+        → IsLeastRunIfFew (leaf_rules (loads_problem leaf.now.context.now.demands (C.at leaf.now.context.now.costs.now))
         leaf.now.context.now.scale leaf.now.context.now.unit leaf.now.context.now.units.now.light
         (families_with leaf.now.context.now.crossed.now (lent_in leaf.now.context.now.families.now))
         (as_leaf_numbers leaf.now.potentials.now leaf.now.multipliers.now) near rows)
-        (pos 2 *ℤ entry leaf.now.potentials.now leaf.now.context.now.demands.depot) least) }
-    ensures size { IfOk result (λ least. (near : ℕ → List ℕ) (rows : List (SubsetRow × ℤ))
+        (pos 2 *ℤ entry leaf.now.potentials.now leaf.now.context.now.demands.depot) found) }
+    ensures size { IfOk result (λ found. (near : ℕ → List ℕ) (rows : List (SubsetRow × ℤ))
         → AreMemoriesOf (leaf_rules (loads_problem leaf.now.context.now.demands (C.at leaf.now.context.now.costs.now))
         leaf.now.context.now.scale leaf.now.context.now.unit leaf.now.context.now.units.now.light
         (families_with leaf.now.context.now.crossed.now (lent_in leaf.now.context.now.families.now))
         (as_leaf_numbers leaf.now.potentials.now leaf.now.multipliers.now) near rows)
         memories.now.count memories.now.keys.items memories.now.places.items
         → map (λ (row : SubsetRow × ℤ). row.1) rows ≡ charges.now → AreCharges rows
-        → IsFromTo (neg_ℤ (pos (2 ^ 83))) (pos (2 ^ 83)) least) }
+        → IfSome found (IsFromTo (neg_ℤ (pos (2 ^ 83))) (pos (2 ^ 83)))) }
 {
     let weights = LeafWeights::of(leaf);
     let rows = rows_of(alloc, &weights, leaf.context.demands.nodes)?;
@@ -65,8 +66,10 @@ pub(crate) fn least_leaf_run<C: Costs>(
         rows: &rows,
     };
     let limit = twice(leaf.potentials[leaf.context.demands.depot as usize - 1]);
-    let least = least_of_runs(alloc, &run_nodes, memories, charges, limit)?;
-    Ok(least)
+    let Some(least) = least_of_runs(alloc, &run_nodes, memories, charges, limit)? else {
+        return Ok(None);
+    };
+    Ok(Some(least))
 }
 
 /// Twice a potential.

@@ -1,10 +1,10 @@
 //! The least weight of a run of a leaf, by the programme over kept states.
 
-ghost use Rattle.std.specs.Prelude.{◌≡◌, ◌^◌, ℕ, ℤ, List, map, length, pos, neg_ℤ, IfOk};
+ghost use Rattle.std.specs.Prelude.{◌≡◌, ◌^◌, ℕ, ℤ, List, map, length, pos, neg_ℤ, IfOk, IfSome};
 ghost use Rattle.tsp_format.specs.Steps.{IsFromTo};
 ghost use Rattle.tsp_routing.specs.PlanBounds.{most_link};
 ghost use Rattle.tsp_routing.specs.Runs.{SubsetRow, AreCharges};
-ghost use Rattle.tsp_routing.specs.RunBounds.{IsLeastRun};
+ghost use Rattle.tsp_routing.specs.states.KeptCounts.{IsLeastRunIfFew};
 ghost use Rattle.tsp_routing.specs.states.RunTables.{rules_by};
 ghost use Rattle.tsp_routing.specs.states.MemoryTables.{AreMemoriesOf};
 
@@ -17,7 +17,8 @@ use crate::ways_home::ways_home;
 use std::alloc::Global;
 use tsp_io::Refused;
 
-/// The lesser of a limit and of the least weight of a run, where each row has its charge.
+/// The lesser of a limit and of the least weight of a run, where each row has its charge. `None` where
+/// there are more than 10,000,000 kept states.
 ///
 /// # Errors
 ///
@@ -29,20 +30,20 @@ pub(crate) fn least_of_runs(
     memories: &Memories,
     charges: &[i64],
     limit: i128,
-) -> Result<i128, Refused>
+) -> Result<Option<i128>, Refused>
     requires same { memories.now.nodes ≡ nodes.now.nodes }
     requires priced { length charges.now ≡ memories.now.count }
     requires small { IsFromTo (neg_ℤ (pos most_link)) (pos most_link) limit }
-    ensures exact { IfOk result (λ least. (near : ℕ → List ℕ) (rows : List (SubsetRow × ℤ))
+    ensures exact { IfOk result (λ found. (near : ℕ → List ℕ) (rows : List (SubsetRow × ℤ))
         → AreMemoriesOf (rules_by nodes.now.nodes nodes.now.depot nodes.now.loads.now nodes.now.room nodes.now.rows.now near rows)
         memories.now.count memories.now.keys.items memories.now.places.items
         → map (λ (row : SubsetRow × ℤ). row.1) rows ≡ charges.now → AreCharges rows
-        → IsLeastRun (rules_by nodes.now.nodes nodes.now.depot nodes.now.loads.now nodes.now.room nodes.now.rows.now near rows) limit least) }
-    ensures size { IfOk result (λ least. (near : ℕ → List ℕ) (rows : List (SubsetRow × ℤ))
+        → IsLeastRunIfFew (rules_by nodes.now.nodes nodes.now.depot nodes.now.loads.now nodes.now.room nodes.now.rows.now near rows) limit found) }
+    ensures size { IfOk result (λ found. (near : ℕ → List ℕ) (rows : List (SubsetRow × ℤ))
         → AreMemoriesOf (rules_by nodes.now.nodes nodes.now.depot nodes.now.loads.now nodes.now.room nodes.now.rows.now near rows)
         memories.now.count memories.now.keys.items memories.now.places.items
         → map (λ (row : SubsetRow × ℤ). row.1) rows ≡ charges.now → AreCharges rows
-        → IsFromTo (neg_ℤ (pos (2 ^ 83))) (pos (2 ^ 83)) least) }
+        → IfSome found (IsFromTo (neg_ℤ (pos (2 ^ 83))) (pos (2 ^ 83)))) }
 {
     let homes = ways_home(alloc, nodes)?;
     let leaf = RunLeaf {
@@ -52,6 +53,8 @@ pub(crate) fn least_of_runs(
         homes: &homes,
         limit,
     };
-    let table = kept_states(alloc, &leaf)?;
-    Ok(least_run(&leaf, &table))
+    let Some(table) = kept_states(alloc, &leaf)? else {
+        return Ok(None);
+    };
+    Ok(Some(least_run(&leaf, &table)))
 }

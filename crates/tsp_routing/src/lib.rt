@@ -13,6 +13,7 @@ mod context;
 mod examples;
 mod first_entry;
 mod given_halves;
+mod judged_memory;
 mod kept_list;
 mod kept_state;
 mod kept_states;
@@ -30,6 +31,7 @@ mod memory_tables;
 mod needs;
 mod next_entries;
 mod next_entry;
+mod placed_steps;
 mod plan_leaf;
 mod row_sets;
 mod run_bound;
@@ -50,6 +52,6 @@ pub use laws::{
     equal_states_go_on_alike, kept_starts_give_least_runs, plan_bounds_are_unique,
     plan_bounds_bound_plans, plan_links_add_up, plan_trees_bound_plans, plans_are_charged_half,
     plans_keep_limits, plans_leave_cuts, routes_are_q_routes, routes_are_runs,
-    run_bounds_bound_plans, starts_are_told_from_both_ends,
+    run_bounds_bound_plans, run_trees_bound_plans, starts_are_told_from_both_ends,
 };
 pub use verdict::{PlanTree, PlanVerdict, judge_plans};

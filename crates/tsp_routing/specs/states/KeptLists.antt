@@ -1,6 +1,6 @@
 -- The lists of kept states, by load and by last customer.
-use Rattle.tsp_routing.specs.Prelude.{Vec, All, Contains, ℕ, Option, Some, None, List, [], map, length, slice_index_or, ℤ, pos, neg_ℤ, IsFromTo, IsCustomer}
-use Rattle.std.specs.Prelude.{◌≡◌, ◌≢◌, ◌⊎◌, ◌+◌, ◌*◌, ◌^◌, ◌≤◌, ◌<◌, ◌∷◌, ◌++◌, ◌+ℤ◌, ◌≤ℤ◌}
+use Rattle.tsp_routing.specs.Prelude.{Vec, All, AllPairs, Contains, ℕ, Option, Some, None, List, [], map, length, slice_index_or, ℤ, pos, neg_ℤ, IsFromTo, IsCustomer}
+use Rattle.std.specs.Prelude.{◌≡◌, ◌≢◌, ◌⊎◌, ◌+◌, ◌-◌, ◌*◌, ◌^◌, ◌≤◌, ◌<◌, ◌∷◌, ◌++◌, ◌+ℤ◌, ◌≤ℤ◌}
 use Rattle.tsp_routing.specs.Runs.{SubsetRow, RunRules, RunState, first_state, next_state, MayServe, AreCharges}
 use Rattle.tsp_routing.specs.KeptStates.{IsKeptState}
 use Rattle.tsp_routing.specs.Memories.{Remembers}
@@ -89,16 +89,31 @@ pub record AreLeastOf (entries least : List KeptState) : Type 0 where
   pub each : (entry : KeptState) → Contains entries entry
       → (other : KeptState) × Contains least other × (other.word ≡ entry.word) × (other.weight ≤ℤ entry.weight)
 
--- an entry is put behind others, unless one of them has the same memory and weighs no more
+-- the words of entries rise, so no two of these have the same memory
+abbrev pub AreRising : List KeptState → Type 0
+AreRising entries = AllPairs (λ (a b : KeptState). a.word < b.word) entries
+
+-- an entry has the smaller word, or the same one and weighs no more
+abbrev pub IsNotAfter : KeptState → KeptState → Type 0
+IsNotAfter a b = (a.word < b.word) ⊎ ((a.word ≡ b.word) × (a.weight ≤ℤ b.weight))
+
+-- each entry and the next one are in that order
+abbrev pub AreInOrder : List KeptState → Type 0
+AreInOrder entries = (k : ℕ) (d : KeptState) → k + 1 < length entries
+    → IsNotAfter (slice_index_or entries k d) (slice_index_or entries (k + 1) d)
+
+-- the last entry has the same memory as this one, and weighs no more
+abbrev pub LastStandsFor : List KeptState → KeptState → Type 0
+LastStandsFor entries entry = (1 ≤ length entries) × ((slice_index_or entries (length entries - 1) entry).word ≡ entry.word)
+    × ((slice_index_or entries (length entries - 1) entry).weight ≤ℤ entry.weight)
+
+-- an entry is put behind others, unless the last one stands for it
 abbrev pub IsLeastAdded : List KeptState → KeptState → List KeptState → Type 0
-IsLeastAdded old entry new =
-    ((new ≡ old) × ((other : KeptState) × Contains old other × (other.word ≡ entry.word) × (other.weight ≤ℤ entry.weight)))
-    ⊎ (new ≡ old ++ entry ∷ [])
+IsLeastAdded old entry new = ((new ≡ old) × LastStandsFor old entry) ⊎ ((new ≡ old ++ entry ∷ []) × (LastStandsFor old entry → ⊥))
 
 -- the lists of a load, each at the index of its last customer
 abbrev pub IsStateRow : RunRules → ℤ → ℕ → List (List KeptState) → Type 0
-IsStateRow rules limit load lists = (last : ℕ) → IsCustomer rules.nodes rules.depot last
-    → IsKeptList rules limit load last (slice_index_or lists last [])
+IsStateRow rules limit load lists = (last : ℕ) → IsKeptList rules limit load last (slice_index_or lists last [])
 
 -- the lists of all loads
 abbrev pub AreStateRows : RunRules → ℤ → List (Vec (Vec KeptState)) → Type 0

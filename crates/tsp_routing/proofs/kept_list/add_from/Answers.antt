@@ -44,7 +44,7 @@ returns-clause-exact c = λ near rows leaf_of states h.
     let sum : load + load_at nodes.loads.now c.args.last ≡ length c.args.table.now = omega (arith, is, c.requires.own) in
     let list : IsKeptList rules leaf.limit load c.args.before c.list_at-befores.result.now =
     subst (IsKeptList rules leaf.limit load c.args.before) (sym c.list_at-befores.ensures)
-    (states load lt c.args.before (c.requires.before, c.if-before-leaf.false)) in
+    (states load lt c.args.before) in
     list_goes_on rules leaf.limit (length c.args.table.now) load c.args.before c.args.last c.list_at-befores.result.now
     c.args.entries.now.items c.add_nexts.new.entries.items sum list
     (c.in_ok-add_nexts.ensures.adds near rows load leaf_of (omega (arith, sum, c.requires.few))) h

@@ -1,11 +1,15 @@
 -- The goals of `leaf_run_bound` in src/leaf_run_bound.rt, which bounds a leaf at a case by its least run: the facts of the sum
 -- that it makes, what its calls require, and what it ensures.
-use Rattle.tsp_routing.proofs.Prelude.{◌≡◌, ◌∙◌, ◌+◌, ◌-◌, ◌*◌, ℕ, ℤ, List, map, length, refl, ap, ap₂, sym, subst, arith, rules, to_z, of_z, FitsSigned, pos, ◌-ℤ◌, ◌*ℤ◌, Vec, w64, w128, ints, to_z-of_z, length-map, entry, lists_of, families_with, as_leaf_numbers, lent_in, decisions_in}
+use Rattle.tsp_routing.proofs.Prelude.{◌≡◌, ◌∙◌, ◌+◌, ◌-◌, ◌*◌, ◌^◌, Option, neg_ℤ, IsFromTo, ℕ, ℤ, List, map, length, refl, ap, ap₂, sym, subst, arith, rules, to_z, of_z, FitsSigned, pos, ◌-ℤ◌, ◌*ℤ◌, Vec, w64, w128, ints, to_z-of_z, length-map, entry, lists_of, families_with, as_leaf_numbers, lent_in, decisions_in}
+use Rattle.std.proofs.Math.Logic.{∥∥₁_elim}
+use Rattle.std.proofs.Props.{props}
+use Rattle.std.specs.Prelude.{IfSome}
 use Rattle.tsp_routing.specs.PlanBounds.{limits_total}
 use Rattle.tsp_routing.specs.PlanLinks.{sum_of_customers}
 use Rattle.tsp_routing.specs.Runs.{SubsetRow, halves_total}
 use Rattle.tsp_routing.specs.RunBounds.{IsLeastRun, leaf_rules, IsRunBound}
 use Rattle.tsp_routing.specs.states.Demands.{loads_problem}
+use Rattle.tsp_routing.specs.states.KeptCounts.{IsLeastRunIfFew}
 use Rattle.tsp_routing.specs.states.GivenMemories.{subset_row_of}
 use Rattle.tsp_routing.specs.states.RowHalves.{halves_with}
 use Rattle.tsp_routing.proofs.RouteProducts.{numbers_of_families}
@@ -39,10 +43,21 @@ invariant_of-sum g c =
 
 pub run_bound-requires : goal.run_bound-requires
 run_bound-requires g c =
-    let given = c.requires.rules in
-    let size = c.in_ok-each.ensures.size given.0 given.1 given.2 given.3 given.4 in
-    let fits : FitsSigned w128 c.in_ok-each.each = search rules in
-    rw (to_z-of_z w128 c.in_ok-each.each fits) size
+    ∥∥₁_elim c.requires.rules (hlevel props) (λ given.
+    let size = subst (λ (o : Option ℤ). IfSome o (IsFromTo (neg_ℤ (pos (2 ^ 83))) (pos (2 ^ 83)))) c.in-Some.is
+    (c.in_ok-each.ensures.size given.0 given.1 given.2 given.3 given.4) in
+    let fits : FitsSigned w128 c.in-Some.each = search rules in
+    rw (to_z-of_z w128 c.in-Some.each fits) size)
+
+pub returns-in_default-clause-bound : goal.returns-in_default-clause-bound
+returns-in_default-clause-bound g c = λ near rows are sets priced signs.
+    let leaf = c.args.leaf.now in
+    let s = leaf.context.now in
+    let problem = loads_problem s.demands (g.C.Costs.at s.costs.now) in
+    let numbers = as_leaf_numbers leaf.potentials.now leaf.multipliers.now in
+    let families = families_with s.crossed.now (lent_in s.families.now) in
+    subst (IsLeastRunIfFew (leaf_rules problem s.scale s.unit s.units.now.light families numbers near rows)
+    (pos 2 *ℤ entry leaf.potentials.now s.demands.depot)) c.in_default.is (c.in_ok-each.ensures.exact near rows are priced signs)
 
 pub returns-clause-bound : goal.returns-clause-bound
 returns-clause-bound g c = λ near rows are sets priced signs.
@@ -60,7 +75,7 @@ returns-clause-bound g c = λ near rows are sets priced signs.
     let fits : FitsSigned w64 s.scale = search rules in
     let bound : ℤ = c.run_bound.result in
     let bound_fits : FitsSigned w128 bound = search rules in
-    let each_fits : FitsSigned w128 c.in_ok-each.each = search rules in
+    let each_fits : FitsSigned w128 c.in-Some.each = search rules in
     let limits = c.limits_total-limits.ensures.size in
     let customers = c.customers_total-customers.ensures.size in
     let halves = c.halves_of-halves.ensures.size in
@@ -95,13 +110,16 @@ returns-clause-bound g c = λ near rows are sets priced signs.
     ≡ (limits_total case (2 * (n - 1)) (n + 1) families ms -ℤ (pos 2 *ℤ sum_of_customers n s.demands.depot (entry ps))) -ℤ halves_total rows =
     total ∙ ap₂ (λ (a b : ℤ). a -ℤ b) (ap₂ (λ (a b : ℤ). a -ℤ (pos 2 *ℤ b)) left right) half in
     let limit : ℤ = pos 2 *ℤ entry ps s.demands.depot in
-    let least : IsLeastRun (leaf_rules problem s.scale s.unit s.units.now.light families numbers near rows) limit c.in_ok-each.each =
-    c.in_ok-each.ensures.exact near rows are priced signs in
-    let scaled = subst (λ (z : ℤ). IsLeastRun (leaf_rules problem z s.unit s.units.now.light families numbers near rows) limit c.in_ok-each.each)
+    let given = subst (IsLeastRunIfFew (leaf_rules problem s.scale s.unit s.units.now.light families numbers near rows) limit) c.in-Some.is
+    (c.in_ok-each.ensures.exact near rows are priced signs) in
+    let least : IsLeastRun (leaf_rules problem s.scale s.unit s.units.now.light families numbers near rows) limit c.in-Some.each = given.1 in
+    let scaled = subst (λ (z : ℤ). IsLeastRun (leaf_rules problem z s.unit s.units.now.light families numbers near rows) limit c.in-Some.each)
     (sym (to_z-of_z w64 s.scale fits)) least in
     let sized = subst (λ (e : ℤ). IsLeastRun (leaf_rules problem (to_z w64 (of_z w64 s.scale)) s.unit s.units.now.light families numbers near rows) limit e)
-    (sym (to_z-of_z w128 c.in_ok-each.each each_fits)) scaled in
+    (sym (to_z-of_z w128 c.in-Some.each each_fits)) scaled in
     let out = c.run_bound.ensures.bound problem s.unit s.units.now.light families case numbers near rows refl
-    back (omega (arith, ints, own.0, own.1)) sized in
-    rw (to_z-of_z w128 bound bound_fits)
-    (subst (λ (z : ℤ). IsRunBound problem z s.unit s.units.now.light families case numbers near rows bound) (to_z-of_z w64 s.scale fits) out)
+    back (omega (arith, ints, own.0, own.1)) sized in (
+      given.0,
+      rw (to_z-of_z w128 bound bound_fits)
+          (subst (λ (z : ℤ). IsRunBound problem z s.unit s.units.now.light families case numbers near rows bound) (to_z-of_z w64 s.scale fits) out),
+    )
