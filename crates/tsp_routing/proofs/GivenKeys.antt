@@ -2,12 +2,14 @@
 use Rattle.tsp_routing.proofs.Prelude.{◌≡◌, ◌≢◌, ℕ, zero, suc, ◌+◌, ◌-◌, ◌≤◌, ◌<◌, ◌==◌, ◌||◌, Bool, true, false, List, [], ◌∷◌, ◌++◌, map, take, drop, length, get_or, refl, sym, ap, ap₂, ◌∙◌, subst, arith, inl, inr, ◌⊎◌, if◌then◌else◌, nat_le, ℤ, pos, All, AllByRecursion, false≢true, cases_eq, or_from, ne_eqb, lt-leb, le-leb, append_assoc, map-append, drop_more, take_more, length-take-le, get_or_at, get_or_append_left, get_or-set_same, get_or-set_other, length-append, recursion_from_All, All-from_recursion, All-append, IsNode, has}
 use Rattle.std.proofs.Math.ListN.{set}
 use Rattle.std.proofs.lemmas.List.Folds.{list_any-append}
-use Rattle.tsp_routing.specs.Runs.{SubsetRow, keeps}
+use Rattle.tsp_routing.specs.Runs.{keeps}
+use Rattle.tsp_format.specs.Steps.{SubsetRow}
 use Rattle.tsp_routing.specs.Memories.{row_keys, keys_of, in_row, is_member_of}
 use Rattle.tsp_routing.specs.declared.memory_key.MemoryKey.{MemoryKey}
-use Rattle.tsp_routing.specs.declared.row_sets.RowSets.{RowSets}
+use Rattle.tsp_format.specs.declared.steps.RowSets.{RowSets}
 use Rattle.tsp_routing.specs.states.MemoryTables.{IsKeyIn, IsKeyPlace}
-use Rattle.tsp_routing.specs.states.GivenMemories.{subset_row_of, free_rows, key_of_node, kept_keys, AreKeysOf}
+use Rattle.tsp_routing.specs.states.GivenMemories.{free_rows, key_of_node, kept_keys, AreKeysOf}
+use Rattle.tsp_format.specs.states.TreeSteps.{subset_row_of}
 
 -- ---- keys
 

@@ -1,11 +1,13 @@
 -- The tables that are made of lists are those of the rules, whatever the rows charge.
 use Rattle.tsp_routing.proofs.Prelude.{◌≡◌, ℕ, zero, suc, ◌+◌, ◌-◌, ◌≤◌, ◌<◌, Bool, true, false, List, [], ◌∷◌, ◌++◌, map, take, length, get_or, refl, sym, ap, ◌∙◌, subst, arith, inl, inr, if◌then◌else◌, nat_le, ℤ, pos, Vec, All, cases_eq, length-map, map_push, get_or_append_left, get_or_push, length_push, take_all, All-weaker, most_nodes, IsNode, has}
-use Rattle.tsp_routing.specs.Runs.{SubsetRow, keeps}
+use Rattle.tsp_routing.specs.Runs.{keeps}
+use Rattle.tsp_format.specs.Steps.{SubsetRow}
 use Rattle.tsp_routing.specs.Memories.{row_keys, keys_of, in_row, is_member_of, AreMemories}
 use Rattle.tsp_routing.specs.declared.memory_key.MemoryKey.{MemoryKey}
-use Rattle.tsp_routing.specs.declared.row_sets.RowSets.{RowSets}
+use Rattle.tsp_format.specs.declared.steps.RowSets.{RowSets}
 use Rattle.tsp_routing.specs.states.MemoryTables.{keys_in, key_places_in, key_place_in, IsKeyPlace, AreMemoryTables, AreMemoriesOf}
-use Rattle.tsp_routing.specs.states.GivenMemories.{subset_row_of, free_rows, AreKeysOf, ArePlacesTo, AreTablesTo}
+use Rattle.tsp_routing.specs.states.GivenMemories.{free_rows, AreKeysOf, ArePlacesTo, AreTablesTo}
+use Rattle.tsp_format.specs.states.TreeSteps.{subset_row_of}
 use Rattle.tsp_routing.specs.states.RunTables.{item_lists, rules_by}
 
 -- ---- one list more

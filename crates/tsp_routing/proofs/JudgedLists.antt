@@ -3,11 +3,13 @@ use Rattle.tsp_routing.proofs.Prelude.{◌≡◌, ◌≢◌, ℕ, zero, suc, ◌
 use Rattle.std.specs.Prelude.{slice_set, slice_index, ◌↔◌, IsTrue}
 use Rattle.std.proofs.lemmas.List.{length-take, get_or-take}
 use Rattle.tsp_cases.specs.states.GoodFamilies.{AreUnmarked, AreMarked}
-use Rattle.tsp_routing.specs.Runs.{SubsetRow, keeps}
+use Rattle.tsp_routing.specs.Runs.{keeps}
+use Rattle.tsp_format.specs.Steps.{SubsetRow}
 use Rattle.tsp_routing.specs.RunTrees.{owner_of, near_of, IsGoodList, IsFirstBadList, IsGoodRow, row_at, IsFirstBadRow, rows_kept}
-use Rattle.tsp_routing.specs.states.GivenMemories.{near_in, subset_row_of}
+use Rattle.tsp_routing.specs.states.GivenMemories.{near_in}
+use Rattle.tsp_format.specs.states.TreeSteps.{subset_row_of}
 use Rattle.tsp_routing.specs.states.JudgedMemory.{AreListsOf, AreRowsOf, AreOwners}
-use Rattle.tsp_routing.specs.declared.row_sets.RowSets.{RowSets}
+use Rattle.tsp_format.specs.declared.steps.RowSets.{RowSets}
 use Rattle.tsp_routing.specs.states.RunTables.{item_lists}
 use Rattle.tsp_routing.proofs.CutNeeds.{no_depot}
 

@@ -1,6 +1,7 @@
 -- A run below the limit is kept from its first customer to its last: to go on as it does, and forget, is a way home.
 use Rattle.tsp_routing.proofs.Prelude.{◌≡◌, ◌≢◌, ℕ, ◌+◌, ◌≤◌, ◌==◌, ◌&&◌, ◌||◌, Bool, true, false, not, List, [], ◌∷◌, refl, sym, ap, ap₂, ◌∙◌, arith, inl, inr, ◌⊎◌, if◌then◌else◌, ℤ, pos, ◌+ℤ◌, ◌≤ℤ◌, ◌<ℤ◌, AllByRecursion, ints, by_lt_z, cases_Bool, and_right, recursion_from_All, All-from_recursion, sum_int_by, has}
-use Rattle.tsp_routing.specs.Runs.{SubsetRow, keeps, RunRules, RunState, first_state, next_state, MayServe, is_charged, charged, IsRunRest, rest_weight, IsRunUnder, run_weight}
+use Rattle.tsp_routing.specs.Runs.{keeps, RunRules, RunState, first_state, next_state, MayServe, is_charged, charged, IsRunRest, rest_weight, IsRunUnder, run_weight}
+use Rattle.tsp_format.specs.Steps.{SubsetRow}
 use Rattle.tsp_routing.specs.RunBounds.{IsLeastRun}
 use Rattle.tsp_routing.specs.KeptStates.{forgetful, bare_state, IsWayHome, home_weight, IsCompletion, IsKeptState, AreKeptFrom, IsKeptStart, AreSameStates, IsLeastKeptRun, CompletionsTellKeptStates, CompletionsAreBelowRests, RunsBelowAreKept, KeptStartsGiveLeastRuns, EqualStatesGoOnAlike}
 

@@ -1,6 +1,7 @@
 -- What the word of a state tells, and what the words of the next states are.
 use Rattle.tsp_routing.proofs.Prelude.{◌≡◌, ◌≢◌, ℕ, zero, suc, ◌+◌, ◌-◌, ◌*◌, ◌≤◌, ◌<◌, ◌==◌, ◌&&◌, ◌||◌, Bool, true, false, not, List, [], ◌∷◌, ◌++◌, map, length, get_or, refl, sym, ap, ap₂, ◌∙◌, subst, arith, inl, inr, ◌⊎◌, if◌then◌else◌, nat_le, ℤ, pos, ◌+ℤ◌, All, AllByRecursion, false≢true, both_ways, cases_Bool, cases_eq, cases_lt, or_parts, and_left, and_right, eqb-true, eq-eqb, ne_eqb, leb-true, leb-false, le-leb, lt-leb, ints, get_or-map, get_or_past, length-map, recursion_from_All, IsNode, sum_int_by, has}
-use Rattle.tsp_routing.specs.Runs.{SubsetRow, keeps, RunRules, RunState, first_state, next_state, is_charged, charged}
+use Rattle.tsp_routing.specs.Runs.{keeps, RunRules, RunState, first_state, next_state, is_charged, charged}
+use Rattle.tsp_format.specs.Steps.{SubsetRow}
 use Rattle.tsp_routing.specs.declared.memory_key.MemoryKey.{MemoryKey}
 use Rattle.tsp_routing.specs.states.MemoryTables.{IsKeyPlace, next_bit, pays_for}
 use Rattle.tsp_routing.specs.Memories.{row_keys, keys_of, odd_at, told, in_row, is_member_of, memory_word, memory_of, Remembers}

@@ -1,6 +1,7 @@
 -- The entry of a next state, or none: by whether the run has seen the customer, and by the completion.
 use Rattle.tsp_routing.proofs.Prelude.{◌≡◌, ◌≢◌, ℕ, ◌+◌, ◌≤◌, Bool, true, false, sym, ap, ◌∙◌, subst, arith, Some, None, ℤ, pos, ◌+ℤ◌, ◌≤ℤ◌, ◌<ℤ◌, both_ways, ints, recursion_from_All, IsCustomer}
-use Rattle.tsp_routing.specs.Runs.{SubsetRow, RunRules, RunState, next_state, MayServe, charged, AreCharges}
+use Rattle.tsp_routing.specs.Runs.{RunRules, RunState, next_state, MayServe, charged, AreCharges}
+use Rattle.tsp_format.specs.Steps.{SubsetRow}
 use Rattle.tsp_routing.specs.KeptStates.{IsCompletion}
 use Rattle.tsp_routing.specs.Memories.{told, Remembers}
 use Rattle.tsp_routing.specs.Starts.{step_weight}

@@ -2,7 +2,8 @@
 use Rattle.tsp_routing.proofs.Prelude.{◌≡◌, ◌≢◌, ℕ, ◌≤◌, ◌==◌, ◌&&◌, ◌||◌, Bool, true, false, List, [], ◌∷◌, refl, sym, ap₂, ap, ◌∙◌, arith, ℤ, pos, ◌+ℤ◌, ◌≤ℤ◌, AllByRecursion, concat, ints, ne_eqb, and_left, recursion_from_All, All-from_recursion, sum_int_by, RoutingProblem, IsCustomer, has}
 use Rattle.tsp_routing.proofs.QRouteRests.{loads_low}
 use Rattle.tsp_routing.specs.PlanLinks.{load_in, capacity_in_parts, IsRoutable, IsFilledPlan}
-use Rattle.tsp_routing.specs.Runs.{SubsetRow, RunRules, RunState, first_state, next_state, MayServe, IsRunRest, IsRunUnder, ApartCustomersAreRuns, RoutesAreRuns}
+use Rattle.tsp_routing.specs.Runs.{RunRules, RunState, first_state, next_state, MayServe, IsRunRest, IsRunUnder, ApartCustomersAreRuns, RoutesAreRuns}
+use Rattle.tsp_format.specs.Steps.{SubsetRow}
 use Rattle.tsp_routing.proofs.Plans.{parts_all}
 use Rattle.tsp_routing.proofs.CutNeeds.{Apart, apart_from_pairs, apart_parts, routes_fit_capacity}
 

@@ -1,8 +1,9 @@
 -- What rows give back, one row after the other.
 use Rattle.tsp_routing.proofs.Prelude.{◌≡◌, ℕ, zero, suc, ◌+◌, ◌<◌, ◌/◌, List, [], ◌∷◌, map, drop, length, get_or, refl, ap, ap₂, ◌∙◌, arith, ℤ, pos, ◌+ℤ◌, ◌*ℤ◌, ints, drop_more}
-use Rattle.tsp_routing.specs.Runs.{SubsetRow, half, halves_total}
-use Rattle.tsp_routing.specs.declared.row_sets.RowSets.{RowSets}
-use Rattle.tsp_routing.specs.states.GivenMemories.{subset_row_of}
+use Rattle.tsp_routing.specs.Runs.{half, halves_total}
+use Rattle.tsp_format.specs.Steps.{SubsetRow}
+use Rattle.tsp_format.specs.declared.steps.RowSets.{RowSets}
+use Rattle.tsp_format.specs.states.TreeSteps.{subset_row_of}
 use Rattle.tsp_routing.specs.states.RowHalves.{halves_with, HalvesAreTotal}
 
 pub halves_are_total : HalvesAreTotal

@@ -2,7 +2,8 @@
 -- after it.
 use Rattle.tsp_routing.proofs.Prelude.{◌≡◌, ◌≢◌, ℕ, zero, suc, ◌+◌, ◌*◌, ◌/◌, ◌≤◌, ◌==◌, ◌&&◌, ◌||◌, Bool, true, false, not, cond, List, [], ◌∷◌, ◌++◌, length, refl, sym, ap, ap₂, ◌∙◌, arith, inl, inr, if◌then◌else◌, ℤ, pos, ◌+ℤ◌, ◌*ℤ◌, ◌≤ℤ◌, AllByRecursion, concat, ints, cases_Bool, cases_eq, ne_eqb, eq-eqb, recursion_from_All, suc_ℤ-*ℤ, zero-*ℤ, links, links_to, sum_int_by, length_of, RoutingProblem, IsPlan, plan_length, weight_of, sum_int_by-add, sum_int_by-le, has}
 use Rattle.tsp_routing.specs.PlanLinks.{IsFilledPlan}
-use Rattle.tsp_routing.specs.Runs.{SubsetRow, keeps, RunRules, RunState, first_state, next_state, is_charged, charged, rest_weight, run_weight, charges_from, charges, plan_charges, count_in, half, halves_total, AreCharges, RunsWeighLinksAndCharges, RowsAreChargedForTwo, PlansAreChargedHalf, PlansWeighAtMost}
+use Rattle.tsp_routing.specs.Runs.{keeps, RunRules, RunState, first_state, next_state, is_charged, charged, rest_weight, run_weight, charges_from, charges, plan_charges, count_in, half, halves_total, AreCharges, RunsWeighLinksAndCharges, RowsAreChargedForTwo, PlansAreChargedHalf, PlansWeighAtMost}
+use Rattle.tsp_format.specs.Steps.{SubsetRow}
 use Rattle.tsp_routing.proofs.Plans.{all_same, times_more}
 use Rattle.tsp_routing.proofs.CutNeeds.{Apart, apart_from_pairs}
 

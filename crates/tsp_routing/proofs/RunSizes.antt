@@ -1,7 +1,8 @@
 -- How little a run weighs at the least: a link for each load that a route carries, and one more.
 use Rattle.tsp_routing.proofs.Prelude.{◌≡◌, ℕ, ◌+◌, ◌-◌, ◌*◌, ◌≤◌, List, [], ◌∷◌, arith, inl, inr, ◌⊎◌, ℤ, pos, neg_ℤ, ◌+ℤ◌, ◌≤ℤ◌, AllByRecursion, ints, recursion_from_All, IsNode, IsCustomer}
 use Rattle.tsp_routing.specs.PlanBounds.{most_link}
-use Rattle.tsp_routing.specs.Runs.{SubsetRow, RunRules, RunState, first_state, next_state, charged, IsRunRest, rest_weight, IsRunUnder, run_weight, AreCharges}
+use Rattle.tsp_routing.specs.Runs.{RunRules, RunState, first_state, next_state, charged, IsRunRest, rest_weight, IsRunUnder, run_weight, AreCharges}
+use Rattle.tsp_format.specs.Steps.{SubsetRow}
 use Rattle.tsp_routing.specs.RunBounds.{IsLeastRun}
 use Rattle.tsp_routing.proofs.KeptStarts.{pays}
 

@@ -1,7 +1,8 @@
 -- Runs by the same loads and weights are the same: of code's rows and of the numbers of a leaf.
 use Rattle.tsp_routing.proofs.Prelude.{◌≡◌, ◌≢◌, ℕ, zero, suc, ◌+◌, ◌-◌, ◌≤◌, ◌<◌, ◌==◌, ◌&&◌, ◌||◌, Bool, false, not, List, [], ◌∷◌, length, get_or, refl, sym, ap, ◌∙◌, subst, arith, inl, inr, ◌⊎◌, if◌then◌else◌, ℤ, pos, neg_ℤ, ◌+ℤ◌, ◌≤ℤ◌, Vec, ints, IsNode, IsFromTo, IsCustomer, least_at, has}
 use Rattle.tsp_routing.specs.PlanBounds.{most_link}
-use Rattle.tsp_routing.specs.Runs.{SubsetRow, keeps, RunRules, RunState, first_state, next_state, MayServe, IsRunRest, rest_weight, IsRunUnder, run_weight}
+use Rattle.tsp_routing.specs.Runs.{keeps, RunRules, RunState, first_state, next_state, MayServe, IsRunRest, rest_weight, IsRunUnder, run_weight}
+use Rattle.tsp_format.specs.Steps.{SubsetRow}
 use Rattle.tsp_routing.specs.RunBounds.{IsLeastRun}
 use Rattle.tsp_routing.specs.states.LeafWeights.{IsWeightRow, AreFirstRows}
 use Rattle.tsp_routing.specs.states.RunTables.{item_lists, row_in, link_in, AreLinkRows}

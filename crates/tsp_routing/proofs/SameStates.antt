@@ -1,6 +1,7 @@
 -- States with the same load, last customer and memory are the same, and the other way round.
 use Rattle.tsp_routing.proofs.Prelude.{◌≡◌, ℕ, zero, suc, ◌+◌, ◌-◌, ◌<◌, ◌==◌, Bool, true, false, List, [], ◌∷◌, map, length, refl, sym, ap, ap₂, ◌∙◌, arith, inl, inr, ℤ, ◌||◌, All, AllByRecursion, recursion_from_All, All-from_recursion, cases_Bool, cases_lt, false≢true, eqb-true, length-map, IsNode, has}
-use Rattle.tsp_routing.specs.Runs.{SubsetRow, RunRules, RunState}
+use Rattle.tsp_routing.specs.Runs.{RunRules, RunState}
+use Rattle.tsp_format.specs.Steps.{SubsetRow}
 use Rattle.tsp_routing.specs.KeptStates.{AreSameStates}
 use Rattle.tsp_routing.specs.Memories.{keys_of, odd_at, told, memory_word, memory_of, Remembers}
 use Rattle.tsp_routing.proofs.MemoryWords.{at_node, at_row, not_beyond, untold}

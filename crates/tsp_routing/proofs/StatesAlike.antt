@@ -1,6 +1,7 @@
 -- Kept states by the same loads and weights are the same.
 use Rattle.tsp_routing.proofs.Prelude.{◌≡◌, ℕ, ◌+◌, ◌≤◌, ◌<◌, List, [], ◌∷◌, length, get_or, refl, sym, ap, ◌∙◌, subst, arith, ℤ, ◌+ℤ◌, ◌<ℤ◌, ints, Option, Some, None, IsNode}
-use Rattle.tsp_routing.specs.Runs.{SubsetRow, RunState, first_state, next_state, charged}
+use Rattle.tsp_routing.specs.Runs.{RunState, first_state, next_state, charged}
+use Rattle.tsp_format.specs.Steps.{SubsetRow}
 use Rattle.tsp_routing.specs.KeptStates.{bare_state, IsKeptState, AreKeptFrom, IsKeptStart, state_after, end_state, AreSameStates, HasKeptStates, most_states}
 use Rattle.tsp_routing.specs.states.KeptCounts.{IsLeastRunIfFew}
 use Rattle.tsp_routing.proofs.RunsAlike.{with_numbers, at_load, first_at, rest_alike, least_alike}

@@ -1,7 +1,8 @@
 -- The numbers of the table of ways home are completions.
 use Rattle.tsp_routing.proofs.Prelude.{◌≡◌, ◌≢◌, ℕ, ◌+◌, zero, suc, ◌-◌, ◌*◌, ◌≤◌, ◌<◌, List, [], ◌∷◌, ◌++◌, length, get_or, refl, sym, ap, ◌∙◌, subst, arith, inl, inr, ◌⊎◌, ℤ, pos, neg_ℤ, ◌+ℤ◌, ◌≤ℤ◌, ◌<ℤ◌, slice_index_or, Vec, ints, cases_eq, IsNode, IsCustomer, least_at}
 use Rattle.tsp_routing.specs.PlanBounds.{most_link}
-use Rattle.tsp_routing.specs.Runs.{SubsetRow, RunRules, MayServe}
+use Rattle.tsp_routing.specs.Runs.{RunRules, MayServe}
+use Rattle.tsp_format.specs.Steps.{SubsetRow}
 use Rattle.tsp_routing.specs.KeptStates.{bare_state, IsWayHome, home_weight, IsCompletion}
 use Rattle.tsp_routing.specs.states.Demands.{load_at}
 use Rattle.tsp_routing.specs.states.RunTables.{item_lists, row_in, link_in, rules_by, home_in, IsHomeRow, AreHomeRows, no_way, IsOnward, AreOnwards, AreOnwardsSized, IsWayBelowTo, IsWayMetTo, AreLinkRows}

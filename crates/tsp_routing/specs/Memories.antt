@@ -1,7 +1,8 @@
 -- The memory of a run as a word: what it says of the customers and of the rows that its last customer keeps.
 use Rattle.tsp_routing.specs.Prelude.{ℕ, zero, suc, nat_le, Bool, true, false, List, [], map, length, slice_index_or, ℤ, pos, All, IsNode, has}
 use Rattle.std.specs.Prelude.{◌≡◌, ◌+◌, ◌-◌, ◌*◌, ◌≤◌, if◌then◌else◌, ◌∷◌, ◌++◌}
-use Rattle.tsp_routing.specs.Runs.{SubsetRow, keeps, RunRules, RunState}
+use Rattle.tsp_routing.specs.Runs.{keeps, RunRules, RunState}
+use Rattle.tsp_format.specs.Steps.{SubsetRow}
 
 -- ---- keys: a customer's key is its number, and the rows have the numbers after that of the last node
 

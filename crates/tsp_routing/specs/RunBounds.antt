@@ -3,7 +3,8 @@ use Rattle.tsp_routing.specs.Prelude.{ℕ, List, ℤ, pos, All, RoutingProblem, 
 use Rattle.std.specs.Prelude.{◌≡◌, ◌⊎◌, ◌+◌, ◌*◌, ◌-◌, ◌+ℤ◌, ◌-ℤ◌, ◌*ℤ◌, ◌≤ℤ◌}
 use Rattle.tsp_routing.specs.PlanLinks.{IsRoutable, IsFilledPlan, sum_of_customers, IsCutFamily, KeepsEachLimit, AreUnits, load_in, capacity_in_parts}
 use Rattle.tsp_routing.specs.PlanBounds.{surplus, limits_total, q_route_weight}
-use Rattle.tsp_routing.specs.Runs.{SubsetRow, RunRules, IsRunUnder, run_weight, halves_total, AreCharges}
+use Rattle.tsp_routing.specs.Runs.{RunRules, IsRunUnder, run_weight, halves_total, AreCharges}
+use Rattle.tsp_format.specs.Steps.{SubsetRow}
 
 -- the lesser of a limit and of the least weight of a run
 pub record IsLeastRun (rules : RunRules) (limit each : ℤ) : Type 0 where

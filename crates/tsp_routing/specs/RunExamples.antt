@@ -2,7 +2,8 @@
 use Rattle.tsp_routing.specs.Prelude.{ℕ, Bool, List, [], ℤ, pos, negsuc, RoutingProblem, LeafNumbers}
 use Rattle.std.specs.Prelude.{◌≡◌, ◌∷◌, if◌then◌else◌, ◌==◌}
 use Rattle.tsp_cases.specs.Examples.{cost_in}
-use Rattle.tsp_routing.specs.Runs.{SubsetRow, RunRules, IsRunUnder, run_weight}
+use Rattle.tsp_routing.specs.Runs.{RunRules, IsRunUnder, run_weight}
+use Rattle.tsp_format.specs.Steps.{SubsetRow}
 use Rattle.tsp_routing.specs.RunBounds.{IsRunBound}
 use Rattle.tsp_routing.specs.Memories.{keys_of, is_member_of, memory_word, memory_of}
 use Rattle.tsp_routing.specs.Starts.{start_state, start_weight}

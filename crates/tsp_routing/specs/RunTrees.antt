@@ -5,7 +5,8 @@ use Rattle.tsp_cases.specs.CaseTrees.{IsLeastFound}
 use Rattle.tsp_routing.specs.PlanBounds.{BoundsPlansIfAny}
 use Rattle.tsp_routing.specs.PlanLinks.{IsRoutable, IsCutFamily, AreUnits}
 use Rattle.tsp_routing.specs.PlanVerdicts.{ArePlanNumbers}
-use Rattle.tsp_routing.specs.Runs.{SubsetRow, keeps, RunRules, AreCharges}
+use Rattle.tsp_routing.specs.Runs.{keeps, RunRules, AreCharges}
+use Rattle.tsp_format.specs.Steps.{SubsetRow}
 use Rattle.tsp_routing.specs.RunBounds.{leaf_rules, IsRunBound}
 use Rattle.tsp_routing.specs.KeptStates.{HasTooManyStates}
 

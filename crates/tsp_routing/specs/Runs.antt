@@ -5,12 +5,8 @@
 -- Pessoa, M. Poggi and E. Uchoa, Improved branch-cut-and-price for capacitated vehicle routing, 2017.
 use Rattle.tsp_routing.specs.Prelude.{ℕ, Bool, true, false, not, List, [], length, ℤ, pos, All, AllPairs, sum_int_by, length_of, RoutingProblem, IsCustomer, IsPlan, plan_length, has}
 use Rattle.std.specs.Prelude.{◌≡◌, ◌≢◌, ◌+◌, ◌/◌, ◌≤◌, ◌==◌, ◌&&◌, ◌||◌, if◌then◌else◌, ◌∷◌, ◌+ℤ◌, ◌*ℤ◌, ◌≤ℤ◌}
+use Rattle.tsp_format.specs.Steps.{SubsetRow}
 use Rattle.tsp_routing.specs.PlanLinks.{IsRoutable, IsFilledPlan, AreUnits, load_in, capacity_in_parts}
-
--- A limited-memory subset row: a set of customers, and further customers that keep its parity too.
-pub record SubsetRow : Type 0 where
-  pub set : List ℕ
-  pub further : List ℕ
 
 -- whether a customer keeps the parity of a row
 abbrev pub keeps : SubsetRow → ℕ → Bool

@@ -15,11 +15,17 @@ use tsp_theory::Costs;
 pub(crate) struct PlanContext<'a, C: Costs> {
     pub(crate) costs: &'a C,
     pub(crate) demands: Demands<'a>,
+    /// Potentials and multipliers are counts of 1 / scale.
     pub(crate) scale: i64,
+    /// The families, each a single set of customers.
     pub(crate) families: &'a Families<'a>,
+    /// How often plans cross each set. (`families.crossed` is on cycles, and isn't used here.)
     pub(crate) crossed: &'a [Crossings],
+    /// For each node from 0 on, the sets that contain it.
     pub(crate) by_node: &'a [Vec<SetPlace>],
+    /// The unit in which loads are counted.
     pub(crate) unit: u64,
+    /// The loads and the capacity in that unit.
     pub(crate) units: &'a UnitLoads,
     ghost some: { 2 ≤ demands.nodes },
     ghost same: { C.nodes costs.now ≡ demands.nodes },

@@ -55,7 +55,7 @@ pub fn examples_of_products()
 {}
 
 /// The load of a customer who demands 4 and the capacity of a route that carries 8: in units of 4,
-/// of 1, and of 5, where all customers load a part of a unit.
+/// of 1, and of 5, if all customers load a part of a unit.
 pub fn examples_of_loads()
     ensures none_light { AreUnits (rectangle_with (pos 8)) 4 0 }
     ensures load { load_in (rectangle_with (pos 8)) 4 0 2 ≡ 1 }

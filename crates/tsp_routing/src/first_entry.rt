@@ -3,7 +3,7 @@
 ghost use Rattle.tsp_routing.specs.Prelude.{ℕ, ℤ, List, pos, neg_ℤ, IfSome, IsFromTo, IsCustomer};
 ghost use Rattle.std.specs.Prelude.{◌≡◌, ◌≤◌, ◌+◌, ◌*◌, ◌^◌};
 ghost use Rattle.tsp_routing.specs.PlanBounds.{most_link};
-ghost use Rattle.tsp_routing.specs.Runs.{SubsetRow};
+ghost use Rattle.tsp_format.specs.Steps.{SubsetRow};
 ghost use Rattle.tsp_routing.specs.states.Demands.{load_at};
 ghost use Rattle.tsp_routing.specs.states.KeptLists.{rules_of, IsLeafOf, IsFirstEntry};
 
@@ -13,7 +13,7 @@ use crate::run_leaf::RunLeaf;
 use crate::ways_home::home_at;
 use tsp_theory::weight_in;
 
-/// The entry after a first customer, where the route can carry `left` more; `None` where no way home
+/// The entry after a first customer, if the route can carry `left` more; `None` if no way home
 /// ends below the limit.
 pub(crate) fn first_entry(leaf: &RunLeaf, first: u32, left: usize) -> Option<KeptState>
     requires first { IsCustomer leaf.now.nodes.now.nodes leaf.now.nodes.now.depot first }

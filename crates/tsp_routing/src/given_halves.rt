@@ -3,12 +3,12 @@
 ghost use Rattle.tsp_routing.specs.Prelude.{ℤ, List, map, length, slice_index_or, pos, neg_ℤ, All, IsFromTo};
 ghost use Rattle.std.specs.Prelude.{◌≡◌, ◌≤◌, ◌<◌, ◌*◌, ◌/◌, ◌^◌, ◌*ℤ◌, ◌≤ℤ◌};
 ghost use Rattle.tsp_routing.specs.PlanVerdicts.{most_of_multipliers, sizes_total};
-ghost use Rattle.tsp_routing.specs.declared.row_sets.RowSets.{RowSets};
-ghost use Rattle.tsp_routing.specs.states.GivenMemories.{subset_row_of};
+ghost use Rattle.tsp_format.specs.declared.steps.RowSets.{RowSets};
+ghost use Rattle.tsp_format.specs.states.TreeSteps.{subset_row_of};
 ghost use Rattle.tsp_routing.specs.states.RowHalves.{IsSmallRow, halves_with};
 
 use crate::plan_leaf::times_given_back;
-use crate::row_sets::RowSets;
+use tsp_format::RowSets;
 
 /// What all rows give back.
 pub(crate) fn halves_of(rows: &[RowSets], charges: &[i64]) -> i128

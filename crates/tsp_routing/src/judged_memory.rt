@@ -4,14 +4,14 @@ ghost use Rattle.tsp_routing.specs.Prelude.{ℕ, List, [], map, take, drop, leng
 ghost use Rattle.std.specs.Prelude.{◌≡◌, ◌≤◌, ◌<◌, ◌+◌, ◌++◌, ◌↔◌, if◌then◌else◌};
 ghost use Rattle.tsp_cases.specs.states.GoodFamilies.{AreUnmarked, AddsNoOther};
 ghost use Rattle.tsp_routing.specs.states.Demands.{AreDemands};
-ghost use Rattle.tsp_routing.specs.states.GivenMemories.{subset_row_of};
+ghost use Rattle.tsp_format.specs.states.TreeSteps.{subset_row_of};
 ghost use Rattle.tsp_routing.specs.states.JudgedMemory.{AreListsOf, AreRowsOf, AreListsJudged, AreRowsJudged, IsNearTable, IsKeptWithin, IsFirstFullIn, AreMemoriesJudged};
 ghost use Rattle.tsp_routing.specs.states.RunTables.{item_lists};
 
-use crate::row_sets::RowSets;
 use crate::units::Demands;
 use std::alloc::Global;
 use tsp_cases::mark_nodes;
+use tsp_format::RowSets;
 use tsp_io::{Refused, filled, push};
 
 /// The judgement on memories: what each node remembers, at the place of the node; or the first

@@ -2,7 +2,7 @@
 
 ghost use Rattle.tsp_routing.specs.Prelude.{[], ℕ, ℤ, List, pos, neg_ℤ, length, slice_index_or, IfOk, IsTrue, IsNode, IsCustomer};
 ghost use Rattle.std.specs.Prelude.{◌≡◌, ◌≢◌, ◌≤◌, ◌<◌, ◌+◌, ◌-◌, ◌*◌, ◌^◌, ◌≤ℤ◌, ◌↔◌};
-ghost use Rattle.tsp_routing.specs.Runs.{SubsetRow};
+ghost use Rattle.tsp_format.specs.Steps.{SubsetRow};
 ghost use Rattle.tsp_routing.specs.states.Demands.{load_at};
 ghost use Rattle.tsp_routing.specs.states.RunTables.{item_lists};
 ghost use Rattle.tsp_routing.specs.states.KeptLists.{rules_of, IsLeafOf, IsKeptList, IsKeptListTo, AreStateRows, AreSizedEntries, AreSizedRows, AreLeastOf, AreRising, AreInOrder, LastStandsFor, IsLeastAdded, list_in};

@@ -1,7 +1,7 @@
 //! The kept states of a leaf, by load and by last customer.
 
 ghost use Rattle.std.specs.Prelude.{◌≡◌, ◌≤◌, ◌<◌, ◌+◌, ℕ, ℤ, List, length, IfOk, IfSome};
-ghost use Rattle.tsp_routing.specs.Runs.{SubsetRow};
+ghost use Rattle.tsp_format.specs.Steps.{SubsetRow};
 ghost use Rattle.tsp_routing.specs.KeptStates.{most_states};
 ghost use Rattle.tsp_routing.specs.states.RunTables.{item_lists};
 ghost use Rattle.tsp_routing.specs.states.KeptCounts.{count_in_lists, entry_count, AreRisingLists, AreRisingRows, IsStateRowIfFew, AreStateRowsIfFew};
@@ -16,7 +16,7 @@ use tsp_io::{Refused, push};
 /// The most kept states of a leaf.
 const MOST_STATES: usize = 10_000_000;
 
-/// The kept states: a row for each load from 0 on, with a list for each last customer. `None` where
+/// The kept states: a row for each load from 0 on, with a list for each last customer. `None` if
 /// there are more than 10,000,000.
 ///
 /// # Errors
@@ -45,7 +45,7 @@ pub(crate) fn kept_states(
 }
 
 /// The lists of the load that comes next in a table with so many states, which grow by those of
-/// these lists. `None` where they grow above 10,000,000.
+/// these lists. `None` if they grow above 10,000,000.
 ///
 /// # Errors
 ///

@@ -16,7 +16,7 @@ const MOST_KEPT: u32 = 5_000;
 
 /// Weights of which rows may be kept.
 pub(crate) trait LentRows: Weights {
-    /// The row of a node, where it is kept.
+    /// The row of a node, if it is kept.
     fn kept_row(&self, from: u32) -> Option<&[i64]>
         requires { IsNode (Self.nodes self.now) from }
         ensures { IfSome result (λ row. IsWeightRow (Self.nodes self.now) (Self.at self.now from) row.now) };
@@ -31,7 +31,7 @@ pub(crate) struct KeptWeights<'a, C: Costs> {
         weights.now.multipliers.now (lent_in weights.now.families.now) (C.at weights.now.costs.now)) rows.now },
 }
 
-/// The rows of all nodes; none where there are too many.
+/// The rows of all nodes; none if there are too many.
 ///
 /// # Errors
 ///
@@ -103,7 +103,7 @@ impl<C: Costs> KeptWeights<'_, C> {
     ghost use Rattle.tsp_routing.specs.states.LeafWeights.{IsWeightRow};
     ghost use Rattle.tsp_routing.specs.states.Demands.{AreLinks};
 
-    /// Writes a row, as it is kept where it is.
+    /// Writes a row, as it is kept if it is.
     fn fill_kept(&self, from: u32, row: &mut [i64])
         requires from { IsNode (C.nodes self.now.weights.now.costs.now) from }
         requires room { length row.old ≡ C.nodes self.now.weights.now.costs.now + 1 }

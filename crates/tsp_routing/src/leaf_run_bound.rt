@@ -5,10 +5,11 @@ ghost use Rattle.std.specs.Prelude.{◌≡◌, ◌≤◌, ◌+◌, ◌≤ℤ◌,
 ghost use Rattle.tsp_cases.specs.states.OpenCases.{IsOpenCase, decisions_in};
 ghost use Rattle.tsp_routing.specs.PlanVerdicts.{most_of_multipliers, sizes_total};
 ghost use Rattle.tsp_routing.specs.PlanBounds.{most_capacity_in_parts};
-ghost use Rattle.tsp_routing.specs.Runs.{SubsetRow, AreCharges};
+ghost use Rattle.tsp_routing.specs.Runs.{AreCharges};
+ghost use Rattle.tsp_format.specs.Steps.{SubsetRow};
 ghost use Rattle.tsp_routing.specs.RunBounds.{leaf_rules, IsRunBound};
 ghost use Rattle.tsp_routing.specs.states.Demands.{loads_problem};
-ghost use Rattle.tsp_routing.specs.states.GivenMemories.{subset_row_of};
+ghost use Rattle.tsp_format.specs.states.TreeSteps.{subset_row_of};
 ghost use Rattle.tsp_routing.specs.states.KeptCounts.{IsFoundIfFew};
 ghost use Rattle.tsp_routing.specs.states.MemoryTables.{AreMemoriesOf};
 ghost use Rattle.tsp_routing.specs.states.RowHalves.{IsSmallRow};
@@ -17,10 +18,10 @@ use crate::given_halves::halves_of;
 use crate::leaf_runs::least_leaf_run;
 use crate::memories::Memories;
 use crate::plan_leaf::{LeafSum, PlanLeaf, customers_total, limits_total};
-use crate::row_sets::RowSets;
 use crate::run_bound::run_bound;
 use std::alloc::Global;
 use tsp_cases::OpenCase;
+use tsp_format::RowSets;
 use tsp_io::Refused;
 use tsp_theory::Costs;
 
@@ -32,8 +33,8 @@ pub(crate) struct PricedRows<'a> {
     pub(crate) charges: &'a [i64],
 }
 
-/// The bound of a leaf at a case by the least weight of a run, where each row has its charge. `None`
-/// where there are more than 10,000,000 kept states.
+/// The bound of a leaf at a case by the least weight of a run, if each row has its charge. `None`
+/// if there are more than 10,000,000 kept states.
 ///
 /// # Errors
 ///

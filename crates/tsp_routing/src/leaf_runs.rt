@@ -3,7 +3,8 @@
 ghost use Rattle.tsp_routing.specs.Prelude.{ℕ, ℤ, List, map, length, pos, neg_ℤ, IfOk, IfSome, most_potential, IsFromTo, entry, families_with, as_leaf_numbers, lent_in};
 ghost use Rattle.std.specs.Prelude.{◌≡◌, ◌≤◌, ◌^◌, ◌*ℤ◌};
 ghost use Rattle.tsp_routing.specs.PlanBounds.{most_capacity_in_parts};
-ghost use Rattle.tsp_routing.specs.Runs.{SubsetRow, AreCharges};
+ghost use Rattle.tsp_routing.specs.Runs.{AreCharges};
+ghost use Rattle.tsp_format.specs.Steps.{SubsetRow};
 ghost use Rattle.tsp_routing.specs.RunBounds.{leaf_rules};
 ghost use Rattle.tsp_routing.specs.states.Demands.{loads_problem};
 ghost use Rattle.tsp_routing.specs.states.KeptCounts.{IsLeastRunIfFew};
@@ -19,8 +20,8 @@ use std::alloc::Global;
 use tsp_io::Refused;
 use tsp_theory::Costs;
 
-/// The lesser of twice the potential of the depot and of the least weight of a run, where each row
-/// has its charge. `None` where there are more than 10,000,000 kept states.
+/// The lesser of twice the potential of the depot and of the least weight of a run, if each row
+/// has its charge. `None` if there are more than 10,000,000 kept states.
 ///
 /// # Errors
 ///

@@ -12,7 +12,7 @@ use tsp_theory::{Costs, weight_in};
 
 /// Costs, a scale, potentials, and sets of customers with the multiplier of each.
 ///
-/// What two nodes cross of a set is 1 for each of them that it has, less 2 where it has both. So
+/// What two nodes cross of a set is 1 for each of them that it has, less 2 if it has both. So
 /// each multiplier is taken off the potentials of its set's nodes, and a row needs besides these
 /// only the sets that hold its node.
 #[derive(Drop)]

@@ -2,7 +2,7 @@
 
 ghost use Rattle.tsp_routing.specs.Prelude.{[], ℕ, ℤ, List, pos, neg_ℤ, length, slice_index_or, All, IsNode, IsFromTo, IsCustomer};
 ghost use Rattle.std.specs.Prelude.{◌≡◌, ◌≢◌, ◌≤◌, ◌<◌, ◌+◌, ◌*◌, ◌^◌, ◌⊎◌, ◌+ℤ◌, ◌≤ℤ◌};
-ghost use Rattle.tsp_routing.specs.Runs.{SubsetRow};
+ghost use Rattle.tsp_format.specs.Steps.{SubsetRow};
 ghost use Rattle.tsp_routing.specs.RunBounds.{IsLeastRun};
 ghost use Rattle.tsp_routing.specs.states.RunTables.{link_in};
 ghost use Rattle.tsp_routing.specs.states.KeptLists.{rules_of, IsLeafOf, AreStateRows, AreSizedEntries, AreSizedRows, list_in};

@@ -1,4 +1,6 @@
-//! The least weight of a walk within the capacity, by dynamic programming over loads and nodes.
+//! The least weight of a q-route without 2-cycles: a closed walk from the depot whose load is
+//! within the capacity, and which never goes straight back to the customer it came from. By dynamic
+//! programming over loads and nodes.
 
 ghost use Rattle.tsp_routing.specs.Prelude.{ℕ, ℤ, length, pos, neg_ℤ, Some, IfOk, IfSome, most_nodes, IsNode, IsFromTo, length_of, IsCustomer, least_at};
 ghost use Rattle.std.specs.Prelude.{◌≡◌, ◌≢◌, ◌⊎◌, ◌≤◌, ◌<◌, ◌+◌, ◌-◌, ◌*◌, ◌^◌, ◌∷◌, ◌+ℤ◌, ◌≤ℤ◌};
@@ -27,7 +29,7 @@ pub(crate) struct QRoutes<'a, W: LentRows> {
     ghost same: { W.nodes weights.now ≡ nodes },
 }
 
-/// The least weight of a walk; `None` where there is none. A row is lent, which is written over.
+/// The least weight of a q-route; `None` if there is none. `row` is scratch space.
 ///
 /// # Errors
 ///
@@ -126,7 +128,7 @@ fn entry<S: Sum, W: LentRows>(
 }
 
 /// The entry of a node by the entries of the next ones, and by the row of the node, which is filled
-/// where it isn't kept.
+/// if it isn't kept.
 fn weighed_entry<S: Sum, W: LentRows>(
     q_routes: &QRoutes<W>,
     node: u32,

@@ -1,9 +1,9 @@
 //! The least weight of a run of a leaf, by the programme over kept states.
 
 ghost use Rattle.std.specs.Prelude.{◌≡◌, ◌^◌, ℕ, ℤ, List, map, length, pos, neg_ℤ, IfOk, IfSome};
-ghost use Rattle.tsp_format.specs.Steps.{IsFromTo};
+ghost use Rattle.tsp_format.specs.Steps.{IsFromTo, SubsetRow};
 ghost use Rattle.tsp_routing.specs.PlanBounds.{most_link};
-ghost use Rattle.tsp_routing.specs.Runs.{SubsetRow, AreCharges};
+ghost use Rattle.tsp_routing.specs.Runs.{AreCharges};
 ghost use Rattle.tsp_routing.specs.states.KeptCounts.{IsLeastRunIfFew};
 ghost use Rattle.tsp_routing.specs.states.RunTables.{rules_by};
 ghost use Rattle.tsp_routing.specs.states.MemoryTables.{AreMemoriesOf};
@@ -17,7 +17,7 @@ use crate::ways_home::ways_home;
 use std::alloc::Global;
 use tsp_io::Refused;
 
-/// The lesser of a limit and of the least weight of a run, where each row has its charge. `None` where
+/// The lesser of a limit and of the least weight of a run, if each row has its charge. `None` if
 /// there are more than 10,000,000 kept states.
 ///
 /// # Errors

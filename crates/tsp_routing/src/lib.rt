@@ -1,8 +1,11 @@
 //! Lower bounds on the lengths of plans of routes, as theorems and as code.
 //!
-//! A plan leaves a set of customers as often as that needs routes, crosses it an even number of
-//! times, and each of its routes is a walk within the capacity. So the bound of a tree of cases,
-//! with least walks at its leaves, holds of every plan. The crate knows no files.
+//! A plan leaves a set of customers at least as often as the set needs routes, and crosses it an
+//! even number of times. Each of its routes is a walk within the capacity, a q-route. So the bound
+//! of a tree of cases, with least q-routes at its leaves, holds for every plan.
+//!
+//! `leaf_run_bound` and the modules below it bound a leaf by walks that remember customers, with
+//! subset-row cuts. Nothing calls them yet.
 //!
 //! ```text
 //! let verdict = judge_plans(alloc, &tree)?;
@@ -33,7 +36,6 @@ mod next_entries;
 mod next_entry;
 mod placed_steps;
 mod plan_leaf;
-mod row_sets;
 mod run_bound;
 mod run_leaf;
 mod run_nodes;

@@ -29,7 +29,8 @@ pub(crate) struct MemoryStep {
 impl Memories {
     ghost use Rattle.tsp_routing.specs.Prelude.{pos, neg_ℤ, map, length, ℤ, IsNode, IsFromTo};
     ghost use Rattle.std.specs.Prelude.{◌≡◌, ◌≤◌, ◌+◌, ◌^◌};
-    ghost use Rattle.tsp_routing.specs.Runs.{SubsetRow, RunRules, RunState, first_state, next_state, charged};
+    ghost use Rattle.tsp_routing.specs.Runs.{RunRules, RunState, first_state, next_state, charged};
+    ghost use Rattle.tsp_format.specs.Steps.{SubsetRow};
     ghost use Rattle.tsp_routing.specs.Memories.{told, Remembers};
     ghost use Rattle.tsp_routing.specs.states.MemoryTables.{keys_in, key_places_in, key_place_in, AreMemoriesOf};
 

@@ -2,16 +2,18 @@
 
 ghost use Rattle.tsp_routing.specs.Prelude.{[], ℕ, ℤ, List, map, length, slice_index_or, IfOk, Vec, All, most_nodes, IsNode, has};
 ghost use Rattle.std.specs.Prelude.{◌≡◌, ◌≤◌, ◌<◌, ◌+◌, ◌++◌, ◌∷◌};
-ghost use Rattle.tsp_routing.specs.Runs.{SubsetRow, keeps};
+ghost use Rattle.tsp_routing.specs.Runs.{keeps};
+ghost use Rattle.tsp_format.specs.Steps.{SubsetRow};
 ghost use Rattle.tsp_routing.specs.Memories.{AreMemories};
 ghost use Rattle.tsp_routing.specs.states.RunTables.{rules_by};
 ghost use Rattle.tsp_routing.specs.states.MemoryTables.{AreMemoriesOf, IsKeyIn};
-ghost use Rattle.tsp_routing.specs.states.GivenMemories.{near_in, subset_row_of, free_rows, key_of_node, kept_keys, AreKeysOf, ArePlacesTo};
+ghost use Rattle.tsp_routing.specs.states.GivenMemories.{near_in, free_rows, key_of_node, kept_keys, AreKeysOf, ArePlacesTo};
+ghost use Rattle.tsp_format.specs.states.TreeSteps.{subset_row_of};
 
 use crate::memories::Memories;
 use crate::memory_key::MemoryKey;
-use crate::row_sets::RowSets;
 use std::alloc::Global;
+use tsp_format::RowSets;
 use tsp_io::{Refused, filled, push, with_capacity};
 
 /// The tables of what nodes remember and of rows. The list of a node is at its place, with a place 0

@@ -2,7 +2,8 @@
 
 ghost use Rattle.tsp_routing.specs.Prelude.{[], ℕ, ℤ, List, pos, neg_ℤ, length, slice_index_or, IfOk, All, IsFromTo, IsCustomer};
 ghost use Rattle.std.specs.Prelude.{◌≡◌, ◌≢◌, ◌≤◌, ◌<◌, ◌+◌, ◌*◌, ◌^◌, ◌++◌, ◌∷◌, ◌+ℤ◌, ◌≤ℤ◌};
-ghost use Rattle.tsp_routing.specs.Runs.{SubsetRow, RunState};
+ghost use Rattle.tsp_routing.specs.Runs.{RunState};
+ghost use Rattle.tsp_format.specs.Steps.{SubsetRow};
 ghost use Rattle.tsp_routing.specs.Memories.{Remembers};
 ghost use Rattle.tsp_routing.specs.states.Demands.{load_at};
 ghost use Rattle.tsp_routing.specs.states.RunTables.{link_in};

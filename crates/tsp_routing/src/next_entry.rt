@@ -3,7 +3,8 @@
 ghost use Rattle.tsp_routing.specs.Prelude.{ℕ, ℤ, List, pos, neg_ℤ, true, false, length, slice_index_or, IfSome, IsFromTo, IsCustomer};
 ghost use Rattle.std.specs.Prelude.{◌≡◌, ◌≢◌, ◌≤◌, ◌<◌, ◌+◌, ◌*◌, ◌^◌, ◌+ℤ◌, ◌≤ℤ◌, ◌<ℤ◌};
 ghost use Rattle.tsp_routing.specs.PlanBounds.{most_link, most_capacity_in_parts};
-ghost use Rattle.tsp_routing.specs.Runs.{SubsetRow, RunState};
+ghost use Rattle.tsp_routing.specs.Runs.{RunState};
+ghost use Rattle.tsp_format.specs.Steps.{SubsetRow};
 ghost use Rattle.tsp_routing.specs.Memories.{Remembers};
 ghost use Rattle.tsp_routing.specs.states.Demands.{load_at};
 ghost use Rattle.tsp_routing.specs.states.RunTables.{link_in};
@@ -23,7 +24,7 @@ pub(crate) struct Serving {
     pub(crate) left: usize,
 }
 
-/// The entry of the next state; `None` where the run remembers the customer, or where no way home
+/// The entry of the next state; `None` if the run remembers the customer, or if no way home
 /// ends below the limit. Most steps end at the first test, which forgets what the step pays.
 pub(crate) fn next_entry(leaf: &RunLeaf, serving: Serving, entry: KeptState) -> Option<KeptState>
     requires before { IsCustomer leaf.now.nodes.now.nodes leaf.now.nodes.now.depot serving.before }

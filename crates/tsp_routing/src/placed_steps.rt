@@ -9,7 +9,7 @@ use std::alloc::Global;
 use tsp_format::TreeStep;
 use tsp_io::{Refused, push};
 
-/// The steps, where the numbers of rows follow on those of so many families.
+/// The steps, if the numbers of rows follow on those of so many families.
 ///
 /// # Errors
 ///
@@ -81,7 +81,7 @@ fn placed_changes(
     Ok(placed)
 }
 
-/// The place of an index among the numbers of a leaf, from 1 on; 0 where it is none.
+/// The place of an index among the numbers of a leaf, from 1 on; 0 if it is none.
 fn number_place(nodes: u32, families: u32, index: u32) -> u32
     requires nodes { nodes ≤ most_nodes }
     requires families { families ≤ 10000 }

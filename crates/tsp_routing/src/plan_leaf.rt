@@ -1,4 +1,5 @@
-//! The bound of a leaf of a certificate for routes, from the least weight of a walk.
+//! The bound of a leaf of a certificate for routes: from the least weight of a q-route, what the
+//! multipliers give back within the limits of the case, and the number of routes.
 
 ghost use Rattle.tsp_routing.specs.Prelude.{All, ℕ, ℤ, length, true, pos, neg_ℤ, IfOk, IfSome, List, unsigned_abs, [], most_nodes, most_potential, IsNode, IsFromTo, IsBoundSized, entry, IsScale, IsLeastBound, ArePotentials, RoutingProblem, Family, families_with, as_leaf_numbers, Decision, lent_in};
 ghost use Rattle.std.specs.Prelude.{◌≡◌, ◌≤◌, ◌+◌, ◌-◌, ◌^◌, ◌-ℤ◌, ◌*ℤ◌, ◌*◌, ◌<◌, ◌≤ℤ◌, ◌==◌, if◌then◌else◌, ◌∷◌};
@@ -35,7 +36,7 @@ pub(crate) struct PlanLeaf<'a, C: Costs> {
         (lent_in context.now.families.now) moved.now },
 }
 
-/// The bound of a leaf at a case; `None` where there is no walk. A row is lent, which is written
+/// The bound of a leaf at a case; `None` if there is no walk. A row is lent, which is written
 /// over.
 ///
 /// # Errors
@@ -76,7 +77,7 @@ pub(crate) fn leaf_bound<C: Costs>(
     Ok(Some(plan_bound(sum, each)))
 }
 
-/// The least weight of a walk under the numbers of a leaf; `None` where there is none.
+/// The least weight of a walk under the numbers of a leaf; `None` if there is none.
 ///
 /// # Errors
 ///
@@ -165,7 +166,7 @@ pub(crate) struct LeafSum {
     ghost few: { fewest ≤ most_nodes },
 }
 
-/// The bound of a leaf where each route weighs `each` at the least.
+/// The bound of a leaf if each route weighs `each` at the least.
 fn plan_bound(sum: LeafSum, each: i128) -> i128
     requires { IsFromTo (neg_ℤ (pos (2 ^ 83))) (pos (2 ^ 83)) each }
     ensures bound { (problem : RoutingProblem) (potentials : List ℤ) (families : List Family) (multipliers : List ℤ)
@@ -309,7 +310,7 @@ fn of_customer(depot: u32, node: u32, potential: i64) -> i128
 
 // ---- how often the limits of a case let plans cross a set
 
-/// How often plans of a case cross a set at the least, where they do so as often as this anyway. Of
+/// How often plans of a case cross a set at the least, if they do so as often as this anyway. Of
 /// the decisions, the last one last, those on this place count.
 fn lowest(place: u32, decisions: &[Decision], own: u64) -> u64
     requires { own ≤ 2 ^ 33 }
@@ -336,7 +337,7 @@ fn raised(place: u32, limit: Decision, own: u64) -> u64
     if low < own { own } else { low }
 }
 
-/// How often they cross it at the most, where they do so no more often than this anyway.
+/// How often they cross it at the most, if they do so no more often than this anyway.
 fn highest(place: u32, decisions: &[Decision], own: u64) -> u64
     ensures value { result ≡ high_of place (stack_of decisions.now) own }
     ensures most { result ≤ own }

@@ -4,12 +4,13 @@ ghost use Rattle.tsp_routing.specs.Prelude.{ℕ, ℤ, List, pos, neg_ℤ, IsFrom
 ghost use Rattle.std.specs.Prelude.{◌≡◌, ◌^◌, ◌-◌, ◌+◌, ◌*◌, ◌-ℤ◌, ◌*ℤ◌};
 ghost use Rattle.tsp_routing.specs.PlanLinks.{sum_of_customers};
 ghost use Rattle.tsp_routing.specs.PlanBounds.{limits_total};
-ghost use Rattle.tsp_routing.specs.Runs.{SubsetRow, halves_total};
+ghost use Rattle.tsp_routing.specs.Runs.{halves_total};
+ghost use Rattle.tsp_format.specs.Steps.{SubsetRow};
 ghost use Rattle.tsp_routing.specs.RunBounds.{IsLeastRun, leaf_rules, IsRunBound};
 
 use crate::plan_leaf::{LeafSum, rounded_up, times};
 
-/// The bound of a leaf where each route weighs `each` at the least, which is no more than twice the
+/// The bound of a leaf if each route weighs `each` at the least, which is no more than twice the
 /// potential of the depot. What the leaf gives back is without the halves of its rows.
 pub(crate) fn run_bound(sum: LeafSum, each: i128) -> i128
     requires { IsFromTo (neg_ℤ (pos (2 ^ 83))) (pos (2 ^ 83)) each }

@@ -1,4 +1,4 @@
-//! Sums of the weights of walks, in 64 bits where weights are small, else in 128.
+//! Sums of the weights of walks, in 64 bits if weights are small, else in 128.
 
 ghost use Rattle.std.proofs.Common.{rules};
 ghost use Rattle.std.specs.Prelude.{◌≡◌, ◌≤◌, ◌<◌, ◌+◌, ◌*◌, ◌^◌, ℕ, ℤ, pos, neg_ℤ, ◌+ℤ◌, int_lt, MatchOption};
@@ -6,7 +6,7 @@ ghost use Rattle.tsp_format.specs.Steps.{IsFromTo};
 ghost use Rattle.tsp_routing.specs.QRoutes.{IsReal};
 ghost use Rattle.tsp_routing.specs.PlanBounds.{most_link, most_capacity_in_parts};
 
-/// The most that a weight is in size where sums fit 64 bits: then 5,000,000 of them do.
+/// The most that a weight is in size if sums fit 64 bits: then 5,000,000 of them do.
 pub(crate) const MOST_NARROW: i64 = 1 << 38;
 
 /// A sum of weights of at most `link` in size. Sums that walks have are at most `half`; those above
@@ -38,7 +38,7 @@ pub(crate) trait Sum: Copy {
     fn is_below(self, other: Self) -> bool
         ensures { result ≡ int_lt (value self) (value other) };
 
-    /// The weight of a walk; `None` where it is the sum of no walk.
+    /// The weight of a walk; `None` if it is the sum of no walk.
     fn weight(self) -> Option<i128>
         ensures { MatchOption result (IsReal half (value self) → ⊥)
             (λ weight. (weight ≡ value self) × IsReal half (value self)) };

@@ -79,7 +79,7 @@ fn whole_units(demands: &Demands, unit: u64, node: u32) -> u64
     demands.demand(node) as u64 / unit
 }
 
-/// The load of this number of units, of which each has some parts: one part where there is no unit.
+/// The load of this number of units, of which each has some parts: one part if there is no unit.
 fn load_of(units: u64, parts: u64) -> u64
     requires units { units ≤ 1000000000 }
     requires parts { parts ≤ 100001 }

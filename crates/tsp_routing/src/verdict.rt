@@ -31,8 +31,8 @@ const MOST_ENTRIES: u128 = 10_000_000;
 
 /// The verdict on a certificate for routes: the first family that isn't one set of customers, or
 /// the first branch that isn't on a family, or the first leaf that isn't good, or that there are
-/// too many loads, or, where there is none of these, the bound. It is at most the length of every
-/// plan whose routes each have a customer, and sums with it fit 128 bits. Where no leaf has a
+/// too many loads, or, if there is none of these, the bound. It is at most the length of every
+/// plan whose routes each have a customer, and sums with it fit 128 bits. If no leaf has a
 /// bound, there is no such plan.
 ///
 /// # Errors
@@ -93,7 +93,7 @@ fn judged_plans<C: Costs>(alloc: Global, tree: &PlanTree<C>) -> Result<PlanVerdi
     leaf_verdict(alloc, &context, tree.steps)
 }
 
-/// The verdict on leaves, where families and branches are good.
+/// The verdict on leaves, if families and branches are good.
 ///
 /// # Errors
 ///
@@ -183,7 +183,7 @@ pub enum PlanVerdict {
     BadLeaf(usize),
     /// A table by node and load would have more than 10,000,000 entries.
     TooManyLoads,
-    /// The bound: no plan whose routes each have a customer is shorter. `None` where no leaf has
+    /// The bound: no plan whose routes each have a customer is shorter. `None` if no leaf has
     /// one: then there is no such plan.
     Bound(Option<i128>),
 }
@@ -205,7 +205,7 @@ pub struct PlanTree<'a, C: Costs> {
     pub unit: i64,
     /// The families, each by its sets.
     pub families: &'a [Vec<Vec<u32>>],
-    /// The branches and leaves. A branch is on family k where its first number is n + k.
+    /// The branches and leaves. A branch is on family k if its first number is n + k.
     pub steps: &'a [TreeStep],
     pub ghost some: { 2 ≤ C.nodes costs.now },
     pub ghost depot_in: { IsNode (C.nodes costs.now) depot },
@@ -268,7 +268,7 @@ fn judge_cuts<'a>(
 }
 
 /// How often a plan crosses the set that these are at the least: twice for each route that it
-/// needs. `None` where they aren't one set of customers with none twice.
+/// needs. `None` if they aren't one set of customers with none twice.
 fn cut_crossings(
     demands: &Demands,
     marks: &mut [u32],
@@ -312,7 +312,7 @@ pub(crate) struct PlanScratch {
     pub(crate) row: Vec<i64>,
 }
 
-/// Judges leaves by least walks, where there are few loads; else it only says which are good.
+/// Judges leaves by least walks, if there are few loads; else it only says which are good.
 #[derive(Drop)]
 pub(crate) struct PlanJudge<'a, C: Costs> {
     pub(crate) context: &'a PlanContext<'a, C>,
@@ -366,7 +366,7 @@ impl<C: Costs> LeafJudge for PlanJudge<'_, C> {
     }
 }
 
-/// The bound of the leaf with these numbers, where they are good and there are few loads.
+/// The bound of the leaf with these numbers, if they are good and there are few loads.
 ///
 /// # Errors
 ///

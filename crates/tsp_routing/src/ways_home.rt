@@ -4,7 +4,7 @@
 ghost use Rattle.tsp_routing.specs.Prelude.{ℕ, ℤ, List, pos, neg_ℤ, [], length, slice_index_or, IfOk, IsNode, IsFromTo, IsCustomer, least_at};
 ghost use Rattle.std.specs.Prelude.{◌≡◌, ◌≢◌, ◌≤◌, ◌<◌, ◌+◌, ◌*◌, ◌^◌, ◌≤ℤ◌, ◌+ℤ◌, ◌⊎◌, ◌<ℤ◌};
 ghost use Rattle.tsp_routing.specs.PlanBounds.{most_link, most_capacity_in_parts};
-ghost use Rattle.tsp_routing.specs.Runs.{SubsetRow};
+ghost use Rattle.tsp_format.specs.Steps.{SubsetRow};
 ghost use Rattle.tsp_routing.specs.states.RunTables.{rules_by, link_in, row_in, home_in, item_lists, no_way, IsHomeRow, AreHomeRows, IsHomeRowSized, AreHomeRowsSized, IsOnward, AreOnwards, IsOnwardSized, AreOnwardsSized, IsWayBelowTo, IsWayMetTo};
 
 use crate::run_nodes::RunNodes;
@@ -61,7 +61,7 @@ fn ways_with(alloc: Global, run_nodes: &RunNodes, table: &[Vec<i128>]) -> Result
     Ok(next)
 }
 
-/// What the cheapest way home from each node weighs for a route that serves it next, where it can;
+/// What the cheapest way home from each node weighs for a route that serves it next, if it can;
 /// else `NO_WAY`.
 ///
 /// # Errors

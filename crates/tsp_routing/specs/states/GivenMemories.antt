@@ -1,20 +1,18 @@
 -- What customers remember and which rows there are, as lists in code; and the keys that are made of these.
 use Rattle.tsp_routing.specs.Prelude.{Vec, All, ℕ, false, List, [], map, take, length, slice_index_or, ℤ, pos, has}
 use Rattle.std.specs.Prelude.{◌≡◌, ◌⊎◌, ◌+◌, ◌≤◌, ◌<◌, if◌then◌else◌, ◌∷◌}
-use Rattle.tsp_routing.specs.Runs.{SubsetRow, keeps}
+use Rattle.tsp_routing.specs.Runs.{keeps}
+use Rattle.tsp_format.specs.Steps.{SubsetRow}
+use Rattle.tsp_format.specs.states.TreeSteps.{subset_row_of}
 use Rattle.tsp_routing.specs.Memories.{keys_of, is_member_of}
 use Rattle.tsp_routing.specs.declared.memory_key.MemoryKey.{MemoryKey}
-use Rattle.tsp_routing.specs.declared.row_sets.RowSets.{RowSets}
+use Rattle.tsp_format.specs.declared.steps.RowSets.{RowSets}
 use Rattle.tsp_routing.specs.states.MemoryTables.{IsKeyIn, IsKeyPlace, keys_in, key_places_in}
 use Rattle.tsp_routing.specs.states.RunTables.{item_lists}
 
 -- the customers that a customer remembers
 abbrev pub near_in : List (Vec ℕ) → ℕ → List ℕ
 near_in near customer = slice_index_or (item_lists near) customer []
-
--- the row of these lists
-abbrev pub subset_row_of : RowSets → SubsetRow
-subset_row_of sets = record { set = sets.set.items; further = sets.further.items }
 
 -- the rows without charges
 abbrev pub free_rows : List RowSets → List (SubsetRow × ℤ)

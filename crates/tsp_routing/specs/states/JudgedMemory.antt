@@ -1,14 +1,15 @@
 -- What is judged of the lists of customers and of rows, in code.
 use Rattle.tsp_routing.specs.Prelude.{Vec, All, ℕ, Bool, true, List, [], map, take, length, slice_index_or, Option, Some, None, IsNode, IsCustomer, has}
 use Rattle.std.specs.Prelude.{◌≡◌, ◌+◌, ◌≤◌, ◌<◌, ◌++◌, if◌then◌else◌}
-use Rattle.tsp_routing.specs.Runs.{SubsetRow}
+use Rattle.tsp_format.specs.Steps.{SubsetRow}
 use Rattle.tsp_routing.specs.RunTrees.{owner_of, near_of, IsGoodList, AreGoodLists, IsFirstBadList, AreGoodRows, IsFirstBadRow, rows_kept, IsGoodMemory, IsBadMemory}
-use Rattle.tsp_routing.specs.declared.row_sets.RowSets.{RowSets}
+use Rattle.tsp_format.specs.declared.steps.RowSets.{RowSets}
 use Rattle.tsp_routing.specs.declared.judged_memory.JudgedMemory.{JudgedMemory}
 use Rattle.tsp_routing.specs.declared.judged_memory.JudgedMemory.TheVariants as judged
 use Rattle.tsp_routing.specs.declared.judged_memory.JudgedRows.{JudgedRows}
 use Rattle.tsp_routing.specs.declared.judged_memory.JudgedRows.TheVariants as judged_rows
-use Rattle.tsp_routing.specs.states.GivenMemories.{near_in, subset_row_of}
+use Rattle.tsp_routing.specs.states.GivenMemories.{near_in}
+use Rattle.tsp_format.specs.states.TreeSteps.{subset_row_of}
 use Rattle.tsp_routing.specs.states.RunTables.{item_lists}
 
 -- lists of the nodes 1..n, none empty

@@ -1,7 +1,8 @@
 -- The lists of kept states, by load and by last customer.
 use Rattle.tsp_routing.specs.Prelude.{Vec, All, AllPairs, Contains, ℕ, Option, Some, None, List, [], map, length, slice_index_or, ℤ, pos, neg_ℤ, IsFromTo, IsCustomer}
 use Rattle.std.specs.Prelude.{◌≡◌, ◌≢◌, ◌⊎◌, ◌+◌, ◌-◌, ◌*◌, ◌^◌, ◌≤◌, ◌<◌, ◌∷◌, ◌++◌, ◌+ℤ◌, ◌≤ℤ◌}
-use Rattle.tsp_routing.specs.Runs.{SubsetRow, RunRules, RunState, first_state, next_state, MayServe, AreCharges}
+use Rattle.tsp_routing.specs.Runs.{RunRules, RunState, first_state, next_state, MayServe, AreCharges}
+use Rattle.tsp_format.specs.Steps.{SubsetRow}
 use Rattle.tsp_routing.specs.KeptStates.{IsKeptState}
 use Rattle.tsp_routing.specs.Memories.{Remembers}
 use Rattle.tsp_routing.specs.Starts.{start_state, step_weight, start_weight, IsStart}

@@ -1,7 +1,8 @@
 -- What rows give back, by the lists of their sets and of their charges.
 use Rattle.std.specs.Prelude.{◌≡◌, ℕ, ◌≤◌, ◌*◌, ◌^◌, List, [], ◌∷◌, map, length, ℤ, pos, ◌+ℤ◌, ◌*ℤ◌}
-use Rattle.tsp_routing.specs.Runs.{SubsetRow, half, halves_total}
-use Rattle.tsp_routing.specs.declared.row_sets.RowSets.{RowSets}
+use Rattle.tsp_routing.specs.Runs.{half, halves_total}
+use Rattle.tsp_format.specs.Steps.{SubsetRow}
+use Rattle.tsp_format.specs.declared.steps.RowSets.{RowSets}
 
 -- half of each set as often as its row charges
 abbrev pub halves_with : List SubsetRow → List ℤ → ℤ

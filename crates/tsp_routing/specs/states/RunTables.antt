@@ -2,7 +2,8 @@
 use Rattle.tsp_routing.specs.Prelude.{Vec, ℕ, List, [], map, length, slice_index_or, ℤ, pos, neg_ℤ, IsNode, IsFromTo, IsCustomer, least_at}
 use Rattle.std.specs.Prelude.{◌≡◌, ◌+◌, ◌-◌, ◌*◌, ◌^◌, ◌≤◌, ◌<◌, ◌+ℤ◌, ◌≤ℤ◌, ◌⊎◌, ◌≢◌}
 use Rattle.tsp_routing.specs.PlanBounds.{most_link}
-use Rattle.tsp_routing.specs.Runs.{SubsetRow, RunRules}
+use Rattle.tsp_routing.specs.Runs.{RunRules}
+use Rattle.tsp_format.specs.Steps.{SubsetRow}
 use Rattle.tsp_routing.specs.KeptStates.{IsCompletion}
 use Rattle.tsp_routing.specs.states.Demands.{load_at}
 

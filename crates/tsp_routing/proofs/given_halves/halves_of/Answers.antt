@@ -1,8 +1,9 @@
 -- The goals of `halves_of` in src/given_halves.rt, which sums what rows give back: that no sum overflows, and its loop.
 use Rattle.tsp_routing.proofs.Prelude.{◌≡◌, ◌∙◌, ◌+◌, ◌*◌, ◌^◌, ◌<◌, ℕ, ℤ, List, drop, map, length, get_or, ap, ap₂, subst, arith, rules, to_z, of_z, FitsSigned, pos, neg_ℤ, unsigned_abs, ◌+ℤ◌, ◌*ℤ◌, w64, w128, ints, to_z-of_z, fits_signed_from_abs, length-map, IsFromTo, size_of}
-use Rattle.tsp_routing.specs.Runs.{SubsetRow, half}
-use Rattle.tsp_routing.specs.declared.row_sets.RowSets.{RowSets}
-use Rattle.tsp_routing.specs.states.GivenMemories.{subset_row_of}
+use Rattle.tsp_routing.specs.Runs.{half}
+use Rattle.tsp_format.specs.Steps.{SubsetRow}
+use Rattle.tsp_format.specs.declared.steps.RowSets.{RowSets}
+use Rattle.tsp_format.specs.states.TreeSteps.{subset_row_of}
 use Rattle.tsp_routing.proofs.RouteProducts.{sizes_low, sizes_left}
 use Rattle.tsp_routing.proofs.RowHalves.{no_row, half_at, halves_left}
 use Rattle.tsp_routing.proofs.given_halves.halves_of.Goals as goal

@@ -1,7 +1,7 @@
 -- The loop of `halves_of` in src/given_halves.rt.
 use Rattle.tsp_routing.proofs.Prelude.{◌≡◌, ◌^◌, drop, map, pos, neg_ℤ, ◌+ℤ◌, ◌-ℤ◌, ◌*ℤ◌, ◌≤ℤ◌}
 use Rattle.tsp_routing.specs.PlanVerdicts.{sizes_total}
-use Rattle.tsp_routing.specs.states.GivenMemories.{subset_row_of}
+use Rattle.tsp_format.specs.states.TreeSteps.{subset_row_of}
 use Rattle.tsp_routing.specs.states.RowHalves.{halves_with}
 use Rattle.tsp_routing.proofs.given_halves.halves_of.Given as goal
 

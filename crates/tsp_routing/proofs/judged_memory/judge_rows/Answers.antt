@@ -2,10 +2,10 @@
 use Rattle.tsp_routing.proofs.Prelude.{◌≡◌, ◌≤◌, ◌<◌, ◌+◌, ◌∙◌, ◌++◌, ℕ, List, [], map, take, refl, length, get_or, ap, sym, subst, arith, cases_eq, cases_lt, inl, inr, false≢true, if◌then◌else◌, length-map, get_or_default, All, IsNode, IsCustomer, HasEachOnce, has, written}
 use Rattle.std.proofs.lemmas.List.{length-take}
 use Rattle.tsp_cases.specs.states.GoodFamilies.{AreUnmarked}
-use Rattle.tsp_routing.specs.Runs.{SubsetRow}
+use Rattle.tsp_format.specs.Steps.{SubsetRow}
 use Rattle.tsp_routing.specs.RunTrees.{IsGoodRow, row_at, rows_kept}
-use Rattle.tsp_routing.specs.declared.row_sets.RowSets.{RowSets}
-use Rattle.tsp_routing.specs.states.GivenMemories.{subset_row_of}
+use Rattle.tsp_format.specs.declared.steps.RowSets.{RowSets}
+use Rattle.tsp_format.specs.states.TreeSteps.{subset_row_of}
 use Rattle.tsp_routing.proofs.JudgedLists.{few_rows_kept, rows_kept_more, row_here, row_inside, bad_row}
 use Rattle.tsp_routing.proofs.judged_memory.judge_rows.Goals as goal
 

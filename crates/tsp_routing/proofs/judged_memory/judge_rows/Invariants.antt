@@ -2,7 +2,7 @@
 use Rattle.tsp_routing.proofs.Prelude.{◌≡◌, ◌≤◌, ◌<◌, ◌+◌, ℕ, length, map, take, get_or}
 use Rattle.tsp_cases.specs.states.GoodFamilies.{AreUnmarked}
 use Rattle.tsp_routing.specs.RunTrees.{IsGoodRow, row_at, rows_kept}
-use Rattle.tsp_routing.specs.states.GivenMemories.{subset_row_of}
+use Rattle.tsp_format.specs.states.TreeSteps.{subset_row_of}
 use Rattle.tsp_routing.proofs.judged_memory.judge_rows.Given as goal
 
 -- the rows before this one are good, and counted; no node has the mark of a later row

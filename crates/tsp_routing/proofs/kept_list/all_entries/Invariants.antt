@@ -1,6 +1,6 @@
 -- The loop of `all_entries` in src/kept_list.rt.
 use Rattle.std.proofs.Common.{ℕ, ℤ, List, length}
-use Rattle.tsp_routing.specs.Runs.{SubsetRow}
+use Rattle.tsp_format.specs.Steps.{SubsetRow}
 use Rattle.tsp_routing.specs.states.KeptLists.{rules_of, IsLeafOf, IsKeptListTo, AreStateRows, AreSizedEntries}
 use Rattle.tsp_routing.proofs.kept_list.all_entries.Given as goal
 

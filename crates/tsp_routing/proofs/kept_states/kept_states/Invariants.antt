@@ -1,6 +1,6 @@
 -- The loop of `kept_states` in src/kept_states.rt.
 use Rattle.std.proofs.Common.{◌≡◌, ◌≤◌, ℕ, ℤ, List, length}
-use Rattle.tsp_routing.specs.Runs.{SubsetRow}
+use Rattle.tsp_format.specs.Steps.{SubsetRow}
 use Rattle.tsp_routing.specs.KeptStates.{most_states}
 use Rattle.tsp_routing.specs.states.KeptCounts.{entry_count, AreRisingRows}
 use Rattle.tsp_routing.specs.states.KeptLists.{rules_of, IsLeafOf, AreStateRows, AreSizedRows}

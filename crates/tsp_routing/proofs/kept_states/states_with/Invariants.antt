@@ -1,6 +1,6 @@
 -- The loop of `states_with` in src/kept_states.rt.
 use Rattle.tsp_routing.proofs.Prelude.{◌≡◌, ◌≤◌, ◌<◌, ◌+◌, ℕ, ℤ, List, [], length, get_or}
-use Rattle.tsp_routing.specs.Runs.{SubsetRow}
+use Rattle.tsp_format.specs.Steps.{SubsetRow}
 use Rattle.tsp_routing.specs.KeptStates.{most_states}
 use Rattle.tsp_routing.specs.states.RunTables.{item_lists}
 use Rattle.tsp_routing.specs.states.KeptCounts.{count_in_lists, AreRisingLists}

@@ -6,11 +6,12 @@ use Rattle.std.proofs.Props.{props}
 use Rattle.std.specs.Prelude.{IfSome}
 use Rattle.tsp_routing.specs.PlanBounds.{limits_total}
 use Rattle.tsp_routing.specs.PlanLinks.{sum_of_customers}
-use Rattle.tsp_routing.specs.Runs.{SubsetRow, halves_total}
+use Rattle.tsp_routing.specs.Runs.{halves_total}
+use Rattle.tsp_format.specs.Steps.{SubsetRow}
 use Rattle.tsp_routing.specs.RunBounds.{IsLeastRun, leaf_rules, IsRunBound}
 use Rattle.tsp_routing.specs.states.Demands.{loads_problem}
 use Rattle.tsp_routing.specs.states.KeptCounts.{IsLeastRunIfFew}
-use Rattle.tsp_routing.specs.states.GivenMemories.{subset_row_of}
+use Rattle.tsp_format.specs.states.TreeSteps.{subset_row_of}
 use Rattle.tsp_routing.specs.states.RowHalves.{halves_with}
 use Rattle.tsp_routing.proofs.RouteProducts.{numbers_of_families}
 use Rattle.tsp_routing.proofs.RowHalves.{halves_are_total}

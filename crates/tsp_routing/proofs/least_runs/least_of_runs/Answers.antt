@@ -3,7 +3,8 @@ use Rattle.tsp_routing.proofs.Prelude.{◌≡◌, ◌≤◌, ◌+◌, ◌*◌, �
 use Rattle.std.specs.Prelude.{IfSome}
 use Rattle.tsp_routing.specs.KeptStates.{most_states, HasTooManyStates}
 use Rattle.tsp_routing.specs.RunBounds.{IsLeastRun}
-use Rattle.tsp_routing.specs.Runs.{SubsetRow, AreCharges}
+use Rattle.tsp_routing.specs.Runs.{AreCharges}
+use Rattle.tsp_format.specs.Steps.{SubsetRow}
 use Rattle.tsp_routing.specs.declared.kept_state.KeptState.{KeptState}
 use Rattle.tsp_routing.specs.declared.run_leaf.RunLeaf.{RunLeaf}
 use Rattle.tsp_routing.specs.states.MemoryTables.{AreMemoriesOf}

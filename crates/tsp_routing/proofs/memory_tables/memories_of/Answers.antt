@@ -2,7 +2,7 @@
 -- and what it ensures.
 use Rattle.tsp_routing.proofs.Prelude.{◌≡◌, ◌≤◌, ◌+◌, ◌∙◌, ◌++◌, ℕ, ℤ, List, [], ◌∷◌, map, length, ap, sym, subst, arith, length-append, Vec, All, All-weaker, IsNode}
 use Rattle.tsp_routing.specs.declared.memory_key.MemoryKey.{MemoryKey}
-use Rattle.tsp_routing.specs.declared.row_sets.RowSets.{RowSets}
+use Rattle.tsp_format.specs.declared.steps.RowSets.{RowSets}
 use Rattle.tsp_routing.specs.states.MemoryTables.{IsKeyIn}
 use Rattle.tsp_routing.specs.states.GivenMemories.{near_in, AreKeysOf, ArePlacesTo, AreTablesTo}
 use Rattle.tsp_routing.proofs.GivenTables.{tables_pushed, memories_are, few_keys, tables_are}

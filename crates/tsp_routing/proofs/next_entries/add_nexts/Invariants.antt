@@ -1,6 +1,6 @@
 -- The loop of `add_nexts` in src/next_entries.rt.
 use Rattle.std.proofs.Common.{◌≡◌, ◌<◌, ◌+◌, ℕ, ℤ, List, take}
-use Rattle.tsp_routing.specs.Runs.{SubsetRow}
+use Rattle.tsp_format.specs.Steps.{SubsetRow}
 use Rattle.tsp_routing.specs.states.Demands.{load_at}
 use Rattle.tsp_routing.specs.states.KeptLists.{rules_of, IsLeafOf, AddsNexts, AreSizedEntries}
 use Rattle.tsp_routing.proofs.next_entries.add_nexts.Given as goal

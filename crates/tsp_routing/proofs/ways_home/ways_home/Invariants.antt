@@ -1,6 +1,6 @@
 -- The loop of `ways_home` in src/ways_home.rt.
 use Rattle.std.proofs.Common.{◌≡◌, ℕ, ℤ, List, length}
-use Rattle.tsp_routing.specs.Runs.{SubsetRow}
+use Rattle.tsp_format.specs.Steps.{SubsetRow}
 use Rattle.tsp_routing.specs.states.RunTables.{rules_by, AreHomeRows, AreHomeRowsSized}
 use Rattle.tsp_routing.proofs.ways_home.ways_home.Given as goal
 

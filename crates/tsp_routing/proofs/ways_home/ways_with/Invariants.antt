@@ -1,7 +1,7 @@
 -- The loop of `ways_with` in src/ways_home.rt.
 use Rattle.tsp_routing.proofs.Prelude.{◌≡◌, ◌≤◌, ◌+◌, ◌*◌, ℕ, ℤ, List, pos, neg_ℤ, length, get_or, ◌≤ℤ◌, IsNode, IsCustomer}
 use Rattle.tsp_routing.specs.PlanBounds.{most_link}
-use Rattle.tsp_routing.specs.Runs.{SubsetRow}
+use Rattle.tsp_format.specs.Steps.{SubsetRow}
 use Rattle.tsp_routing.specs.KeptStates.{IsCompletion}
 use Rattle.tsp_routing.specs.states.RunTables.{rules_by, AreHomeRows}
 use Rattle.tsp_routing.proofs.ways_home.ways_with.Given as goal

@@ -1,6 +1,7 @@
 -- The goals of `step` in src/memories.rt, which makes the memory after one more customer: its loop and what it ensures.
 use Rattle.tsp_routing.proofs.Prelude.{◌≡◌, ◌≤◌, ◌<◌, ◌+◌, ◌-◌, ◌*◌, ◌^◌, ℕ, ℤ, Bool, true, List, [], ◌∷◌, map, drop, length, get_or, pos, neg_ℤ, refl, ap, ap₂, subst, sym, ◌∙◌, arith, if◌then◌else◌, ◌+ℤ◌, All, pow-le-pow_right, ints, length-map, drop_more, get_or-map, All-get_or, IsNode, sum_int_by, has}
-use Rattle.tsp_routing.specs.Runs.{SubsetRow, RunRules, RunState, next_state}
+use Rattle.tsp_routing.specs.Runs.{RunRules, RunState, next_state}
+use Rattle.tsp_format.specs.Steps.{SubsetRow}
 use Rattle.tsp_routing.specs.Memories.{keys_of, is_member_of, memory_word, told, Remembers}
 use Rattle.tsp_routing.specs.declared.memory_key.MemoryKey.{MemoryKey}
 use Rattle.tsp_routing.specs.states.MemoryTables.{keys_in, IsKeyIn, AreMemoriesOf}

@@ -1,6 +1,7 @@
 -- The loop of `step` in src/memories.rt.
 use Rattle.tsp_routing.proofs.Prelude.{◌≡◌, ◌<◌, ◌-◌, ◌*◌, ◌^◌, ℕ, ℤ, List, map, drop, length, pos, neg_ℤ, IsFromTo, sum_int_by}
-use Rattle.tsp_routing.specs.Runs.{SubsetRow, RunRules, RunState, next_state}
+use Rattle.tsp_routing.specs.Runs.{RunRules, RunState, next_state}
+use Rattle.tsp_format.specs.Steps.{SubsetRow}
 use Rattle.tsp_routing.specs.Memories.{told, memory_word, Remembers}
 use Rattle.tsp_routing.specs.declared.memory_key.MemoryKey.{MemoryKey}
 use Rattle.tsp_routing.specs.states.MemoryTables.{AreMemoriesOf}
