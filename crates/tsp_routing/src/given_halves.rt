@@ -1,4 +1,5 @@
-//! What the rows of a leaf give back: half of each row's set, as often as the row charges.
+//! What the subset-row cuts of a leaf give back to its bound: for each cut its charge, half as
+//! often as its set has customers, rounded down.
 
 ghost use Rattle.tsp_routing.specs.Prelude.{ℤ, List, map, length, slice_index_or, pos, neg_ℤ, All, IsFromTo};
 ghost use Rattle.std.specs.Prelude.{◌≡◌, ◌≤◌, ◌<◌, ◌*◌, ◌/◌, ◌^◌, ◌*ℤ◌, ◌≤ℤ◌};

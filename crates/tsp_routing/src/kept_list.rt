@@ -1,4 +1,5 @@
-//! The list of kept states of one load and one last customer.
+//! The kept states (labels) with one load and one last customer, without dominated ones: of those
+//! with the same memory, only the lightest stays.
 
 ghost use Rattle.tsp_routing.specs.Prelude.{[], ℕ, ℤ, List, pos, neg_ℤ, length, slice_index_or, IfOk, IsTrue, IsNode, IsCustomer};
 ghost use Rattle.std.specs.Prelude.{◌≡◌, ◌≢◌, ◌≤◌, ◌<◌, ◌+◌, ◌-◌, ◌*◌, ◌^◌, ◌≤ℤ◌, ◌↔◌};

@@ -1,4 +1,5 @@
-//! The kept states of a leaf, by load and by last customer.
+//! Label setting: the table of kept states of a leaf, load by load, with a list for each last
+//! customer.
 
 ghost use Rattle.std.specs.Prelude.{◌≡◌, ◌≤◌, ◌<◌, ◌+◌, ℕ, ℤ, List, length, IfOk, IfSome};
 ghost use Rattle.tsp_format.specs.Steps.{SubsetRow};

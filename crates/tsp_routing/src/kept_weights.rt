@@ -118,8 +118,7 @@ impl<C: Costs> KeptWeights<'_, C> {
         copy_row(row, &self.rows[from as usize - 1]);
     }
 
-    /// Whether all weights are small enough for sums of 64 bits. A row is lent, which is written
-    /// over.
+    /// Whether all weights are small enough for sums of 64 bits. `row` is scratch space.
     pub(crate) fn are_narrow(&self, row: &mut [i64]) -> bool
         requires { length row.old ≡ C.nodes self.now.weights.now.costs.now + 1 }
         ensures wide { AreLinks most_link (C.nodes self.now.weights.now.costs.now) (set_weight self.now.weights.now.scale

@@ -1,4 +1,4 @@
-//! The least weight of a run under the numbers of a leaf.
+//! The least weight of a run for a leaf: makes the rows of weights, and calls `least_of_runs`.
 
 ghost use Rattle.tsp_routing.specs.Prelude.{ℕ, ℤ, List, map, length, pos, neg_ℤ, IfOk, IfSome, most_potential, IsFromTo, entry, families_with, as_leaf_numbers, lent_in};
 ghost use Rattle.std.specs.Prelude.{◌≡◌, ◌≤◌, ◌^◌, ◌*ℤ◌};

@@ -79,7 +79,7 @@ impl<'a, C: Costs> LeafWeights<'a, C> {
         shift_row(row, self.moved, weight_in(self.moved, from));
     }
 
-    /// Writes the weights between a node and each into a row, each at the place of its node.
+    /// Writes the row of a node: its weights to all nodes, at their places.
     pub(crate) fn fill_row(&self, from: u32, row: &mut [i64])
         requires from { IsNode (C.nodes self.now.costs.now) from }
         requires room { length row.old ≡ C.nodes self.now.costs.now + 1 }

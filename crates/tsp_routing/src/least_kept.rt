@@ -1,4 +1,4 @@
-//! The lesser of the limit and of the least weight of a run, from the lists of kept states.
+//! The least weight of a run, or the limit if that is less: the last step, over all kept states.
 
 ghost use Rattle.tsp_routing.specs.Prelude.{[], ℕ, ℤ, List, pos, neg_ℤ, length, slice_index_or, All, IsNode, IsFromTo, IsCustomer};
 ghost use Rattle.std.specs.Prelude.{◌≡◌, ◌≢◌, ◌≤◌, ◌<◌, ◌+◌, ◌*◌, ◌^◌, ◌⊎◌, ◌+ℤ◌, ◌≤ℤ◌};

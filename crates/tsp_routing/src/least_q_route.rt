@@ -424,7 +424,7 @@ fn nowhere<S: Sum>() -> Onward<S>
     }
 }
 
-/// What a walk that comes from a node weighs on from the next one at the least.
+/// The least weight of the rest of a walk that has come from this node, so doesn't go back to it.
 #[inline]
 fn least_onward<S: Sum>(entry: Onward<S>, from: u32) -> S
     ensures value { S.value result ≡ least_from (onward_entry S.value entry) from }

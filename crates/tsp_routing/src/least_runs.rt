@@ -1,4 +1,5 @@
-//! The least weight of a run of a leaf, by the programme over kept states.
+//! The least weight of a run, given nodes, memories and charges: completion bounds, then the table
+//! of kept states, then the least of them.
 
 ghost use Rattle.std.specs.Prelude.{◌≡◌, ◌^◌, ℕ, ℤ, List, map, length, pos, neg_ℤ, IfOk, IfSome};
 ghost use Rattle.tsp_format.specs.Steps.{IsFromTo, SubsetRow};

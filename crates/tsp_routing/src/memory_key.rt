@@ -1,7 +1,7 @@
-//! What a customer keeps in the memory of a run.
+//! One thing that the memory of a run holds at a customer.
 
-/// A customer that is remembered, by its number; or a row, whose numbers follow on that of the last
-/// node.
+/// A customer that was met, by its node, or the parity of a cut: cut j of n nodes has the key n +
+/// j.
 #[derive(Clone, Copy)]
 pub(crate) struct MemoryKey {
     pub(crate) key: u32,

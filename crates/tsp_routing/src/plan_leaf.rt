@@ -21,13 +21,14 @@ use tsp_cases::{Crossings, Decision, MultipliedFamilies, OpenCase, fill_moved, t
 use tsp_io::{Refused, filled};
 use tsp_theory::Costs;
 
-/// A leaf: its numbers, which are good, the context that it shares with all others, and by node its
-/// potential less the multipliers of its sets.
+/// A leaf, whose numbers are good.
 #[derive(Drop)]
 pub(crate) struct PlanLeaf<'a, C: Costs> {
+    /// What it shares with all other leaves.
     pub(crate) context: &'a PlanContext<'a, C>,
     pub(crate) potentials: &'a [i64],
     pub(crate) multipliers: &'a [i64],
+    /// By node, the potential less the multipliers of the node's sets; place 0 isn't read.
     pub(crate) moved: &'a [i64],
     ghost numbers: { ArePlanNumbers context.now.demands.nodes (length context.now.crossed.now)
         (as_leaf_numbers potentials.now multipliers.now) },
@@ -117,7 +118,7 @@ fn least_of_q_routes<C: Costs>(
     least_q_route::<i128, KeptWeights<C>>(alloc, &q_routes, room, row)
 }
 
-/// What is left in 64 bits of each node's potential less the multipliers of its sets.
+/// By node, the potential less the multipliers of its sets, wrapped to 64 bits.
 ///
 /// # Errors
 ///

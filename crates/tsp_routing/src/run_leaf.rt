@@ -1,4 +1,4 @@
-//! What a leaf of a certificate for routes gives the programme over kept states.
+//! `RunLeaf`, the arguments of the dynamic programme over kept states.
 
 ghost use Rattle.std.specs.Prelude.{◌≡◌, ◌+◌, ◌^◌, length, pos, neg_ℤ};
 ghost use Rattle.tsp_format.specs.Steps.{IsFromTo};

@@ -1,4 +1,5 @@
-//! The depot, the demands and the capacity of a routing instance, and the loads that they are in units.
+//! `Demands`, the depot, demands and capacity of a CVRP (`needs.rt` has more of its methods), and
+//! the loads that these are when counted in a unit.
 
 ghost use Rattle.std.specs.Prelude.{◌≡◌, ◌≤◌, ◌<◌, ◌+◌, ◌*◌, ◌/◌, ◌==◌, ◌^◌, ℕ, ℤ, if◌then◌else◌, length, pos, nat_abs, ◌≤ℤ◌, IfOk};
 ghost use Rattle.tsp_format.specs.Nodes.{IsNode};

@@ -51,7 +51,7 @@ pub fn judge_plans<C: Costs>(alloc: Global, tree: &PlanTree<C>) -> Result<PlanVe
     judged_plans(alloc, tree)
 }
 
-/// The verdict.
+/// Does what [`judge_plans`] does. That the bound holds for plans is added there, by the law.
 ///
 /// # Errors
 ///
@@ -175,7 +175,7 @@ fn judge_all<C: Costs>(
 /// The verdict on a certificate for routes.
 #[derive(Drop)]
 pub enum PlanVerdict {
-    /// The first family that isn't one set of customers without one twice, counted from 1.
+    /// The first family that isn't a single set of customers, each once. Families count from 1.
     BadFamily(usize),
     /// The first branch that isn't on one of the families, counted from 1.
     BadBranch(usize),
@@ -197,9 +197,13 @@ pub enum PlanVerdict {
 #[derive(Drop)]
 pub struct PlanTree<'a, C: Costs> {
     pub costs: &'a C,
+    /// The depot, a node from 1 on.
     pub depot: u32,
+    /// The demand of each node, in order: 0 to 10^9.
     pub demands: &'a [i64],
+    /// What a route carries at most: 1 to 10^12.
     pub capacity: i64,
+    /// Potentials and multipliers are counts of 1 / scale.
     pub scale: i64,
     /// The unit in which loads are counted, 1 to 10^12.
     pub unit: i64,
@@ -257,7 +261,7 @@ fn judge_cuts<'a>(
         };
         push(&mut crossed, own)?;
     }
-    // A cycle crosses a set twice at the least. Nothing is asked of this but that it be so.
+    // `Families` wants numbers that hold for cycles. Plans have their own, which are in `crossed`.
     let known = filled(alloc, Crossings { least: 2, most: 3 }, lent.len())?;
     let families = Families {
         nodes: demands.nodes,

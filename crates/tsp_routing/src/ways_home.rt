@@ -1,5 +1,6 @@
-//! What the cheapest ways home weigh that forget everything, by what a route can still carry and by
-//! customers. A run that can't end below a limit by such a way isn't kept.
+//! Completion bounds: for each load that a route can still carry and each customer, the least
+//! weight of a way home that forgets which customers were served. A start is dropped if even this
+//! way home takes it past the limit.
 
 ghost use Rattle.tsp_routing.specs.Prelude.{ℕ, ℤ, List, pos, neg_ℤ, [], length, slice_index_or, IfOk, IsNode, IsFromTo, IsCustomer, least_at};
 ghost use Rattle.std.specs.Prelude.{◌≡◌, ◌≢◌, ◌≤◌, ◌<◌, ◌+◌, ◌*◌, ◌^◌, ◌≤ℤ◌, ◌+ℤ◌, ◌⊎◌, ◌<ℤ◌};
