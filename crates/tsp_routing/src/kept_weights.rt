@@ -31,7 +31,7 @@ pub(crate) struct KeptWeights<'a, C: Costs> {
         weights.now.multipliers.now (lent_in weights.now.families.now) (C.at weights.now.costs.now)) rows.now },
 }
 
-/// The rows of all nodes; none if there are too many.
+/// A row of weights for each node, or no row if there are more than 5,000 nodes.
 ///
 /// # Errors
 ///

@@ -12,9 +12,9 @@ use tsp_theory::{Costs, weight_in};
 
 /// Costs, a scale, potentials, and sets of customers with the multiplier of each.
 ///
-/// What two nodes cross of a set is 1 for each of them that it has, less 2 if it has both. So
-/// each multiplier is taken off the potentials of its set's nodes, and a row needs besides these
-/// only the sets that hold its node.
+/// An edge crosses a set if exactly one of its nodes is in it: the number of its nodes there, less
+/// 2 if both are. So each multiplier is subtracted from the potentials of the nodes in its set, and
+/// a row only has to add it back, twice, at the nodes that share a set with its own node.
 #[derive(Drop)]
 pub(crate) struct LeafWeights<'a, C: Costs> {
     pub(crate) costs: &'a C,

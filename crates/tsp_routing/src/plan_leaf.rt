@@ -37,8 +37,7 @@ pub(crate) struct PlanLeaf<'a, C: Costs> {
         (lent_in context.now.families.now) moved.now },
 }
 
-/// The bound of a leaf at a case; `None` if there is no walk. A row is lent, which is written
-/// over.
+/// The bound of a leaf in a case; `None` if there is no q-route. `row` is scratch space.
 ///
 /// # Errors
 ///

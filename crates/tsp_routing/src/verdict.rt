@@ -29,11 +29,12 @@ use tsp_theory::Costs;
 /// The most entries of a table by node and load.
 const MOST_ENTRIES: u128 = 10_000_000;
 
-/// The verdict on a certificate for routes: the first family that isn't one set of customers, or
-/// the first branch that isn't on a family, or the first leaf that isn't good, or that there are
-/// too many loads, or, if there is none of these, the bound. It is at most the length of every
-/// plan whose routes each have a customer, and sums with it fit 128 bits. If no leaf has a
-/// bound, there is no such plan.
+/// Judges a certificate for routes: its bound, or what is bad in it first.
+///
+/// In this order: a family that isn't a single set of customers, a branch that isn't on a family, a
+/// leaf that isn't good, too many loads. The bound is at most the length of every plan whose routes
+/// each have a customer, and sums with it fit 128 bits. If no leaf has a bound, there is no such
+/// plan.
 ///
 /// # Errors
 ///
@@ -316,7 +317,7 @@ pub(crate) struct PlanScratch {
     pub(crate) row: Vec<i64>,
 }
 
-/// Judges leaves by least walks, if there are few loads; else it only says which are good.
+/// Judges leaves by least q-routes if there are `few` loads; else only finds the first bad leaf.
 #[derive(Drop)]
 pub(crate) struct PlanJudge<'a, C: Costs> {
     pub(crate) context: &'a PlanContext<'a, C>,
