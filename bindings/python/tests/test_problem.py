@@ -80,6 +80,14 @@ class Fields(unittest.TestCase):
         self.assertEqual(prism.combs, [[[1, 2, 3], [1, 4], [2, 5], [3, 6]]])
         self.assertEqual(sum(isinstance(step, list) for step in prism.branches), 2)
         self.assertEqual(sum(isinstance(step, tuple) for step in prism.branches), 1)
+        memory = yokecairn.parse(
+            "TYPE : BRANCHES\nDIMENSION : 5\nMEMORY_SECTION\n2 3 -1 4 -1 -1\n"
+            "SUBSET_ROW_SECTION\n2 3 4 -1 5 -1 3 4 -1 -1 -1\nBRANCH_SECTION\n0 10006 3 -1\n"
+        )
+        self.assertEqual(memory.memories, [[2, 3], [4]])
+        self.assertEqual(memory.subset_rows, [([2, 3, 4], [5]), ([3, 4], [])])
+        self.assertEqual(memory.branches, [[(10006, 3)]])
+        self.assertEqual(memory.replace(name="x").subset_rows, memory.subset_rows)
         fixed = yokecairn.load(EXAMPLES / "rectangle-fixed.potentials")
         self.assertEqual(fixed.fixed_edge_potentials, [(1, 3, 2)])
         self.assertEqual(fixed.node_potentials, {1: 0, 2: 0, 3: 1, 4: 0})

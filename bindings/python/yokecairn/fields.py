@@ -42,6 +42,8 @@ SECTIONS = {
     "column_potentials": "COLUMN_POTENTIAL_SECTION",
     "fixed_edge_potentials": "FIXED_EDGE_POTENTIAL_SECTION",
     "combs": "COMB_SECTION",
+    "memories": "MEMORY_SECTION",
+    "subset_rows": "SUBSET_ROW_SECTION",
     "branches": "BRANCH_SECTION",
 }
 WHOLE = ("dimension", "capacity", "scale", "load_unit")
@@ -172,6 +174,17 @@ def combs(text: bytes) -> List[List[List[int]]]:
     return [comb for comb in found if comb]
 
 
+def memories(text: bytes) -> List[List[int]]:
+    """Lists of a customer and of those that it remembers."""
+    return runs(text.split())[:-1]
+
+
+def subset_rows(text: bytes) -> List[Tuple[List[int], List[int]]]:
+    """The subset rows, each its set and the further customers that keep it."""
+    parts = runs(text.split())[:-1]
+    return list(zip(parts[::2], parts[1::2]))
+
+
 def steps(text: bytes) -> List[Step]:
     """The steps of a tree: a branch is a pair of nodes, a leaf a list of pairs (index, difference)."""
     found: List[Step] = []
@@ -197,6 +210,8 @@ READERS: Dict[str, Callable[[bytes], Any]] = {
     "column_potentials": by_node,
     "fixed_edge_potentials": groups,
     "combs": combs,
+    "memories": memories,
+    "subset_rows": subset_rows,
     "branches": steps,
 }
 
@@ -218,6 +233,12 @@ def _of_sets(section: Iterable[Iterable[Iterable[int]]]) -> Iterator[List[Any]]:
     for comb in section:
         yield from ([*nodes, -1] for nodes in comb)
         yield [-1]
+    yield [-1]
+
+
+def _of_rows(section: Iterable[Tuple[Iterable[int], Iterable[int]]]) -> Iterator[List[Any]]:
+    for nodes, further in section:
+        yield from ([*nodes, -1], [*further, -1])
     yield [-1]
 
 
@@ -243,6 +264,11 @@ def _section_lines(name: str, section: Any) -> Iterator[List[Any]]:
         yield from section
     elif name == "combs":
         yield from _of_sets(section)
+    elif name == "memories":
+        yield from ([*nodes, -1] for nodes in section)
+        yield [-1]
+    elif name == "subset_rows":
+        yield from _of_rows(section)
     elif name == "branches":
         yield from _of_steps(section)
     else:

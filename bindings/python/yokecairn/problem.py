@@ -64,6 +64,8 @@ class Problem:
         node_potentials, row_potentials, column_potentials: for each node a whole number.
         fixed_edge_potentials: a list of triples, two nodes and a number.
         combs: a list of combs, each a list of sets of nodes, its handle first.
+        memories: a list of lists, each a customer and those that it remembers.
+        subset_rows: a list of pairs: a set of customers, and the further ones that keep its parity.
         branches: the steps of a tree. A branch is a pair: two nodes, or the index of a family and a limit.
             A leaf is a list of pairs of an index and a difference.
         others: the lines of unknown keywords, as pairs of the keyword and its value.
@@ -94,6 +96,8 @@ class Problem:
     column_potentials: Dict[int, int]
     fixed_edge_potentials: List[Tuple[int, int, int]]
     combs: List[List[List[int]]]
+    memories: List[List[int]]
+    subset_rows: List[Tuple[List[int], List[int]]]
     branches: List[canonical_fields.Step]
     others: List[Tuple[str, str]]
     claimed_length: Optional[int]
