@@ -1,5 +1,6 @@
 //! How a call that writes no text ends, such as one that fills in numbers or opens a handle: by a
-//! status (`CallEnd`). Calls that write a text end as in `ended.rt`.
+//! status (`CallEnd`), with the numbers of `Status` in tsp_judge, which `bindings/c/tsp.h` repeats.
+//! Calls that write a text end as in `ended.rt`.
 
 ghost use Rattle.tsp_c.specs.Prelude.{Ok, status_of, status_of_fault, OutOfMemory};
 ghost use Rattle.std.specs.Prelude.{◌≡◌};

@@ -1,4 +1,5 @@
-//! The distance of two points by the number of a weight type.
+//! `tsp_distance`: the distance of two points by the number of a weight type. `src/lib.rt` and
+//! `bindings/c/tsp.h` list the numbers too.
 
 ghost use Rattle.tsp_c.specs.Prelude.{Some, option_map, SomeIff, Point, distance};
 ghost use Rattle.std.specs.Prelude.{◌≡◌};

@@ -1,5 +1,6 @@
-//! How a call that writes a text ends: by a status and the text (`Answer`). Calls that only fill in
-//! numbers end by a status alone (`call_end.rt`).
+//! How a call that writes a text ends: by a status and the text (`Answer`; `tsp_explain` has its
+//! text from `explain.rt`, and shares `place`). Calls that write no text end by a status alone
+//! (`call_end.rt`).
 
 ghost use Rattle.std.specs.Prelude.{◌≡◌, ◌≢◌, IsErr, MatchResult, [], IfOk};
 ghost use Rattle.tsp_io.specs.states.Watched.{watched};

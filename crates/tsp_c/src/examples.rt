@@ -1,5 +1,6 @@
 //! Laws that state values of the definitions in `specs/`, worked out by hand: which numbers the
-//! calls for C take, which buffers are too small, and which file of a call a fault is of.
+//! calls for C take and return (verdicts, reasons, faults, fields), which buffers are too small,
+//! and which file of a call a fault is of.
 
 ghost use Rattle.tsp_c.specs.Prelude.{ℕ, ℤ, pos, List, [], Err, true, false, negsuc, None, Some, codes, map, Point, cost, Fields, nodes_of, CertificateKind, IsNotJudged, IsUnbound, IsUnopened, Open, status_of_fault, RunFault};
 ghost use Rattle.std.specs.Prelude.{◌∷◌, ◌≡◌, ◌++◌, ◌+◌, ◌-◌, ◌^◌};

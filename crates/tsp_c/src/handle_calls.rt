@@ -13,7 +13,7 @@ use crate::call_end::CallEnd;
 use crate::call_result::CallResult;
 use crate::ended::{Answer, ended};
 use crate::handle::{Handle, NoBox, in_box};
-use crate::pair_costs::{put, rows_of, weights_of};
+use crate::pair_costs::{rows_of, weights_of};
 use crate::picked_runs::{certificate_of, claim_of, strict_of};
 use crate::point_calls::{lengths_of, points_of_file};
 use std::alloc::Global;

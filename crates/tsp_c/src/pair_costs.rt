@@ -1,5 +1,6 @@
 //! Fills in costs of pairs of nodes and rows of the matrix, of a text or of an open instance:
-//! `tsp_weights`, `tsp_matrix`, and the same on a handle.
+//! `tsp_weights`, `tsp_matrix`, and the same on a handle. `put`, which fills in one number, is for
+//! `point_calls.rt` too.
 
 ghost use Rattle.std.specs.List.{All};
 ghost use Rattle.std.specs.Prelude.{◌+◌, ◌≤◌, ◌*◌, ◌↔◌, IsTrue, length, ◌≡◌, ◌<◌, ℕ, ℤ, List};

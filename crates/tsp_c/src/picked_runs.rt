@@ -1,5 +1,6 @@
 //! Show, convert, check and bound, on texts in memory. A number picks the certificate or the
-//! layout, as the enums of `bindings/c/tsp.h` say; another number is refused.
+//! layout, as the enums of `bindings/c/tsp.h` say; another number is refused. `explain.rt` and
+//! `handle_calls.rt` read the numbers by the functions here (`certificate_of` and the like).
 
 ghost use Rattle.std.specs.Prelude.{◌≡◌, ◌≤◌, MatchOption, None, Some};
 ghost use Rattle.tsp_io.specs.states.Watched.{watched};

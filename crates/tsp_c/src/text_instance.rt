@@ -1,5 +1,6 @@
-//! The instance that a text parses to, for calls that fill in numbers: `src/pair_costs.rt`,
-//! `src/handle_calls.rt`, and `tsp_count` in `src/lib.rt`.
+//! The instance that a text parses to, for calls on a text that fill in numbers:
+//! `src/pair_costs.rt`, `src/point_calls.rt`, and `tsp_count` in `src/lib.rt`. Calls on a handle
+//! don't come here: `Opened` of tsp_judge has read their text.
 
 ghost use Rattle.tsp_c.specs.NumberCalls.{FillsCount, FindsInstance};
 

@@ -1,5 +1,6 @@
-//! The text that explains the end of a task to a person; and for a comparison, the follower that
-//! explains its lines one by one, or counts them on a terminal.
+//! The text that explains the end of a task to a person; and for a comparison, `Followed`, which
+//! opens each solution that tsp_judge then judges (`Solutions`), and explains its line, or counts
+//! on a terminal (`Follow`).
 
 ghost use Rattle.std.specs.Prelude.{map, true};
 ghost use Rattle.std.specs.String.{string_bytes};

@@ -43,7 +43,7 @@ pub fn is_yes_outcome(outcome: &Outcome) -> bool
 ///
 /// # Errors
 ///
-/// Those of the run: `show_file`, `convert_file`, `run`, `run_uncertified` or `run_bound`.
+/// Those of the run: `show_file`, `convert_file`, `run` or `run_bound`.
 pub fn perform<R: Gives, W: Write>(
     alloc: Global,
     task: &mut FileTask<Watched<R>>,
@@ -124,7 +124,7 @@ fn judged(ended: Result<Judged, RunError>) -> Result<Outcome, RunError>
     Ok(Outcome::Judged(ended?))
 }
 
-/// Tours were bounded.
+/// A bound was found without a solution, or a reason against it.
 fn bounded(ended: Result<Bounded, RunError>) -> Result<Outcome, RunError>
     ensures { result ≡ outcome_of_bound ended }
 {

@@ -1,5 +1,5 @@
 //! The verdict on a solution, with a certificate or with a bound that is known already, and with a
-//! claimed length, if any. Also `--strict`: verdicts and bounds if unknown keywords are a reason.
+//! claimed length, if any. `strict.rt` then adds the reasons of `--strict`.
 
 ghost use Rattle.tsp_verdict.specs.Prelude.{IsTrue, MatchResult, Option, option_map, true, false, None, Some, MatchOption, Fields, CertificateKind, Verdict};
 ghost use Rattle.std.specs.Prelude.{◌≡◌};

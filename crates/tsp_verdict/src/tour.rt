@@ -1,6 +1,7 @@
 //! The parts of a verdict on a tour: the one tour of a solution, the reasons against its nodes, the
 //! first fixed pair that it misses, and the costs of the instance. `routes.rt` shares the searches
-//! for a place in a list of nodes, and `routing`, the depot, demands and capacity of a CVRP.
+//! for a place in a list of nodes. `routing`, the depots, demands and capacity of a CVRP, is for
+//! `routes.rt` and `known_bound.rt` alone.
 
 ghost use Rattle.tsp_verdict.specs.Prelude.{All, [], length, Some, MatchOption, MatchResult, ℕ, List, vec_len, IfOk, slice_index_or, MatchBool, false, pos, most_capacity, IsNode, cost, nodes_of, is_tour_file, IsFromTo, IsFirstAsymmetric, IsCycle, Uses, is_directed, depots_of, demands_of, capacity_of, FixedEdgeUnused, TourCount};
 ghost use Rattle.std.specs.Bool.{OnTrue};
