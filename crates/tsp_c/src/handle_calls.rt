@@ -19,7 +19,7 @@ use crate::point_calls::{lengths_of, points_of_file};
 use std::alloc::Global;
 use std::boxed::Box;
 use std::io::Write;
-use tsp_cost::Instance;
+use tsp_cost::{Costs, Instance};
 use tsp_judge::{
     CertificateKind, Opened, RunError, Verdict, Watched, report_verdict, verdicts_mean_reports,
 };

@@ -10,10 +10,10 @@ use crate::call_end::CallEnd;
 use crate::pair_costs::put;
 use crate::text_instance::instance_of;
 use std::alloc::Global;
-use tsp_cost::{Instance, tour_length};
+use tsp_cost::{Costs, Instance, tour_length};
 use tsp_file::{Coords, File};
 use tsp_judge::read_text;
-use tsp_number::Point;
+use tsp_number::{InSpace, Point};
 
 /// Fills in the coordinates of the points of a section of a text; the status.
 pub(crate) fn fill_points(alloc: Global, text: &[u8], section: u32, out: &mut [i64]) -> CallEnd
