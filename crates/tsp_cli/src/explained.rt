@@ -111,8 +111,10 @@ pub(crate) fn explanation<F: Read + Drop, O: Open<F>>(
             let fault = run_error.fault();
             let again = match fault {
                 RunFault::File { file, fault: _ } => task_run.again(file),
-                RunFault::WrongKind => task_run.again(1),
-                RunFault::Write(_) | RunFault::OutOfMemory | RunFault::Relayout(_) => None,
+                RunFault::WrongKind
+                | RunFault::Write(_)
+                | RunFault::OutOfMemory
+                | RunFault::Relayout(_) => None,
             };
             explain_fault(alloc, &mut text, &names, again, error, fault)
         }

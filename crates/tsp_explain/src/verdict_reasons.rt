@@ -4,14 +4,12 @@
 ghost use Rattle.std.specs.Io.{StartsWith};
 ghost use Rattle.std.specs.Prelude.{◌≡◌};
 
-use crate::look::{Sought, look_for};
 use crate::refusal::{explain_reason, push_details};
-use crate::text::{LinePart, append, push, push_line, push_lines, push_name, push_parts};
+use crate::text::{LinePart, append, push, push_lines, push_name, push_parts};
 use std::alloc::{AllocError, Global};
-use std::io::Read;
 use tsp_cost::{Costs, Instance};
 use tsp_file::{Coords, File};
-use tsp_format::{Kind, Word};
+use tsp_format::Kind;
 use tsp_number::{NumberFault, parse_whole};
 use tsp_report::{BoundVerdict, Reason, Role, Verdict, blamed};
 
@@ -123,28 +121,22 @@ pub fn explain_bound(
 }
 
 /// Appends what explains that files aren't judged, or don't bound tours, because of the TYPE of the
-/// first one. `name` is what the user calls that file, and `again` is the file opened once more, if
-/// it can be.
+/// first one. `name` is what the user calls that file.
 ///
 /// # Errors
 ///
 /// Out of memory; part of the explanation may be appended then.
-pub fn explain_wrong_kind<R: Read + Drop>(
+pub fn explain_wrong_kind(
     alloc: Global,
     text: &mut Vec<u8>,
     name: &str,
     is_bound: bool,
-    again: Option<R>,
 ) -> Result<(), AllocError>
     ensures { StartsWith text.new.items text.old.items }
 {
-    let kind = match again {
-        None => None,
-        Some(mut reader) => kind_in(&mut reader),
-    };
     let mut explanation = Vec::new(alloc);
     let kinds = if is_bound { BOUND_KINDS } else { KINDS };
-    let answer = push_wrong_kind(&mut explanation, name, kind, kinds);
+    let answer = push_wrong_kind(&mut explanation, name, kinds);
     append(text, explanation, answer)
 }
 
@@ -156,47 +148,13 @@ fn none_of(kind: Kind) -> &'static str {
     }
 }
 
-/// Appends that a file is of the wrong kind, its TYPE if that was seen, and what the files are.
-fn push_wrong_kind(
-    text: &mut Vec<u8>,
-    name: &str,
-    kind: Option<Kind>,
-    kinds: &str,
-) -> Result<(), AllocError> {
+/// Appends that a file is of the wrong kind, and what the files are.
+fn push_wrong_kind(text: &mut Vec<u8>, name: &str, kinds: &str) -> Result<(), AllocError> {
     push_parts(
         text,
         &[LinePart::Name(name), LinePart::Words(": wrong kind\n")],
     )?;
-    if let Some(kind) = kind {
-        push_kind(text, kind)?;
-    }
     push_lines(text, kinds)
-}
-
-/// Appends the TYPE of the first file, and asks about the order of the files if it isn't that of an
-/// instance.
-fn push_kind(text: &mut Vec<u8>, kind: Kind) -> Result<(), AllocError> {
-    let question = match kind {
-        Kind::Tsp | Kind::Atsp | Kind::Cvrp => "",
-        Kind::Tour | Kind::Potentials | Kind::Branches => " Are the two files exchanged?",
-    };
-    push_line(
-        text,
-        &[
-            LinePart::Words("It is of TYPE "),
-            LinePart::Words(kind.word()),
-            LinePart::Words("."),
-            LinePart::Words(question),
-        ],
-    )
-}
-
-/// The TYPE that a file has, or `None` if it isn't seen.
-fn kind_in<R: Read>(reader: &mut R) -> Option<Kind> {
-    match look_for(reader, Sought::Nothing) {
-        Ok(seen) => seen.kind,
-        Err(_) => None,
-    }
 }
 
 /// Appends the reason why a solution is rejected, and what the files show of it.

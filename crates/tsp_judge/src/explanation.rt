@@ -111,7 +111,7 @@ pub fn explain_solution<'a>(
 }
 
 /// Appends what explains a fault. `again` is the file that has it, to be read once more, if it
-/// can be: the first one if that is of the wrong kind; `error` is what the system said of a write that failed.
+/// can be; `error` is what the system said of a write that failed.
 ///
 /// # Errors
 ///
@@ -133,7 +133,7 @@ pub fn explain_fault<R: Read + Drop>(
         }
         RunFault::WrongKind => {
             let (_, name) = named(names, 1);
-            explain_wrong_kind(alloc, text, name, is_bound(names), again)
+            explain_wrong_kind(alloc, text, name, is_bound(names))
         }
         RunFault::Write(fault) => explain_write(alloc, text, fault, error),
         RunFault::OutOfMemory => {
