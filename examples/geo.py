@@ -36,7 +36,7 @@ def rows_of(path: str, fields: Fields, count: int) -> list[str]:
     words = fields[POINTS]
     nodes = [whole(word) for word in words[0 : 3 * count : 3]]
     if sorted(nodes) != list(range(1, count + 1)):
-        sys.exit(f"geo: {path}: {POINTS} has to list each node from 1 to {count} once")
+        raise Faulty(f"{path}: {POINTS} has to list each node from 1 to {count} once")
     points = {node: (radians(x), radians(y)) for node, x, y in zip(nodes, words[1::3], words[2::3])}
     return [" ".join(str(distance(points[i], points[j])) for j in range(i + 1, count + 1)) for i in range(1, count)]
 
@@ -46,7 +46,7 @@ def text_of(path: str) -> str:
     fields = fields_of(path)
     kind = (fields.get("EDGE_WEIGHT_TYPE") or ["none"])[0]
     if kind != "GEO":
-        sys.exit(f"geo: {path}: its EDGE_WEIGHT_TYPE has to be GEO, and is {kind}")
+        raise Faulty(f"{path}: its EDGE_WEIGHT_TYPE has to be GEO, and is {kind}")
     count = whole(fields["DIMENSION"][0])
     lines = [f"NAME : {' '.join(fields['NAME'])}"] if "NAME" in fields else []
     lines += [f"TYPE : {fields['TYPE'][0]}", "COMMENT : Weights computed from GEO in doubles, not proved", *fields.unknown]

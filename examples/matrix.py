@@ -44,9 +44,9 @@ def text_of(path: str, rounding: Optional[str]) -> str:
     fields = fields_of(path)
     kind = (fields.get("EDGE_WEIGHT_TYPE") or ["none"])[0]
     if kind not in KINDS:
-        sys.exit(f"matrix: {path}: its EDGE_WEIGHT_TYPE is {kind}, and no distance of points that is read here")
+        raise Faulty(f"{path}: its EDGE_WEIGHT_TYPE is {kind}, and no distance of points that is read here")
     if rounding and kind != "EUC_2D":
-        sys.exit(f"matrix: {path}: only distances of EUC_2D are rounded down, and its EDGE_WEIGHT_TYPE is {kind}")
+        raise Faulty(f"{path}: only distances of EUC_2D are rounded down, and its EDGE_WEIGHT_TYPE is {kind}")
     count = whole(fields["DIMENSION"][0])
     cost = rounded_down(fields, count, PARTS[rounding]) if rounding else costs_of(fields, count)
     nodes = range(1, count + 1)

@@ -20,7 +20,7 @@ from functools import cache
 from math import isqrt
 from operator import add
 from pathlib import Path
-from typing import Any, Callable, Hashable, Iterator, NoReturn, Optional
+from typing import Any, Callable, Hashable, Iterable, Iterator, NoReturn, Optional
 
 numpy: Any
 try:
@@ -52,6 +52,9 @@ class No(Exception):
 class Faulty(ValueError):
     """A file isn't as docs/format.md says: its name, a line, and what is wrong."""
 
+    def __str__(self) -> str:
+        return visible(super().__str__())
+
 
 class Fields(dict[str, list[str]]):
     """The words after each keyword, and those of each section."""
@@ -79,9 +82,15 @@ class Fields(dict[str, list[str]]):
         return Faulty(f"{self.path}{line}: {name}: {what}")
 
 
+def visible(text: str) -> str:
+    """A text for a terminal: control bytes of a file are shown as `cat -v` shows them, such as `^[`."""
+    signs = {sign: f"^{chr(sign ^ 64)}" for sign in (*range(32), 127)}
+    return text.translate(signs | {sign + 128: f"M-{shown}" for sign, shown in signs.items() if sign < 32})
+
+
 def refuse(words: object) -> NoReturn:
     show("")
-    print(f"{Path(sys.argv[0]).stem}: {words}", file=sys.stderr)
+    print(f"{Path(sys.argv[0]).stem}: {visible(str(words))}", file=sys.stderr)
     sys.exit(2)
 
 
@@ -93,30 +102,35 @@ def show(words: str) -> None:
 
 def fields_of(path: str) -> Fields:
     """The fields of a file."""
-    fields, section = Fields(path), ""
     with open(path, encoding="latin-1", newline="\n") as file:
-        for number, line in enumerate(file, 1):
-            line = line.strip(" \t\n\v\f\r")
-            match = re.match("([A-Za-z][^ \t\v\f\r:]*)[ \t\v\f\r]*:?(.*)", line, re.S)
-            if match is None:
-                if line and not section:
-                    refuse(f"{path}:{number}: a number outside of a section")
-                if line:
-                    fields.add(section, number, re.findall("[^ \t\v\f\r]+", line))
-                continue
-            keyword, value = match.groups()
-            if keyword == "EOF":
-                break
-            keyword = "FIXED_EDGES_SECTION" if keyword == "FIXED_EDGES" else keyword
-            if keyword in fields and (keyword in KNOWN - {"COMMENT"} or keyword.endswith("_SECTION")):
-                refuse(f"{path}:{number}: {keyword} comes twice")
-            section = keyword if keyword.endswith("_SECTION") else ""
-            if not section:
-                fields.pop(keyword, None)
-                if keyword not in KNOWN:
-                    fields["not judged"].append(keyword)
-                    fields.unknown.append(line)
-            fields.add(keyword, number, [] if section else value.split())
+        return fields_in(path, file)
+
+
+def fields_in(path: str, lines: Iterable[str]) -> Fields:
+    """The fields of a file with these lines."""
+    fields, section = Fields(path), ""
+    for number, line in enumerate(lines, 1):
+        line = line.strip(" \t\n\v\f\r")
+        match = re.match("([A-Za-z][^ \t\v\f\r:]*)[ \t\v\f\r]*:?(.*)", line, re.S)
+        if match is None:
+            if line and not section:
+                refuse(f"{path}:{number}: a number outside of a section")
+            if line:
+                fields.add(section, number, re.findall("[^ \t\v\f\r]+", line))
+            continue
+        keyword, value = match.groups()
+        if keyword == "EOF":
+            break
+        keyword = "FIXED_EDGES_SECTION" if keyword == "FIXED_EDGES" else keyword
+        if keyword in fields and (keyword in KNOWN - {"COMMENT"} or keyword.endswith("_SECTION")):
+            refuse(f"{path}:{number}: {keyword} comes twice")
+        section = keyword if keyword.endswith("_SECTION") else ""
+        if not section:
+            fields.pop(keyword, None)
+            if keyword not in KNOWN:
+                fields["not judged"].append(keyword)
+                fields.unknown.append(line)
+        fields.add(keyword, number, [] if section else value.split())
     return fields
 
 
@@ -323,19 +337,34 @@ def see_places(nodes: list[int], count: int) -> None:
         seen.add(node)
 
 
-def tour_of(instance: Fields, solution: Fields, cost: Costs, count: int) -> list[int]:
-    """The tour, if no reason is against it."""
+def uneven(cost: Costs) -> Optional[tuple[int, int]]:
+    """The first pair by rows whose two costs differ."""
+    nodes = range(1, 1 if cost.symmetric else cost.count + 1)
+    return next(((i, j) for i in nodes for j in range(i + 1, cost.count + 1) if cost(i, j) != cost(j, i)), None)
+
+
+def see_instance(instance: Fields, cost: Costs, count: int) -> None:
+    """Sees that no reason is against an instance, but for those against its depot."""
+    kind = instance["TYPE"][0]
+    if count < (2 if kind == "CVRP" else 3):
+        raise No("TooFewNodes")
+    if kind == "TSP" and (pair := uneven(cost)):
+        raise No(f"NotSymmetric {pair[0]} {pair[1]}")
+
+
+def see_solution(instance: Fields, solution: Fields, cost: Costs, count: int) -> None:
+    """Sees that a solution is one, and has as many nodes as its instance."""
     if solution.get("TYPE", [""])[0] != "TOUR":
         raise No("NotASolution")
-    if count < 3:
-        raise No("TooFewNodes")
-    directed = instance["TYPE"][0] == "ATSP"
-    for i in range(1, 1 if directed or cost.symmetric else count + 1):
-        for j in range(i + 1, count + 1):
-            if cost(i, j) != cost(j, i):
-                raise No(f"NotSymmetric {i} {j}")
+    see_instance(instance, cost, count)
     if "DIMENSION" in solution and dimension_of(solution) != count:
         raise No("Dimension")
+
+
+def tour_of(instance: Fields, solution: Fields, cost: Costs, count: int) -> list[int]:
+    """The tour, if no reason is against it."""
+    see_solution(instance, solution, cost, count)
+    directed = instance["TYPE"][0] == "ATSP"
     tours = tours_in(solution)
     if len(tours) != 1:
         raise No("TourCount")
@@ -348,6 +377,11 @@ def tour_of(instance: Fields, solution: Fields, cost: Costs, count: int) -> list
         if (i, j) not in used and (directed or (j, i) not in used):
             raise No(f"FixedEdgeUnused {number}")
     return tour
+
+
+def around(tour: list[int], cost: Costs) -> int:
+    """The length of a closed tour."""
+    return sum(map(cost, tour, tour[1:] + tour[:1]))
 
 
 class Quick:
@@ -419,6 +453,11 @@ class Quick:
         return total
 
 
+def up(value: int, scale: int) -> int:
+    """The least whole number that, times the scale, isn't below a value."""
+    return -(-value // scale)
+
+
 def least_one_tree(count: int, row: Row, stage: str = "") -> int:
     """The least weight of two edges at node 1 and a tree over the others."""
     total = sum(sorted(row(1)[2:])[:2])
@@ -449,7 +488,7 @@ def bound_by_potentials(instance: Fields, file: Fields, cost: Costs, count: int)
             for j in nodes:
                 if i != j and u[i] + v[j] > scale * cost(i, j):
                     raise No(f"DualInfeasible {i} {j}")
-        return -(-(sum(u) + sum(v)) // scale)
+        return up(sum(u) + sum(v), scale)
     p = by_node(file, "NODE_POTENTIAL_SECTION", count)
     fixed = {frozenset(pair) for pair in ended(wholes(instance, "FIXED_EDGES_SECTION"), 2)}
     triples = ended(wholes(file, "FIXED_EDGE_POTENTIAL_SECTION"), 3)
@@ -463,7 +502,7 @@ def bound_by_potentials(instance: Fields, file: Fields, cost: Costs, count: int)
     off = sum(triple[2] for triple in triples)
     changes = [(i, j, -multiplier) for i, j, multiplier in triples]
     tree = least_one_tree(count, weights_of(scale, cost, p, [], changes))
-    return -(-(tree - 2 * sum(p) + off) // scale)
+    return up(tree - 2 * sum(p) + off, scale)
 
 
 def combs_of(numbers: list[int]) -> list[list[list[int]]]:
@@ -620,8 +659,8 @@ def add_step(file: Fields, numbers: list[int], leaf: int, step: list[int]) -> No
         numbers[index] += difference
 
 
-def bound_by_branches(instance: Fields, file: Fields, cost: Costs, count: int) -> int:
-    """The least of the bounds of the leaves, if no reason is against the tree."""
+def tour_bounds(instance: Fields, file: Fields, cost: Costs, count: int) -> Iterator[Optional[int]]:
+    """The bounds of the leaves, if no reason is against the tree. A leaf whose decisions no tour keeps has none."""
     combs, steps = tree_in(file, count)
     crossed: list[tuple[int, int]] = []
     for number, comb in enumerate(combs, 1):
@@ -650,7 +689,7 @@ def bound_by_branches(instance: Fields, file: Fields, cost: Costs, count: int) -
         open_cases += [{**case, pair: False}, {**case, pair: True}]
     scale, sets = scale_of(file), [[set(nodes) for nodes in comb] for comb in combs]
     quick = None if directed else Quick(scale, cost, count)
-    numbers, bounds = [0] * (count + len(combs) + 1), []
+    numbers = [0] * (count + len(combs) + 1)
     for leaf, (step, case) in enumerate(leaves, 1):
         stage = f"leaf {leaf} of {len(leaves)}: "
         show(stage)
@@ -669,9 +708,7 @@ def bound_by_branches(instance: Fields, file: Fields, cost: Costs, count: int) -
             if tree is None:
                 tree = least_one_tree(count, weights_of(scale, cost, p, active, changes), stage)
             relaxed = tree + DECIDED * sum(case.values())
-        if relaxed is not None:
-            bounds.append(-(-(relaxed - 2 * sum(p) + back) // scale))
-    return min(bounds)
+        yield None if relaxed is None else up(relaxed - 2 * sum(p) + back, scale)
 
 
 def weights_of(
@@ -857,14 +894,9 @@ class Memory:
         return least
 
 
-def routes_of(instance: Fields, solution: Fields, count: int) -> tuple[Fleet, list[list[int]]]:
+def routes_of(instance: Fields, solution: Fields, cost: Costs, count: int) -> tuple[Fleet, list[list[int]]]:
     """The routes, if no reason is against them."""
-    if solution.get("TYPE", [""])[0] != "TOUR":
-        raise No("NotASolution")
-    if count < 2:
-        raise No("TooFewNodes")
-    if "DIMENSION" in solution and dimension_of(solution) != count:
-        raise No("Dimension")
+    see_solution(instance, solution, cost, count)
     fleet, routes = Fleet(instance, count), tours_in(solution)
     places = [node for route in routes for node in route]
     if fleet.depot in places:
@@ -905,8 +937,9 @@ def by_places(step: list[int], count: int, first_row: int) -> list[int]:
     return [0, *(number for pair in zip(places, step[2::2]) for number in pair)]
 
 
-def bound_of_routes(instance: Fields, file: Fields, cost: Costs, count: int) -> int:
-    """The least of the bounds of the leaves on routes, if no reason is against the tree."""
+def route_bounds(instance: Fields, file: Fields, cost: Costs, count: int) -> Iterator[tuple[list[int], list[int], Optional[int]]]:
+    """Of each leaf how often its routes cross each family at the least and at the most, and its bound, if no reason is
+    against the tree. A leaf without a walk has none."""
     combs, steps = tree_in(file, count)
     fleet = Fleet(instance, count)
     for number, comb in enumerate(combs, 1):
@@ -926,7 +959,7 @@ def bound_of_routes(instance: Fields, file: Fields, cost: Costs, count: int) -> 
             raise No(f"BadLeaf {leaf}")
     if count * (room + 1) > MOST_LOADS:
         raise No("TooManyLoads")
-    numbers, bounds, leaves = [0] * len(numbers), [], sum(step[0] == 0 for step in steps)
+    numbers, leaves = [0] * len(numbers), sum(step[0] == 0 for step in steps)
     needs = [2 * fleet.need(list(nodes)) for nodes in sets]
     for leaf, (step, low, high) in enumerate(plan_cases(steps, needs, [2 * (count - 1)] * len(sets), count), 1):
         show(f"leaf {leaf} of {leaves}")
@@ -936,13 +969,23 @@ def bound_of_routes(instance: Fields, file: Fields, cost: Costs, count: int) -> 
         row = weights_of(scale, cost, p, active, [])
         twice = 2 * p[fleet.depot]
         least = memory.least_run(row, gains, loads, room, twice, leaf) if memory.stands else fleet.least_walk(row, loads, room)
-        if least is not None:
-            each = least - twice
-            value = min(fleet.need(fleet.customers) * each, len(fleet.customers) * each)
-            value -= 2 * sum(p[node] for node in fleet.customers) + memory.given_back(gains)
-            value += sum(number * (a if number > 0 else b) for number, a, b in zip(m, low, high))
-            bounds.append(-(-value // scale))
-    return min(bounds)
+        if least is None:
+            yield low, high, None
+            continue
+        each = least - twice
+        value = min(fleet.need(fleet.customers) * each, len(fleet.customers) * each)
+        value -= 2 * sum(p[node] for node in fleet.customers) + memory.given_back(gains)
+        value += sum(number * (a if number > 0 else b) for number, a, b in zip(m, low, high))
+        yield low, high, up(value, scale)
+
+
+def bound_of(kind: str, instance: Fields, file: Fields, cost: Costs, count: int) -> Optional[int]:
+    """The bound of a certificate, if no reason is against it: of a tree of cases the least one of the leaves, if one has any."""
+    if kind == "potentials":
+        return bound_by_potentials(instance, file, cost, count)
+    given = instance, file, cost, count
+    bounds = tour_bounds(*given) if kind == "branches" else (bound for *_, bound in route_bounds(*given))
+    return min([bound for bound in bounds if bound is not None], default=None)
 
 
 def look_at(file: Fields) -> None:
@@ -965,19 +1008,20 @@ def report(instance: Fields, solution: Fields, kind: str, certificate: Optional[
     lines = [f"type {instance['TYPE'][0]}", f"nodes {count}", *(f"not judged {keyword}" for keyword in instance["not judged"])]
     for fields in filter(None, (solution, certificate)):
         look_at(fields)
-    bounds = {"potentials": bound_by_potentials, "branches": bound_by_branches, "routes": bound_of_routes}
     try:
         cost = costs_of(instance, count)
         if kind == "routes":
-            fleet, routes = routes_of(instance, solution, count)
+            fleet, routes = routes_of(instance, solution, cost, count)
             length = fleet.length(cost, routes)
             found = [f"routes {len(routes)}", f"least {-(-fleet.load(fleet.customers) // fleet.capacity)}"]
         else:
             tour = tour_of(instance, solution, cost, count)
-            length, found = sum(cost(i, j) for i, j in zip(tour, tour[1:] + tour[:1])), []
+            length, found = around(tour, cost), []
         found.append(f"length {length}")
         if certificate is not None:
-            bound = bounds[kind](instance, certificate, cost, count)
+            bound = bound_of(kind, instance, certificate, cost, count)
+            if bound is None:
+                raise certificate.faulty("BRANCH_SECTION", "no leaf has a bound")
             show("")
             found += [f"bound {bound}", "optimal" if bound == length else f"gap {length - bound}"]
     except No as reason:

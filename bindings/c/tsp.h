@@ -48,8 +48,8 @@ enum {
     TSP_TOO_SMALL = 6      /* the buffer is too small, and is unchanged */
 };
 
-/* The kind of certificate. The last two are only for tsp_bound and tsp_bound_result: they also reject an instance with a
- * line that isn't judged (TSP_NOT_JUDGED or TSP_NOT_USED), after all other reasons. */
+/* The kind of certificate. The last two are only for tsp_bound and tsp_bound_result: they also reject an instance with
+ * an unknown keyword (TSP_NOT_JUDGED) or an unused field (TSP_NOT_USED), if no other reason applies. */
 enum {
     TSP_BY_NONE = 0,
     TSP_BY_POTENTIALS = 1,
@@ -61,7 +61,7 @@ enum {
 /* The flags of a check. Join them with |; 0 is none. */
 enum {
     TSP_CLAIMED = 1, /* reject a solution whose length isn't `claimed`; without this flag `claimed` is ignored */
-    TSP_STRICT = 2   /* reject an instance with a line that isn't judged, after all other reasons */
+    TSP_STRICT = 2   /* reject an instance with an unknown keyword or an unused field, if no other reason applies */
 };
 
 /* Layouts of the weights. */
@@ -238,10 +238,13 @@ enum {
     TSP_NOT_BRANCHES = 23,
     TSP_BRANCHES_DIMENSION = 24,
     TSP_BAD_COMB = 25,
+    TSP_BAD_MEMORY = 31,
+    TSP_BAD_ROW = 32,
     TSP_BAD_BRANCH = 26,
     TSP_BRANCH_TWICE = 27,
     TSP_BAD_LEAF = 28,
     TSP_TOO_MANY_LOADS = 29,
+    TSP_TOO_MANY_STATES = 33,
     TSP_NOT_JUDGED = 30,
     TSP_NOT_USED = 34
 };

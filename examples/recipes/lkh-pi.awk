@@ -1,6 +1,6 @@
 # LKH's PI_FILE to potentials; the scale is LKH's PRECISION: -v scale=N, which is 100 by itself
 function fail(words) {
-    print "lkh-pi: " words | "cat 1>&2"
+    print "lkh-pi: " words | "cat -v 1>&2"
     exit status = 1
 }
 BEGIN {

@@ -31,7 +31,7 @@ def make(module: Path, exports: list[str], imports: list[str], stack: int) -> by
     with tempfile.TemporaryDirectory() as folder:
         scratch = Path(folder)
         objects = [target.module(module, scratch / "tsp.o"), target.pair(scratch / "pair.o")]
-        for name in ("heap", "wide"):
+        for name in ("heap", "wide") if "__xpg_strerror_r" in imports else ("heap", "wide", "errors"):
             objects.append(scratch / f"{name}.o")
             target.clang(*target.words, "-O3", "-ffunction-sections", "-c", *ALONE, CODE / f"{name}.c", "-o", objects[-1])
         (scratch / "imports").write_text("".join(f"{name}\n" for name in imports))

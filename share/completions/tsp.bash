@@ -5,12 +5,14 @@ _tsp() {
     local words=
     COMPREPLY=()
     if [ "$COMP_CWORD" -eq 1 ]; then
-        words='show convert check compare bound help -h --help -V --version'
+        words='show convert check compare bound solution help -h --help -V --version'
     elif [ "$before" = --layout ]; then
         words='FULL_MATRIX UPPER_ROW LOWER_ROW UPPER_DIAG_ROW LOWER_DIAG_ROW
             UPPER_COL LOWER_COL UPPER_DIAG_COL LOWER_DIAG_COL'
+    elif [ "$before" = --form ]; then
+        words='tour json ortools cvrplib lkh r concorde-edges concorde table list'
     elif [ "$verb" = help ]; then
-        words='show convert check compare bound help'
+        words='show convert check compare bound solution help'
     elif [ "${word#-}" != "$word" ]; then
         case $verb in
         show) words='--explain -h --help -V --version' ;;
@@ -18,6 +20,7 @@ _tsp() {
         check) words='--potentials --branches --length --strict --explain -h --help -V --version' ;;
         compare) words='--potentials --branches --strict --explain -h --help -V --version' ;;
         bound) words='--potentials --branches --strict --explain -h --help -V --version' ;;
+        solution) words='--of --form --first --depot --forms --explain -h --help -V --version' ;;
         esac
     fi
     # No word fits: bash completes the names of files.

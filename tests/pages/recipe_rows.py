@@ -109,6 +109,7 @@ REFUSED = [
     Refused("lkh-pi", "2\n1 0\n-1\n", "the first line says 2 nodes, and 1 follow"),
     Refused("lkh-pi", "2\n1 0\n1 3\n", "line 3: node 1 comes twice"),
     Refused("lkh-pi", "2\n1 0.5\n", "line 2: a node and its number are wanted: 1 0.5"),
+    Refused("lkh-pi", "2\n1 \x1b[2J\n", "line 2: a node and its number are wanted: 1 ^[[2J"),
     Refused("lkh-pi", "2\n3 1\n", "line 2: nodes are 1 to 2: 3 1"),
     Refused("lkh-pi", "1\n1 0\n", "the scale is a whole number from 1 on", "-v scale=0"),
     Refused("node-list", "", "0 nodes"),

@@ -1,130 +1,53 @@
-"""A second judge: reasons, lengths and reports of checks, bounds and comparisons, from docs/format.md alone. For
-tests/second/run, tests/second/rows-of-tables and tests/program/trees."""
+"""What the program has to say of checks, bounds and comparisons. Faults are found by the second reader, and reasons,
+lengths and bounds by examples/recheck.py, which follow docs/format.md alone."""
 from __future__ import annotations
 
-from bounds import Unbounded, reason_against_branches, reason_against_potentials, tree_bound, potential_bound
+from functools import cached_property
+
+import recheck
 from reader import INSTANCES, Fault, File, Wrong, read, whole
-from routes import Fleet, plan_bound, reason_against_plans
-from writer import LAYOUTS, Costs, Refused, canonical, first_uneven, length, not_judged, relaid, shown
+from recheck import No
+from writer import LAYOUTS, Refused, canonical, fields_of, not_judged, relaid, shown
 
 Result = tuple[int, bytes, bytes]  # the exit status, standard output and standard error
-
-
-class No(Exception):
-    """The first reason that applies."""
-
-
-def fixed_pairs(file: File) -> list[tuple[int, int]]:
-    section = file.sections.get("FIXED_EDGES_SECTION")
-    return section.entries if section else []
 
 
 class Judge:
     """The judge of one instance, with a certificate where there is one."""
 
     def __init__(self, instance: File, certificate: File | None = None, kind: str = "") -> None:
-        self.instance, self.certificate, self.kind = instance, certificate, kind
-        self.nodes, self.costs = instance.nodes, Costs(instance)
-        self.routes = instance.type == "CVRP"
+        self.instance, self.nodes, self.routes = instance, instance.nodes, instance.type == "CVRP"
+        self.fields = fields_of(instance)
+        self.certificate = fields_of(certificate) if certificate else None
+        self.kind = "routes" if kind and self.routes else kind
+        self.costs = recheck.costs_of(self.fields, self.nodes)
 
     def head(self) -> bytes:
         return f"type {self.instance.type}\nnodes {self.nodes}\n".encode() + not_judged(self.instance)
 
-    # ---- reasons
+    @cached_property
+    def fleet(self) -> recheck.Fleet:
+        """The instance of routes, if no reason is against it."""
+        return recheck.Fleet(self.fields, self.nodes)
 
     def against_instance(self) -> None:
-        """The reasons against the instance that come before those of a solution's DIMENSION."""
-        if self.nodes < (2 if self.routes else 3):
-            raise No("TooFewNodes")
-        if self.instance.type == "TSP" and (pair := first_uneven(self.costs, self.nodes)):
-            raise No(f"NotSymmetric {pair[0]} {pair[1]}")
-
-    def against_depot(self) -> None:
-        """The other reasons against an instance of routes."""
-        depots = self.instance.sections["DEPOT_SECTION"].entries
-        if len(depots) != 1:
-            raise No("DepotCount")
-        self.depot = depots[0][0]
-        if self.demand(self.depot):
-            raise No("DepotDemand")
-        if fixed_pairs(self.instance):
-            raise No("FixedEdgesInRoutes")
-
-    def demand(self, node: int) -> int:
-        return self.instance.sections["DEMAND_SECTION"].of[node][0]
-
-    def against_certificate(self) -> None:
-        if self.kind == "potentials":
-            reason = reason_against_potentials(self.instance, self.certificate, self.costs)
-        elif self.kind == "branches" and self.routes:
-            reason = reason_against_plans(Fleet(self.instance, self.costs), self.certificate)
-        elif self.kind == "branches":
-            reason = reason_against_branches(self.instance, self.certificate)
-        else:
-            reason = ""
-        if reason:
-            raise No(reason)
+        """The reasons against an instance that no solution comes with."""
+        recheck.see_instance(self.fields, self.costs, self.nodes)
+        if self.routes:
+            self.fleet
 
     def bound(self) -> int | None:
-        """The bound; None where no leaf of a tree counts."""
-        if self.routes:
-            return plan_bound(Fleet(self.instance, self.costs), self.certificate)
-        try:
-            return (potential_bound if self.kind == "potentials" else tree_bound)(self.instance, self.certificate, self.costs)
-        except Unbounded:
-            return None
-
-    def against_places(self, places: list[int]) -> None:
-        """Nodes out of range, and repeated ones."""
-        for place, node in enumerate(places, 1):
-            if node > self.nodes:
-                raise No(f"NodeOutOfRange {place}")
-        for place, node in enumerate(places, 1):
-            if node in places[: place - 1]:
-                raise No(f"RepeatedNode {place}")
-
-    def tour(self, solution: File) -> list[int]:
-        """The tour of a solution, which no reason is against."""
-        tours = solution.sections["TOUR_SECTION"].tours
-        if len(tours) != 1:
-            raise No("TourCount")
-        if len(tours[0]) != self.nodes:
-            raise No("TourLength")
-        self.against_places(tours[0])
-        used = set(zip(tours[0], [*tours[0][1:], tours[0][0]]))
-        for number, (i, j) in enumerate(fixed_pairs(self.instance), 1):
-            if (i, j) not in used and (self.instance.type == "ATSP" or (j, i) not in used):
-                raise No(f"FixedEdgeUnused {number}")
-        return tours[0]
-
-    def plan(self, solution: File) -> list[list[int]]:
-        """The routes of a solution, which no reason is against."""
-        routes = solution.sections["TOUR_SECTION"].tours
-        places = [node for route in routes for node in route]
-        if self.depot in places:
-            raise No(f"DepotInRoute {places.index(self.depot) + 1}")
-        self.against_places(places)
-        for node in range(1, self.nodes + 1):
-            if node != self.depot and node not in places:
-                raise No(f"Unserved {node}")
-        for number, route in enumerate(routes, 1):
-            if sum(map(self.demand, route)) > self.instance.values["CAPACITY"]:
-                raise No(f"Overload {number}")
-        return routes
+        """The bound, or None where no leaf of a tree counts; a reason against the certificate is raised."""
+        return recheck.bound_of(self.kind, self.fields, self.certificate, self.costs, self.nodes) if self.kind else None
 
     def measured(self, solution: File, claim: int | None = None) -> tuple[int, int]:
         """The length of a solution, and how many routes it has."""
-        if solution.type != "TOUR":
-            raise No("NotASolution")
-        self.against_instance()
-        if solution.values.get("DIMENSION", self.nodes) != self.nodes:
-            raise No("Dimension")
+        given = self.fields, fields_of(solution), self.costs, self.nodes
         if self.routes:
-            self.against_depot()
-            routes = self.plan(solution)
-            found, count = sum(length(self.costs, [self.depot, *route]) for route in routes), len(routes)
+            fleet, routes = recheck.routes_of(*given)
+            found, count = fleet.length(self.costs, routes), len(routes)
         else:
-            found, count = length(self.costs, self.tour(solution)), 1
+            found, count = recheck.around(recheck.tour_of(*given), self.costs), 1
         if claim is not None and claim != found:
             raise No(f"LengthClaimed {found}")
         return found, count
@@ -135,11 +58,11 @@ class Judge:
             return
         for keyword, _ in self.instance.others:
             raise No(f"NotJudged {keyword.decode('latin-1')}")
-        for keyword in self.fields():
+        for keyword in self.keywords():
             if not self.is_used(keyword):
                 raise No(f"NotUsed {keyword}")
 
-    def fields(self) -> list[str]:
+    def keywords(self) -> list[str]:
         """The fields that the instance has, in canonical order."""
         keywords = [line.partition(b" ")[0].decode("latin-1") for line in canonical(self.instance).split(b"\n")]
         return [keyword for keyword in keywords if keyword[:1].isalpha() and keyword not in ("COMMENT", "EOF")]
@@ -155,7 +78,7 @@ class Judge:
 
     def least(self) -> int:
         """The least number of vehicles that carry all demands."""
-        return -(-sum(map(self.demand, range(1, self.nodes + 1))) // self.instance.values["CAPACITY"])
+        return -(-self.fleet.load(self.fleet.customers) // self.fleet.capacity)
 
 
 # ---- what the program writes
@@ -218,15 +141,14 @@ def check(
     judge, files = found
     try:
         measured, routes = judge.measured(files[1], claim)
-        judge.against_certificate()
+        least = judge.bound()
         judge.against_keywords(strict)
     except No as reason:
         return 1, told(judge.head(), f"no {reason}"), b""
     lines = [f"routes {routes}", f"least {judge.least()}"] if judge.routes else []
     lines.append(f"length {measured}")
     if kind:
-        bound = judge.bound()
-        lines += [f"bound {bound}", "optimal" if measured == bound else f"gap {measured - bound}"]
+        lines += [f"bound {least}", "optimal" if measured == least else f"gap {measured - least}"]
     return 0, told(judge.head(), *lines, "yes"), b""
 
 
@@ -237,13 +159,10 @@ def bound(instance: bytes, certificate: bytes, kind: str, strict: bool = False) 
     judge, _ = found
     try:
         judge.against_instance()
-        if judge.routes:
-            judge.against_depot()
-        judge.against_certificate()
+        least = judge.bound()
         judge.against_keywords(strict)
     except No as reason:
         return 1, told(judge.head(), f"no {reason}"), b""
-    least = judge.bound()
     return 0, told(judge.head(), f"bound {'none' if least is None else least}", "yes"), b""
 
 
@@ -257,13 +176,10 @@ def compare(
     judge, _ = found
     try:
         judge.against_instance()
-        if judge.routes:
-            judge.against_depot()
-        judge.against_certificate()
+        least = judge.bound()
         judge.against_keywords(strict)
     except No as reason:
         return 1, told(judge.head(), f"no {reason}"), b""
-    least = judge.bound() if kind else None
     lines, status = [], 0
     if judge.routes and (least is not None or not kind):
         lines.append(f"least {judge.least()}")

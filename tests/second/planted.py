@@ -1,6 +1,7 @@
-"""Bugs planted in copies of the second reader, one at a time. The cases of a seed have to show each of them.
+"""Bugs planted in copies of the second reader and of examples/recheck.py, one at a time. The cases of a seed have to show
+each of them.
 
-The program agrees with the reader on these cases. So a bug that they show is one that they would show in the program.
+The program agrees with the two on these cases. So a bug that they show is one that they would show in the program.
 `tests/second/run --planted` runs them, by hand.
 """
 from __future__ import annotations
@@ -14,8 +15,9 @@ from generate import Case, case_of
 from runner import Counts
 
 MOST = 40_000  # cases for a bug
-MODULES = ["reader", "runs", "bounds", "writer", "routes", "judge"]
 HERE = Path(__file__).resolve().parent
+MODULES = {name: HERE / f"{name}.py" for name in ("reader", "writer", "judge")}
+MODULES = {"recheck": HERE.parents[1] / "examples/recheck.py", **MODULES}
 
 # The file of the bug, what is there, what is put in its place, and what that is.
 BUGS = [
@@ -31,7 +33,7 @@ BUGS = [
     ("reader", 'if len(self.weights) == self.nodes**2:', 'if len(self.weights) == self.nodes**2 and word != CLOSED_WORD:', "-1 is ignored after the weights"),
     ("reader", "self.ended = not self.in_family\n", "self.ended = not self.in_set\n", "the -1 after a comb ends the list of combs"),
     ("reader", "if pair[0] == pair[1]:", "if pair[0] == pair[1] == 1:", "a branch may be one node twice"),
-    ("reader", "index = whole(word, -1, self.last, but=0)", "index = whole(word, -1, self.last - 1, but=0)", "the largest index is refused"),
+    ("reader", "index = whole(word, -1, self.nodes + 20_000, but=0)", "index = whole(word, -1, self.nodes + 19_999, but=0)", "the largest index is refused"),
     ("reader", "self.begin(whole(word, 0, self.nodes + 10_000))", "self.begin(whole(word, 0, self.nodes + 9_999))", "no branch is on family 10,000"),
     ("reader", 'if value:\n            raise Wrong("SectionValue")\n        if "DIMENSION" not in', 'if "DIMENSION" not in', "the line of a section may have a value"),
     ("reader", 'if "DIMENSION" not in file.values and name != "TOUR_SECTION":', 'if "DIMENSION" not in file.values and name not in ("TOUR_SECTION", "DEPOT_SECTION"):', "depots may come before DIMENSION"),
@@ -43,34 +45,34 @@ BUGS = [
     ("reader", 'if (listed or required) and values["EDGE_WEIGHT_FORMAT"] == "FUNCTION":', 'if required and values["EDGE_WEIGHT_FORMAT"] == "FUNCTION":', "weights may be listed for a FUNCTION"),
     ("reader", 'return has_diagonal if i == j else (i < j) == (half == "UPPER")', 'return has_diagonal if i == j else (i < j) == ((half == "UPPER") == by_row)', "upper columns are taken for lower ones"),
     ("writer", '.rstrip("0").rstrip(".")', '.rstrip(".")', "decimals keep their zeros"),
-    ("writer", "return (2 * value + FINE) // (2 * FINE)", "return (2 * value + FINE - 1) // (2 * FINE)", "halves are rounded down"),
-    ("writer", "(square * 4 >= (2 * root + 1) ** 2 * FINE * FINE)", "(square * 4 > (2 * root + 1) ** 2 * FINE * FINE)", "roots beside a half are rounded down"),
-    ("writer", "while 10 * root * root * FINE * FINE < square:", "while 10 * (2 * root + 1) ** 2 * FINE * FINE < 4 * square:", "ATT rounds to the nearest"),
+    ("recheck", 'if kind.startswith("MAN"):\n        return (2 * sum(gaps) + BILLION)', 'if kind.startswith("MAN"):\n        return (2 * sum(gaps) + BILLION - 1)', "halves are rounded down"),
+    ("recheck", "return (isqrt(4 * square // unit) + 1) // 2  #", "return (isqrt(max(0, 4 * square - 1) // unit) + 1) // 2  #", "roots beside a half are rounded down"),
+    ("recheck", 'if kind in ("ATT", "CEIL_2D"):', 'if kind == "CEIL_2D":', "ATT rounds to the nearest"),
     ("writer", "if costs(node, node):", "if costs(node, node) > 0:", "a diagonal below 0 may be lost"),
-    ("judge", "for place, node in enumerate(places, 1):\n            if node > self.nodes:", "for place, node in enumerate(places[1:], 2):\n            if node > self.nodes:", "the first node may be out of range"),
-    ("judge", "if (i, j) not in used and (self.instance.type == \"ATSP\" or (j, i) not in used):", "if (i, j) not in used and (j, i) not in used:", "a fixed arc may be used in the other direction"),
-    ("judge", 'if sum(map(self.demand, route)) > self.instance.values["CAPACITY"]:', 'if sum(map(self.demand, route)) >= self.instance.values["CAPACITY"] + (number > 1):', "the first route may not be full"),
-    ("bounds", "return -(-value // scale)", "return value // scale", "a bound is rounded down"),
-    ("bounds", "if pair in pairs[: number - 1]:", "if number > 2 and pair == pairs[number - 2]:", "a multiplier may repeat after another"),
-    ("bounds", "return 3 * (len(sets) - 1) + 1, 3", "return 3 * (len(sets) - 1) + 2, 3", "a comb gives back one more"),
-    ("bounds", "if len(sets) == 1 and len(sets[0]) < nodes:", "if len(sets) == 1:", "a lone set may have every node"),
-    ("bounds", "tuple(pair) if self.instance.type == \"ATSP\" else", "", "an arc has no direction"),
-    ("bounds", "return min(by, default=0) < 0 or", "return min(by, default=0) < -1 or", "a multiplier may be -1"),
-    ("bounds", "all((i == a) == (j == b) for a, b in leaf.used)", "all(i != a or j == b for a, b in leaf.used)", "a taken arc lets others enter its end"),
-    ("bounds", "if first > self.nodes:", "if False:", "a tour may be branched on by a family"),
-    ("routes", "up(sum(self.demand[node] for node in nodes), self.capacity))", "sum(self.demand[node] for node in nodes) // self.capacity)", "the need of a set is rounded down"),
-    ("routes", "or self.fleet.depot in sets[0]:", "or False:", "a family may have the depot"),
-    ("routes", "if not 1 <= first - self.nodes <= len(self.families):", "if first > self.nodes + len(self.families):", "routes may be branched on by a pair"),
-    ("routes", "sum(map(abs, self.multipliers(leaf))) + sum(gains) > MOST", "sum(self.multipliers(leaf)) + sum(gains) > MOST", "multipliers below 0 have no limit"),
-    ("routes", "demand // unit for", "-(-demand // unit) for", "loads are rounded up"),
-    ("routes", "self.room = fleet.capacity // unit * parts + len(light)", "self.room = fleet.capacity // unit * parts", "there is no room for loads of 0"),
-    ("routes", "if node not in (last, before) and", "if node != last and", "a walk may go back at once"),
-    ("routes", "ways = [weight(last, depot)]\n", "ways = [weight(last, depot)] if before != depot else [10**40]\n", "no walk has one customer"),
-    ("routes", "least - 2 * potential(self.fleet.depot)", "least - potential(self.fleet.depot)", "the depot's potential is given back once"),
-    ("routes", "min(self.fleet.need(customers) * each, len(customers) * each)", "self.fleet.need(customers) * each", "the fewest routes are taken where each weighs less than 0"),
-    ("routes", "(self.low(leaf, k) if multiplier > 0 else self.high(leaf, k))", "self.low(leaf, k)", "the low number of crossings is taken for a multiplier below 0"),
-    ("routes", "least = [2 * t + 2 for", "least = [2 * t + 1 for", "the second tree begins at 2t + 1 crossings"),
-    ("routes", "return min(ways, default=None)\n\n\ndef reason", "return min(ways, default=0)\n\n\ndef reason", "a leaf without a walk has a bound"),
+    ("recheck", "for place, node in enumerate(nodes, 1):\n        if node > count:", "for place, node in enumerate(nodes[1:], 2):\n        if node > count:", "the first node may be out of range"),
+    ("recheck", "(i, j) not in used and (directed or (j, i) not in used):", "(i, j) not in used and (j, i) not in used:", "a fixed arc may be used in the other direction"),
+    ("recheck", "if fleet.load(route) > fleet.capacity:", "if fleet.load(route) >= fleet.capacity + (number > 1):", "the first route may not be full"),
+    ("recheck", "return -(-value // scale)", "return value // scale", "a bound is rounded down"),
+    ("recheck", "if pair in pairs[: number - 1]:", "if number > 2 and pair == pairs[number - 2]:", "a multiplier may repeat after another"),
+    ("recheck", "return 3 * len(sets) - 2 if", "return 3 * len(sets) - 1 if", "a comb gives back one more"),
+    ("recheck", "return once and len(inside) < count", "return once", "a lone set may have every node"),
+    ("recheck", "return (i, j) if directed else frozenset((i, j))", "return frozenset((i, j))", "an arc has no direction"),
+    ("recheck", "min(m, default=0) < 0 or most", "min(m, default=0) < -1 or most", "a multiplier may be -1"),
+    ("recheck", " and before.get(j, {i}) == {i}]", "]", "a taken arc lets others enter its end"),
+    ("recheck", "range(1, count + 1))\n    branches", "range(1, count + 10_001))\n    branches", "a tour may be branched on by a family"),
+    ("recheck", "min(max(1, -(-self.load(nodes) // self.capacity))", "min(max(1, self.load(nodes) // self.capacity)", "the need of a set is rounded down"),
+    ("recheck", " or fleet.depot in comb[0]:", ":", "a family may have the depot"),
+    ("recheck", "range(count + 1, count + len(sets) + 1))", "range(1, count + len(sets) + 1))", "routes may be branched on by a pair"),
+    ("recheck", "sums = sum(map(abs, numbers[count + 1 :]))", "sums = sum(numbers[count + 1 :])", "multipliers below 0 have no limit"),
+    ("recheck", "whole = [demand // unit for", "whole = [-(-demand // unit) for", "loads are rounded up"),
+    ("recheck", "* (light + 1) + light", "* (light + 1)", "there is no room for loads of 0"),
+    ("recheck", "onward = second if after == node else own", "onward = own", "a walk may go back at once"),
+    ("recheck", "for node, rest in table[room].items())", "for node, rest in table[room].items() if rest[1] != self.depot)", "no walk has one customer"),
+    ("recheck", "each = least - twice", "each = least - twice // 2", "the depot's potential is given back once"),
+    ("recheck", "value = min(fleet.need(fleet.customers) * each, len(fleet.customers) * each)", "value = fleet.need(fleet.customers) * each", "the fewest routes are taken where each weighs less than 0"),
+    ("recheck", "number * (a if number > 0 else b)", "number * a", "the low number of crossings is taken for a multiplier below 0"),
+    ("recheck", "max(low[family], 2 * times + 2)", "max(low[family], 2 * times + 1)", "the second tree begins at 2t + 1 crossings"),
+    ("recheck", "for node, rest in table[room].items()), default=None)", "for node, rest in table[room].items()), default=0)", "a leaf without a walk has a bound"),
 ]
 
 
@@ -78,13 +80,14 @@ def with_bug(name: str, old: str, new: str, wanted: str = "judge") -> types.Modu
     """The judge, or another module, over a copy of the reader in which a text is another."""
     before = {module: sys.modules.get(module) for module in MODULES}
     try:
-        for module in MODULES:
-            text = (HERE / f"{module}.py").read_text()
+        for module, path in MODULES.items():
+            text = path.read_text()
             if module == name:
                 if text.count(old) != 1:
                     raise SystemExit(f"planted.py: {module}.py has {text.count(old)} times: {old}")
                 text = text.replace(old, new)
             made = sys.modules[module] = types.ModuleType(module)
+            made.__file__ = str(path)
             exec(compile(text, f"{module}.py with a bug", "exec"), made.__dict__)
         return sys.modules[wanted]
     finally:

@@ -217,14 +217,12 @@ class Tours(Section):
         return [run for run in self.runs if run]
 
 
-class Combs(Section):
-    """Families of sets."""
+class Lists(Section):
+    """Lists of nodes, each ended by -1, and all of them by one more."""
 
     def __init__(self, nodes: int) -> None:
         super().__init__(nodes)
-        self.families: list[list[list[int]]] = []
-        self.ended = self.in_set = self.in_family = False
-        self.count = 0
+        self.ended, self.count = False, 0
 
     def take(self, word: bytes) -> None:
         if self.ended:
@@ -233,12 +231,34 @@ class Combs(Section):
             return
         node = whole(word, -1, self.nodes, but=0)
         if node == -1:
-            self.ended = not self.in_family
-            self.in_family, self.in_set = self.in_set, False
+            self.close()
             return
-        if self.count == 1_000_000 or not self.in_family and len(self.families) == 10_000:
+        if self.count == 1_000_000 or self.is_full():
             raise Wrong("Surplus")
         self.count += 1
+        self.put(node)
+
+    def is_full(self) -> bool:
+        """Whether no more of them can begin here."""
+        return False
+
+
+class Combs(Lists):
+    """Families of sets."""
+
+    def __init__(self, nodes: int) -> None:
+        super().__init__(nodes)
+        self.families: list[list[list[int]]] = []
+        self.in_set = self.in_family = False
+
+    def close(self) -> None:
+        self.ended = not self.in_family
+        self.in_family, self.in_set = self.in_set, False
+
+    def is_full(self) -> bool:
+        return not self.in_family and len(self.families) == 10_000
+
+    def put(self, node: int) -> None:
         if not self.in_family:
             self.families.append([])
         if not self.in_set:
@@ -250,29 +270,19 @@ class Combs(Section):
         return not self.in_family
 
 
-class Memory(Section):
+class Memory(Lists):
     """Lists of the customers that a customer remembers, which follow it."""
 
     def __init__(self, nodes: int) -> None:
         super().__init__(nodes)
         self.lists: list[list[int]] = []
-        self.ended = self.in_list = False
-        self.count = 0
+        self.in_list = False
 
-    def take(self, word: bytes) -> None:
-        if self.ended:
-            if word != CLOSED_WORD:
-                raise Wrong("AfterEnd")
-            return
-        node = whole(word, -1, self.nodes, but=0)
-        if node == -1:
-            self.ended, self.in_list = not self.in_list, False
-            return
-        if self.count == 1_000_000:
-            raise Wrong("Surplus")
-        self.count += 1
-        if not self.in_list:
-            self.lists.append([])
+    def close(self) -> None:
+        self.ended, self.in_list = not self.in_list, False
+
+    def put(self, node: int) -> None:
+        self.lists += [] if self.in_list else [[]]
         self.in_list = True
         self.lists[-1].append(node)
 
@@ -280,28 +290,21 @@ class Memory(Section):
         return not self.in_list
 
 
-class SubsetRows(Section):
+class SubsetRows(Lists):
     """Subset rows: of each a set and the further customers that keep it."""
 
     def __init__(self, nodes: int) -> None:
         super().__init__(nodes)
         self.rows: list[tuple[list[int], list[int]]] = []
-        self.ended = False
         self.part = 2  # what the next word goes on: the set (0), the further customers (1), or the section
-        self.count = 0
 
-    def take(self, word: bytes) -> None:
-        if self.ended:
-            if word != CLOSED_WORD:
-                raise Wrong("AfterEnd")
-            return
-        node = whole(word, -1, self.nodes, but=0)
-        if node == -1:
-            self.ended, self.part = self.part == 2, min(2, self.part + 1)
-            return
-        if self.count == 1_000_000 or self.part == 2 and len(self.rows) == 10_000:
-            raise Wrong("Surplus")
-        self.count += 1
+    def close(self) -> None:
+        self.ended, self.part = self.part == 2, min(2, self.part + 1)
+
+    def is_full(self) -> bool:
+        return self.part == 2 and len(self.rows) == 10_000
+
+    def put(self, node: int) -> None:
         if self.part == 2:
             self.rows.append(([], []))
             self.part = 0

@@ -1,9 +1,8 @@
-"""The canonical text of a file, its costs, another layout, and the lines of `show`, from docs/format.md alone. For
-judge.py and tests/second/run."""
+"""The canonical text of a file, another layout, and the lines of `show`, from docs/format.md alone. Costs are those of
+examples/recheck.py."""
 from __future__ import annotations
 
-from math import isqrt
-
+import recheck
 from reader import FINE, INSTANCES, LAYOUTS, SECTIONS, File, cells, lines_of
 
 KEYWORDS = ["DIMENSION", "CAPACITY", "SCALE", "LOAD_UNIT", "EDGE_WEIGHT_TYPE", "EDGE_WEIGHT_FORMAT", "NODE_COORD_TYPE",
@@ -72,79 +71,17 @@ def canonical(file: File) -> bytes:
 # ---- costs
 
 
-def root_up(square: int, by: int) -> int:
-    """The least whole r with (by r)² at least a number."""
-    root = isqrt(square)
-    root += root * root < square
-    return -(-root // by)
-
-
-def nearest(value: int) -> int:
-    """A number of multiples of 1 / FINE, rounded to a whole number, halves up."""
-    return (2 * value + FINE) // (2 * FINE)
-
-
-def nearest_root(square: int) -> int:
-    """The root of a number of multiples of 1 / FINE², rounded to a whole number, halves up."""
-    root = isqrt(square) // FINE
-    return root + (square * 4 >= (2 * root + 1) ** 2 * FINE * FINE)
-
-
-def distance(kind: str, first: list[int], second: list[int]) -> int:
-    """The distance of two points by a weight type."""
-    parts = [abs(a - b) for a, b in zip(first, second)]
-    parts = parts if kind.endswith("3D") else parts[:2]
-    square = sum(part * part for part in parts)
-    if kind.startswith("EUC"):
-        return nearest_root(square)
-    if kind == "CEIL_2D":
-        return root_up(square, FINE)
-    if kind == "ATT":  # (10 r² at least the square)
-        root = isqrt(square // (10 * FINE * FINE))
-        while 10 * root * root * FINE * FINE < square:
-            root += 1
-        return root
-    return nearest(sum(parts) if kind.startswith("MAN") else max(parts))
-
-
-class Costs:
-    """The costs of an instance."""
-
-    def __init__(self, file: File) -> None:
-        self.kind = file.values["EDGE_WEIGHT_TYPE"]
-        if self.kind == "EXPLICIT":
-            weights = file.sections["EDGE_WEIGHT_SECTION"].weights
-            self.cells = dict(zip(cells(file.values["EDGE_WEIGHT_FORMAT"], file.nodes), weights))
-        else:
-            self.points = file.sections["NODE_COORD_SECTION"].of
-
-    def __call__(self, i: int, j: int) -> int:
-        if self.kind != "EXPLICIT":
-            return distance(self.kind, self.points[i], self.points[j])
-        if (i, j) in self.cells:
-            return self.cells[i, j]
-        return 0 if i == j else self.cells[j, i]
-
-
-def first_uneven(costs: Costs, nodes: int) -> tuple[int, int] | None:
-    """The first pair by rows whose two costs differ."""
-    if costs.kind != "EXPLICIT":
-        return None
-    pairs = ((i, j) for i in range(1, nodes + 1) for j in range(i + 1, nodes + 1))
-    return next(((i, j) for i, j in pairs if costs(i, j) != costs(j, i)), None)
-
-
-def length(costs: Costs, tour: list[int]) -> int:
-    """The length of a closed tour."""
-    return sum(costs(i, j) for i, j in zip(tour, [*tour[1:], *tour[:1]]))
+def fields_of(file: File) -> recheck.Fields:
+    """A file as examples/recheck.py has it."""
+    return recheck.fields_in("file", canonical(file).decode("latin-1").split("\n"))
 
 
 def relaid(file: File, layout: str) -> bytes:
     """The canonical text in another layout."""
     if file.values.get("EDGE_WEIGHT_TYPE") != "EXPLICIT" or "EDGE_WEIGHT_SECTION" not in file.sections:
         raise Refused("NotExplicit")
-    costs, nodes = Costs(file), file.nodes
-    if layout != "FULL_MATRIX" and (pair := first_uneven(costs, nodes)):
+    nodes, costs = file.nodes, recheck.costs_of(fields_of(file), file.nodes)
+    if layout != "FULL_MATRIX" and (pair := recheck.uneven(costs)):
         raise Refused(f"NotSymmetric {pair[0]} {pair[1]}")
     if layout != "FULL_MATRIX" and "DIAG" not in layout:
         for node in range(1, nodes + 1):
@@ -176,7 +113,8 @@ def shown(file: File) -> bytes:
     if file.type in INSTANCES:
         kind = values["EDGE_WEIGHT_TYPE"]
         lines.append(f"weights {kind}" + (f" {values['EDGE_WEIGHT_FORMAT']}" if kind == "EXPLICIT" else ""))
-        lines.append(f"canonical {length(Costs(file), list(range(1, file.nodes + 1)))}")
+        costs = recheck.costs_of(fields_of(file), file.nodes)
+        lines.append(f"canonical {recheck.around(list(range(1, file.nodes + 1)), costs)}")
         if "FIXED_EDGES_SECTION" in sections:
             lines.append(f"fixed {len(sections['FIXED_EDGES_SECTION'].entries)}")
     if file.type == "TOUR":
@@ -195,6 +133,3 @@ def shown(file: File) -> bytes:
             lines.append(f"rows {len(sections['SUBSET_ROW_SECTION'].rows)}")
         lines.append(f"leaves {sum(kind == 'leaf' for kind, _ in sections['BRANCH_SECTION'].steps)}")
     return text + "".join(f"{line}\n" for line in lines).encode() + not_judged(file)
-
-
-__all__ = ["LAYOUTS", "Costs", "Refused", "canonical", "first_uneven", "length", "not_judged", "relaid", "shown"]

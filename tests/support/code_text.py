@@ -19,6 +19,7 @@ ITEM = re.compile(rf"^(?P<vis>{VISIBLE})(?:unsafe )?(?P<kind>struct|enum|trait|u
 FUNCTION = re.compile(rf"^ *(?P<vis>{VISIBLE})(?:const |unsafe |extern \"[^\"]*\" )*fn (?P<name>\w+)", re.M)
 CLAUSE = re.compile(r"\b(requires|ensures|invariant)(?: (\w+))?\s*$")
 USE = re.compile(r"^(?P<vis>pub(?:\([a-z]+\))? )?use (?P<tree>[^;]+);$", re.M)
+GHOST_USE = re.compile(r"^ *ghost use Rattle\.(\S+)\.\{([^}]*)\};$", re.M)
 BRACKETS, ANGLES = re.compile(r"[(\[{)\]}]"), re.compile(r"[(\[{<)\]}]|(?<![-=])>")
 OPENS = "([{<"
 
@@ -219,6 +220,11 @@ class Code:
             for path, alias in paths_of(use["tree"]):
                 found[alias or path.rpartition("::")[2]] = path
         return found
+
+    @cached_property
+    def ghost_uses(self) -> dict[str, tuple[str, str]]:
+        """The module and the name of each definition that the file's contracts import."""
+        return {name: (module, name) for module, names in GHOST_USE.findall(self.text) for name in re.split(r",\s*", names)}
 
     @cached_property
     def passed_on(self) -> dict[str, str]:

@@ -119,13 +119,13 @@ class Command(unittest.TestCase):
         status, out, err = run("show", "--explain", "no such file")
         self.assertEqual((status, out), (5, b""))
         self.assertEqual(err, b"file 1: device\nno such file: No such file or directory (os error 2)\n"
-                         b"  The file can't be opened, or a read of it failed.\n")
+                         b"  The file can't be opened, or a read failed.\n")
 
     def test_explained(self):
         tour = b"TYPE : TOUR\nTOUR_SECTION\n1 2 2 3\n"
         status, out, err = run("check", "--explain", EXAMPLES / "rectangle.tsp", "-", stdin=tour)
         self.assertEqual((status, out), (1, b"type TSP\nnodes 4\nno RepeatedNode 3\n"))
-        self.assertIn(b"  Place 3 is node 2", err)
+        self.assertIn(b"  Place 3 has node 2", err)
 
     def test_solutions_of_other_programs(self):
         sol = EXAMPLES / "solvers/dairy.cvrplib.sol"

@@ -127,7 +127,7 @@ class Calls(unittest.TestCase):
 
     def test_explained(self):
         found = yokecairn.compare(RECT, [TWICE], explain=True)
-        self.assertIn("Place 3 is node 2", found[0].explanation)
+        self.assertIn("Place 3 has node 2", found[0].explanation)
 
 
 class Tables(unittest.TestCase):
@@ -263,7 +263,7 @@ class Command(unittest.TestCase):
     def test_explained(self):
         status, out, err = run("compare", "--explain", RECT, "-", AROUND, stdin=TWICE)
         self.assertEqual((status, out.count(b"\n")), (1, 4))
-        self.assertIn(b"  Place 3 is node 2", err)
+        self.assertIn(b"  Place 3 has node 2", err)
 
     @unittest.skipUnless(os.path.exists("/dev/full"), "there is no /dev/full")
     def test_a_full_device(self):

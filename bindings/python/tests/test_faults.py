@@ -118,13 +118,13 @@ class Explanations(unittest.TestCase):
         tour = b"COMMENT : Length = 13\nTYPE : TOUR\nTOUR_SECTION\n1 2 3 4 -1\n"
         report = yokecairn.check(RECTANGLE.encode(), tour, explain=True)
         self.assertTrue(report)
-        self.assertEqual(report.explanation, "file 2: a COMMENT claims the length 13, and the length is 14.")
+        self.assertEqual(report.explanation, "file 2: a COMMENT claims the length 13, but the length is 14.")
 
     def test_a_no(self):
         tour = b"TYPE : TOUR\nTOUR_SECTION\n1 2 2 3 -1\n"
         report = yokecairn.check(RECTANGLE.encode(), tour, explain=True)
         self.assertEqual((report.reason, report.numbers), ("RepeatedNode", (3,)))
-        self.assertIn("Place 3 is node 2", report.explanation)
+        self.assertIn("Place 3 has node 2", report.explanation)
         self.assertEqual(yokecairn.check(RECTANGLE.encode(), tour).explanation, "")
 
 

@@ -7,9 +7,9 @@
     report = yokecairn.check("harbour.tsp", "harbour.tour", potentials="harbour.potentials")
     report.optimal
 
-Files are loaded and rendered, and costs and lengths computed, by calls with the names of tsplib95's. The library is
-proved: whether a text is a file, its canonical text, and each cost, length, bound and verdict. The package isn't, nor
-are ctypes and the way in which a canonical text becomes Python values.
+The calls that load and render files, and compute costs and lengths, have the same names as in tsplib95. What the
+library answers is proved: whether a text is a valid file, its canonical text, and each cost, length, bound and verdict.
+The package itself isn't proved, and neither are ctypes or the step from a canonical text to Python values.
 """
 
 from . import _library

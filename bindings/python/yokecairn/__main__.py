@@ -87,7 +87,7 @@ _OPTIONS: Dict[str, Dict[str, Any]] = {
     "--potentials": _value("P", "a potentials file"),
     "--branches": _value("B", "a branches file"),
     "--length": _value("L", "claim the length L; a solution of another length is rejected"),
-    "--strict": _flag("reject an instance with a line that isn't judged"),
+    "--strict": _flag("reject an instance with an unknown keyword or an unused field"),
     "--no-foreign": _flag("read only TYPE TOUR, like tsp", dest="foreign", action="store_false"),
     "--foreign": _flag("read every form of solution, such as a list of nodes", default=None),
     "--first": _value("0|1", "whether nodes count from 0 or from 1; 0 for routes in JSON that list customers", type=int, choices=(0, 1)),
@@ -431,7 +431,7 @@ WORDS, DEVICE = 4, 5
 MOST_BYTES = 1 << 30  # of a file that count
 PIECE = 1 << 20
 
-_UNREADABLE = "  The file can't be opened, or a read of it failed."
+_UNREADABLE = "  The file can't be opened, or a read failed."
 
 
 class NotWritten(Exception):

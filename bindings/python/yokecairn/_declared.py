@@ -78,10 +78,13 @@ DUAL_INFEASIBLE = 22
 NOT_BRANCHES = 23
 BRANCHES_DIMENSION = 24
 BAD_COMB = 25
+BAD_MEMORY = 31
+BAD_ROW = 32
 BAD_BRANCH = 26
 BRANCH_TWICE = 27
 BAD_LEAF = 28
 TOO_MANY_LOADS = 29
+TOO_MANY_STATES = 33
 NOT_JUDGED = 30
 NOT_USED = 34
 LONG_LINE = 1
@@ -228,10 +231,13 @@ REASONS: Dict[int, Tuple[str, int]] = {
     23: ("NotBranches", 0),
     24: ("BranchesDimension", 0),
     25: ("BadComb", 1),
+    31: ("BadMemory", 1),
+    32: ("BadRow", 1),
     26: ("BadBranch", 1),
     27: ("BranchTwice", 1),
     28: ("BadLeaf", 1),
     29: ("TooManyLoads", 0),
+    33: ("TooManyStates", 1),
     30: ("NotJudged", 0),
     34: ("NotUsed", 0),
 }
@@ -266,9 +272,12 @@ class Reason(str, Enum):
     NOT_BRANCHES = "NotBranches"
     BRANCHES_DIMENSION = "BranchesDimension"
     BAD_COMB = "BadComb"
+    BAD_MEMORY = "BadMemory"
+    BAD_ROW = "BadRow"
     BAD_BRANCH = "BadBranch"
     BRANCH_TWICE = "BranchTwice"
     BAD_LEAF = "BadLeaf"
     TOO_MANY_LOADS = "TooManyLoads"
+    TOO_MANY_STATES = "TooManyStates"
     NOT_JUDGED = "NotJudged"
     NOT_USED = "NotUsed"

@@ -262,7 +262,7 @@ const TESTS = {
     "a fault has its meaning above its line": async (browser) => {
         await browser.open("zero");
         assert.equal(await browser.verdict(), "Fault");
-        assert.match(await browser.value(`document.getElementById("meaning").textContent`), /^The number is out of its range\. TOUR_SECTION lists/);
+        assert.match(await browser.value(`document.getElementById("meaning").textContent`), /^The number is out of range\. TOUR_SECTION lists/);
         assert.match(await browser.value(`document.getElementById("explanation").textContent`), /^zero\.tour:\d+: word \d+: Number OutOfRange\n/);
     },
     "a random tour of 100,000 nodes is drawn while the page answers": async (browser) => {

@@ -354,7 +354,7 @@ test("a refused tour has its place marked", async () => {
     const { status, report, scene, explanation } = run(library, { ...HARBOUR, solution });
     assert.deepEqual([status, report.reason, report.numbers], [Status.NO, "RepeatedNode", [6]]);
     assert.deepEqual([scene.marks.nodes, scene.missing], [[3], [5]]);
-    assert.match(explanation, /Place 6 is node 3, which is also at place 3/);
+    assert.match(explanation, /Place 6 has node 3, which is also at place 3/);
 });
 
 test("a faulty tour is explained, and the instance drawn", async () => {

@@ -1,4 +1,5 @@
--- The files of lemmas of this crate. Crates above may import them.
+-- Lemmas for Prim's algorithm (GrowingTrees), for rounds (RoundJoins), and for what the rounds search: boxes (Searches,
+-- Lowest) and lists (Listing).
 mod Prelude
 pub mod GrowingTrees
 pub mod Searches

@@ -1,4 +1,5 @@
--- The nearest node of another component, where multipliers lower the weights to listed nodes.
+-- The nearest node of another component if multipliers lower the weights to some nodes: these are looked at one by one
+-- (`Placed` in src/search.rt).
 use Rattle.tsp_bound.proofs.Prelude.{◌≡◌, ◌≢◌, ℕ, zero, suc, ◌+◌, ◌<◌, Bool, true, List, [], ◌∷◌, length, ℤ, ◌≤ℤ◌, ◌⊎◌, inl, inr, arith, ap, sym, subst, ◌∙◌, w64, slice_index_or, FitsSigned, cases_eq, ints, IsInner}
 use Rattle.tsp_bound.specs.declared.search.Best.{Best}
 use Rattle.tsp_bound.specs.states.Boxes.{node_of, IsFound, IsBest, IsSearched, no_best}

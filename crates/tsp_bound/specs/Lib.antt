@@ -1,4 +1,5 @@
--- The files of definitions of this crate. Crates above may import them.
+-- Definitions of the states that the algorithms for trees and duals go through; the bounds themselves are defined in
+-- tsp_theory.
 pub mod Prelude
 pub mod states
 pub mod Weighed

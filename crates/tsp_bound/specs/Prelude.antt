@@ -1,4 +1,4 @@
--- What the definitions and contracts of this crate use most of other crates, passed on from one place.
+-- Names from other crates that definitions and contracts here use often, re-exported so that a file needs one import.
 pub use Rattle.std.specs.List.{All, AllPairs}
 pub use Rattle.std.specs.Prelude.{Bool, IfOk, IfSome, IsTrue, List, MatchOption, MatchResult, None, Option, Some, false, length, map, neg_ℤ, not, pos, slice_index, slice_index_or, slice_set, suc, true, zero, ℕ, ℤ, []}
 pub use Rattle.tsp_format.specs.Limits.{most_multiplier, most_nodes, most_potential, most_scale, most_triples, most_weight}

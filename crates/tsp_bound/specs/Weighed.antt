@@ -1,4 +1,4 @@
--- The weight of a least 1-tree.
+-- The weight of a least 1-tree, without saying which tree: all that a bound needs.
 use Rattle.std.specs.Prelude.{◌≡◌, ℕ, List, ℤ}
 use Rattle.tsp_theory.specs.Tree.{weight_of, IsLeastOneTree}
 

@@ -1,4 +1,5 @@
-//! A box of space with nodes in it, and a number that is at most that of each of these nodes.
+//! `Area`: a box of space with nodes in it, and a number that is at most that of each of these
+//! nodes: all that a search knows of them before it looks at any.
 
 ghost use Rattle.tsp_bound.specs.Prelude.{pos, neg_ℤ, IsFromTo, most_number};
 

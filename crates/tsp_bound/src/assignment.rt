@@ -1,5 +1,6 @@
-//! The bound of the duals of rows and columns on the length of every cycle, under costs that need
-//! not be symmetric.
+//! The bound of a potentials file for an ATSP: the sum of the duals, after a test that no cost is
+//! too low for them. The first arc that is becomes the reason in the report. `IsDualBound` in
+//! tsp_theory pins the number.
 
 ghost use Rattle.tsp_bound.specs.Prelude.{ℕ, List, length, IsTrue, IfOk, MatchOption, MatchResult, IsNode, IsBoundSized, entry, AreGood, IsFirstBroken, IsDualBound};
 ghost use Rattle.std.specs.Prelude.{◌≡◌, ◌≢◌, ◌↔◌, ◌≤◌, ◌<◌, ◌≤ℤ◌, ◌<ℤ◌};
@@ -18,11 +19,12 @@ pub struct Infeasible {
     pub j: u32,
 }
 
-/// The least whole number that at the duals' scale is no less than the sum of them all, where row i
-/// and column j sum to at most the cost from i to j for all different nodes.
+/// The bound of the duals: the least whole number that, times their scale, is no less than their
+/// sum. For all different nodes i and j, the duals of row i and column j may sum to at most the
+/// cost from i to j.
 ///
-/// With two or more nodes no cycle is shorter than it. The costs from a node to itself don't
-/// matter. No memory is taken. Source: the dual of the assignment problem, H. W. Kuhn, The
+/// With two or more nodes, no cycle is shorter than the bound. The costs from a node to itself
+/// don't matter. No memory is taken. Source: the dual of the assignment problem, H. W. Kuhn, The
 /// Hungarian method for the assignment problem, 1955.
 ///
 /// # Requires
@@ -55,7 +57,7 @@ pub fn dual_bound<C: Costs>(c: &C, d: &Duals) -> Result<i128, Infeasible>
     Ok(least_bound(d.scale, rows + columns))
 }
 
-/// The first node other than i whose column sums with row i to more than the cost.
+/// The first node other than i whose column's dual, added to that of row i, exceeds the cost.
 fn first_broken_of_row<C: Costs>(c: &C, d: &Duals, i: u32) -> Option<u32>
     requires count { length (rows_of d.now) ≡ C.nodes c.now }
     requires row { IsNode (C.nodes c.now) i }
@@ -68,8 +70,8 @@ fn first_broken_of_row<C: Costs>(c: &C, d: &Duals, i: u32) -> Option<u32>
         → dual_of d.now i b ≤ℤ scaled d.now (C.at c.now) i b)) }
 {
     let row = d.rows[i as usize - 1];
-    // (each pair is compared first, the node's own too, so that what is the same for all pairs is
-    // looked up once)
+    // (every pair is compared before the node's own is left out, so that the loop has no branch for
+    // it and looks up the rest once)
     'columns: for j in 1..c.count() + 1 {
         if !fits(c, d, row, i, j) && i != j {
             return Some(j);
@@ -78,7 +80,8 @@ fn first_broken_of_row<C: Costs>(c: &C, d: &Duals, i: u32) -> Option<u32>
     None
 }
 
-/// Whether the number of row i, which the caller passes, and column j sum to at most the cost.
+/// Whether the dual of row i, which the caller passes, and that of column j sum to at most the
+/// cost.
 ///
 /// The limits of certificates and of weights let both sides fit 64 bits.
 #[inline]

@@ -1,4 +1,6 @@
-//! Least 1-trees, and their bound on the length of every cycle.
+//! The bound of a potentials file for a TSP: the weight of a least 1-tree, less what the potentials
+//! add to every tour, at the scale and rounded up (`IsAdjustedBound` in tsp_theory). Which of
+//! several least 1-trees is found is free.
 
 ghost use Rattle.tsp_bound.specs.Prelude.{ℕ, [], List, length, pos, neg_ℤ, IfOk, most_nodes, IsFromTo, IsBoundSized, AreOnPairs, UsesEach, IsAdjustedBoundOf, IsAdjustedBound, IsOneTree, IsLeastOneTree, weight_of, tree_of};
 ghost use Rattle.std.specs.Prelude.{◌≡◌, ◌≤◌, ◌+◌, ◌*◌, ◌^◌, ◌≤ℤ◌};
@@ -21,8 +23,8 @@ pub struct OneTree {
     pub edges: Vec<(u32, u32)>,
     /// The sum of their weights.
     pub weight: i128,
-    /// The least whole number that at the scale is no less than the weight without each
-    /// potential twice and with each multiplier.
+    /// The bound: the least whole number that, times the scale, is no less than the weight minus
+    /// each potential twice plus all multipliers.
     pub bound: i128,
 }
 
@@ -32,12 +34,12 @@ pub struct OneTree {
 /// of the pair. No cycle that uses each pair with a multiplier, in either direction, is shorter
 /// than the bound.
 ///
-/// A 1-tree is a tree over the nodes 2..n and two different edges at node 1. Which of several least
-/// ones is returned, and the order of its edges, is free. With no multipliers the bound is that of
-/// the potentials alone, and no cycle is shorter. Source: M. Held and R. M. Karp, The
-/// traveling-salesman problem and minimum spanning trees, 1970; the tree is joined in rounds as
-/// O. Boruvka's, 1926, or grown as R. C. Prim's, 1957. If nodes have places in space, regions of
-/// them take the place of most pairs, so that it asks for far fewer costs.
+/// A 1-tree is a tree over the nodes 2..n and two different edges at node 1. If several are least,
+/// any of them may be returned, with its edges in any order. Without multipliers, the bound is that
+/// of the potentials alone, and holds for every cycle. Source: M. Held and R. M. Karp, The
+/// traveling-salesman problem and minimum spanning trees, 1970. The tree is joined in rounds, as O.
+/// Boruvka did in 1926, or grown as R. C. Prim did in 1957. If nodes have places in space, regions
+/// rule out most pairs, so that far fewer costs are computed.
 ///
 /// # Requires
 ///
@@ -46,7 +48,7 @@ pub struct OneTree {
 ///
 /// # Errors
 ///
-/// Out of memory, of which it takes some for each node and for each multiplier.
+/// Out of memory. It allocates memory for each node and for each multiplier.
 pub fn one_tree<C: Symmetric>(
     alloc: Global,
     c: &C,
@@ -76,7 +78,7 @@ pub fn one_tree<C: Symmetric>(
 ///
 /// # Errors
 ///
-/// Out of memory, of which it takes some for each node and for each multiplier.
+/// Out of memory. It allocates memory for each node and for each multiplier.
 pub fn least_one_tree<C: Symmetric>(
     alloc: Global,
     c: &C,

@@ -1,5 +1,7 @@
-//! The forest of nodes that have points: the component of each node, and boxes to search for its
-//! nearest node. It implements `Components`, as `src/lists.rt` does without points.
+//! Components of a growing forest whose nodes have points: a tree of boxes finds the nearest node
+//! outside a component, and a tag on each box says whether one component fills it. A box that is
+//! left out by mistake would break `IsNearest`; how many are looked at matters only for speed.
+//! Without points, `lists.rt` does this work.
 
 ghost use Rattle.tsp_bound.specs.Prelude.{ℕ, true, length, IfOk, ℤ, List, Bool, None, Some, pos, neg_ℤ, IfSome, IsNode, IsFromTo, most_number, IsScale};
 ghost use Rattle.std.specs.Bool.{OnTrue};
@@ -17,7 +19,8 @@ use std::alloc::Global;
 use tsp_io::{Refused, filled, push, with_capacity};
 use tsp_theory::{Region, Site, Weights};
 
-/// Nodes in an order with labels, and the tree of boxes over all of them with its tags.
+/// The nodes in an order, each with the label of its component, and a tree of boxes over all of
+/// them. The tag of a box says which component fills it, if a single one does.
 #[derive(Drop)]
 pub(crate) struct Labelled<'a, W: BoxedWeights> {
     placed: Placed<'a, W>,
@@ -37,7 +40,7 @@ pub(crate) struct Labelled<'a, W: BoxedWeights> {
         placed.order.now (λ _. true) (area_at areas.items) } by { AreHeld-prop (W.place_of placed.w.now) (W.number_of placed.w.now) placed.order.now (λ _. true) (area_at areas.items) },
 }
 
-/// One label for each node, each another one: 0, 1, .., count - 1.
+/// A label for each node, all different: 0, 1, .., count - 1.
 ///
 /// # Errors
 ///
@@ -53,7 +56,7 @@ pub(crate) fn own_labels(alloc: Global, count: u32) -> Result<Vec<u32>, Refused>
     Ok(labels)
 }
 
-/// Gives each label its entry in a list.
+/// Replaces each label by the entry of `list` at that index.
 pub(crate) fn rename(labels: &mut [u32], list: &[u32])
     requires low { (x : ℕ) → x < length labels.old → label_at labels.old x < length list.now }
     ensures len { length labels.new ≡ length labels.old }
@@ -67,7 +70,8 @@ pub(crate) fn rename(labels: &mut [u32], list: &[u32])
 impl<'a, W: BoxedWeights> Labelled<'a, W> {
     ghost use Rattle.std.specs.Prelude.{IfSome};
 
-    /// Nodes that are a component each; none if the costs have no place for one.
+    /// A forest without edges, in which each node is a component; `None` if the costs give some
+    /// node no place.
     ///
     /// # Errors
     ///
@@ -99,7 +103,7 @@ impl<'a, W: BoxedWeights> Labelled<'a, W> {
     }
 }
 
-/// The boxes as one component sees them.
+/// The boxes as one component sees them: those that it fills look empty.
 #[derive(Drop)]
 struct Apart<'a> {
     labels: &'a [u32],
@@ -178,7 +182,7 @@ pub(crate) fn lesser(a: i64, b: i64) -> i64
     if a < b { a } else { b }
 }
 
-/// A box with the nodes of both boxes.
+/// The smallest box around both boxes.
 #[inline]
 fn joined(first: &Option<Area>, second: &Option<Area>) -> Option<Area>
     ensures left { (place : ℕ → Point) (number : ℕ → ℤ) (node : ℕ) → HoldsNode place number first.now node
@@ -198,7 +202,7 @@ fn joined(first: &Option<Area>, second: &Option<Area>) -> Option<Area>
     }
 }
 
-/// Fits a box to its halves.
+/// Recomputes the box `v` from its two halves.
 fn refit(areas: &mut Vec<Option<Area>>, count: usize, v: usize)
     requires low { 1 ≤ v }
     requires high { v < count }
@@ -211,7 +215,7 @@ fn refit(areas: &mut Vec<Option<Area>>, count: usize, v: usize)
     areas[v] = area;
 }
 
-/// The box of a node alone.
+/// The box around a single node.
 fn area_of(numbered: NumberedSite) -> Area
     requires { IsFromTo (neg_ℤ (pos most_number)) (pos most_number) numbered.number }
     ensures { (nodes : ℕ) (place : ℕ → Point) (number : ℕ → ℤ) → IsNumberedSite nodes place number numbered
@@ -256,10 +260,11 @@ fn boxes_of<W: BoxedWeights>(
 
 // ---- the label of the component of all nodes in a box, if it is one component
 
-/// The tag of a box with nodes of several labels. It is no label: there are fewer nodes.
+/// The tag of a box whose nodes have several labels. It isn't a label itself, because there are
+/// fewer nodes.
 const MIXED: u32 = u32::MAX;
 
-/// The tag of a box whose halves have these.
+/// The tag of a box, from those of its halves.
 #[inline]
 fn shared(first: u32, second: u32) -> u32
     ensures left { (label : ℕ) → IsTagOf first label → IsTagOf result label }
@@ -268,7 +273,7 @@ fn shared(first: u32, second: u32) -> u32
     if first == second { first } else { MIXED }
 }
 
-/// Tags a box by its halves.
+/// Recomputes the tag of a box from those of its halves.
 #[inline]
 fn retag(tags: &mut Vec<u32>, count: usize, v: usize)
     requires low { 1 ≤ v }
@@ -282,7 +287,7 @@ fn retag(tags: &mut Vec<u32>, count: usize, v: usize)
     tags[v] = tag;
 }
 
-/// Tags each box: the leaves by the labels of their nodes, each other one by its halves.
+/// Tags each box: a leaf by the label of its node, any other box by its halves.
 fn tag_boxes(labels: &[u32], tags: &mut Vec<u32>)
     requires few { length labels.now < 2 ^ 31 }
     requires len { length tags.old.items ≡ 2 * length labels.now }
@@ -302,8 +307,8 @@ fn tag_boxes(labels: &[u32], tags: &mut Vec<u32>)
 
 // ---- a node with its point and its potential, or another number that it adds to the weights
 
-/// A node with its point, and the number that it adds to weights: its potential, less the
-/// multipliers of its sets if it is in any.
+/// A node with its point, and the number that it adds to the weight of each of its edges: its
+/// potential, less the multipliers of the sets that contain it.
 #[derive(Clone, Copy, Debug)]
 pub struct NumberedSite {
     /// The node and its place.
@@ -314,8 +319,8 @@ pub struct NumberedSite {
 
 // ---- the nodes of an order with their points and numbers, next to each other in memory
 
-/// The nodes of an order with their places and numbers, next to each other in memory as a search
-/// reads them; none if a node has no place.
+/// The nodes of an order with their places and numbers, next to each other in memory, as a search
+/// reads them; `None` if some node has no place.
 ///
 /// # Errors
 ///
@@ -342,11 +347,11 @@ fn numbered_sites_of<W: BoxedWeights>(
 
 // ---- the trait of weights that a box bounds for all of its nodes at once
 
-/// Weights of which each is at least the cost at a scale and the numbers of both nodes, but for
-/// those of some pairs, which are lowered and listed by node.
+/// Weights that are at least the cost at the scale plus the numbers of both nodes, except for some
+/// pairs whose weights are lower, and which are listed by node.
 ///
-/// So a region, with the least number of its nodes, bounds the weights to all of them at once. A
-/// search looks at single pairs only in regions that this doesn't rule out.
+/// So a region, together with the least number of its nodes, gives a lower bound on the weights to
+/// all of them. A search looks at single pairs only in regions that this bound doesn't rule out.
 pub trait BoxedWeights: Weights {
     ghost place_of: { Self → ℕ → Point };
 
@@ -380,8 +385,8 @@ pub trait BoxedWeights: Weights {
     /// Out of memory.
     fn order(&self, alloc: Global) -> Result<Vec<u32>, Refused>;
 
-    /// Whether the costs from a node are next to each other in memory, as a help alone: nothing is
-    /// promised of it.
+    /// Whether the costs from a node are next to each other in memory. Only a hint: the contract
+    /// promises nothing.
     fn has_rows(&self) -> bool {
         false
     }
@@ -392,8 +397,7 @@ pub trait BoxedWeights: Weights {
         ensures { IfSome result (λ site. (site.node ≡ node)
             × IsSite (Self.nodes self.now) (place_of self.now) site) };
 
-    /// Whether each node whose place is in the region costs at least `least` from a node, if
-    /// that is known.
+    /// Whether every node in the region is known to cost at least `least` from a node.
     fn is_beyond(&self, from: &Site, region: &Region, least: i64) -> bool
         requires { IsSite (Self.nodes self.now) (place_of self.now) from.now }
         ensures beyond { OnTrue result ((to : ℕ) → IsNode (Self.nodes self.now) to
@@ -403,8 +407,8 @@ pub trait BoxedWeights: Weights {
             +ℤ (number_of self.now from.now.node +ℤ number_of self.now to))
             ≤ℤ unlowered self.now from.now.node to };
 
-    /// The weight between two nodes before it is lowered, if that is less than `most`; else a
-    /// number that isn't less.
+    /// The weight between two nodes before any lowering, if it is less than `most`; otherwise some
+    /// number that isn't less than `most`.
     fn weight_within(&self, from: &NumberedSite, to: &NumberedSite, most: i64) -> i64
         requires from { IsNumberedSite (Self.nodes self.now) (place_of self.now) (number_of self.now) from.now }
         requires to { IsNumberedSite (Self.nodes self.now) (place_of self.now) (number_of self.now) to.now }
@@ -412,7 +416,7 @@ pub trait BoxedWeights: Weights {
         ensures no_less { most ≤ℤ result
             → most ≤ℤ unlowered self.now from.now.site.node to.now.site.node };
 
-    /// How many nodes are listed at a node: those to which its weight may be lowered.
+    /// How many nodes are listed for a node: those to which its weight may be lower.
     fn count_lowered(&self, from: u32) -> usize
         requires { IsNode (Self.nodes self.now) from }
         ensures value { result ≡ length (lowered_of self.now from) }
@@ -422,7 +426,7 @@ pub trait BoxedWeights: Weights {
             → ((k : ℕ) → k < length (lowered_of self.now from) → node_in (lowered_of self.now from) k ≢ to)
             → Self.at self.now from to ≡ unlowered self.now from to };
 
-    /// One of these nodes, and the weight to it.
+    /// One of the listed nodes, and the weight to it.
     fn lowered(&self, from: u32, index: usize) -> (u32, i64)
         requires from { IsNode (Self.nodes self.now) from }
         requires index { index < length (lowered_of self.now from) }

@@ -1,4 +1,5 @@
-//! The multipliers of fixed edges, listed at both nodes of each.
+//! The multipliers of fixed edges, listed at both nodes of each, so that a row of weights is
+//! lowered without a search (`lowered_by` in `specs/states/ByNode.antt`).
 
 ghost use Rattle.tsp_bound.specs.Prelude.{[], pos, IfOk, All, AllPairs, most_multiplier, IsFromTo, IsMultiplier, AreMultipliers, AreOnPairs};
 ghost use Rattle.std.specs.Prelude.{◌≡◌, ◌≢◌, ◌-◌, ◌<◌, ◌^◌};
@@ -8,7 +9,7 @@ use crate::potentials::Multipliers;
 use std::alloc::Global;
 use tsp_io::{Refused, push, with_capacity};
 
-/// Multipliers, and for each node those of its pairs.
+/// The multipliers, along with a list for each node of those on its edges.
 #[derive(Drop)]
 pub(crate) struct ByNode<'a> {
     nodes: u32,
@@ -28,7 +29,7 @@ impl<'a> ByNode<'a> {
     ///
     /// # Errors
     ///
-    /// Out of memory, of which it takes some for each node and each pair.
+    /// Out of memory. It allocates memory for each node and each pair.
     pub(crate) fn of(alloc: Global, nodes: u32, m: &Multipliers<'a>) -> Result<ByNode<'a>, Refused>
         requires few { nodes < 2 ^ 32 - 1 }
         requires on_pairs { AreOnPairs nodes (triples_of m.now) }
@@ -50,14 +51,15 @@ impl<'a> ByNode<'a> {
         ensures said { result.now ≡ all_said_of node (triples_in self.now) }
         ensures sums { (x : ℕ) → lowered_by result.now x ≡ numbers_on (triples_in self.now) node x }
     {
-        // Without multipliers all lists are empty. A search over points then reads none of them.
+        // Without multipliers all lists are empty, and a search over points never reads them.
         if self.triples.is_empty() {
             return &[];
         }
         self.lists[node as usize].as_slice()
     }
 
-    /// What the multiplier of a pair lowers its weight by, by the shorter list of its two nodes.
+    /// How much the multiplier of a pair lowers its weight. The shorter of the two nodes' lists is
+    /// searched.
     pub(crate) fn between(&self, i: u32, j: u32) -> i64
         requires from { IsNode (node_count self.now) i }
         requires to { IsNode (node_count self.now) j }
@@ -73,7 +75,7 @@ impl<'a> ByNode<'a> {
     }
 }
 
-/// What a list lowers the weight to a node by.
+/// How much a node's list lowers the weight to another node.
 pub(crate) fn lowered_by(lowerings: &[(u32, i64)], node: u32) -> i64
     requires once { AllPairs (λ a b. a.0 ≢ b.0) lowerings.now }
     requires each { All (λ lowering. IsFromTo (pos 0) (pos most_multiplier) lowering.1) lowerings.now }
@@ -88,7 +90,8 @@ pub(crate) fn lowered_by(lowerings: &[(u32, i64)], node: u32) -> i64
     0
 }
 
-/// For each node from 0 to `nodes` the other node and the number of each triple that has it.
+/// For each node from 0 to `nodes`, the triples that contain it, each as its other node and its
+/// number.
 fn lists_of(
     alloc: Global,
     nodes: u32,

@@ -3,8 +3,8 @@
 //!
 //! A least tree grows row by row (`tree`), or in rounds over boxes of points or lists of light
 //! edges (`rounds`). Potentials, with multipliers or without, give a bound by a least 1-tree
-//! (`bound`), and duals by weak duality (`assignment`). It knows costs by their traits alone, and
-//! searches for no certificates.
+//! (`bound`), and duals by weak duality (`assignment`). It knows costs only by their traits, and
+//! doesn't search for certificates.
 //!
 //! ```text
 //! let tree = one_tree(alloc, &costs, &potentials, &multipliers)?;

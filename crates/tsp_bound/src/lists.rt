@@ -1,5 +1,6 @@
-//! The twelve lightest edges of each node, by one pass over all pairs, and the forest of nodes without
-//! points, which grows by them.
+//! Components of a growing forest whose nodes have no points: one pass over all pairs keeps the
+//! twelve lightest edges of each node, and only a node whose twelve lead nowhere looks at all its
+//! pairs again. The tree is a least one with any number in place of twelve.
 
 ghost use Rattle.std.specs.Prelude.{◌≡◌, ◌≤◌, ◌<◌, ◌+◌, ◌*◌, ◌^◌, ℕ, length};
 ghost use Rattle.tsp_bound.specs.states.Components.{label_at, weight_over, AreOffered, IsPut, IsTaken};
@@ -11,24 +12,24 @@ use std::alloc::Global;
 use tsp_io::{Refused, filled};
 use tsp_theory::weight_in;
 
-/// How many links of each place are kept. Clauses here, specs/states/Components.antt and proofs say
-/// 12: change all of these.
+/// How many edges are kept for each place. Clauses here, `specs/states/Components.antt` and proofs
+/// contain the number 12, too, so change all of them together.
 const KEPT: usize = 12;
 
-/// How many columns of the rows are passed at a time.
+/// How many columns of the rows are passed over at a time.
 ///
-/// If a matrix lists its lower half, a row is a column of memory: the lines that one row reads
-/// are read again by the next ones.
+/// If a matrix lists its lower half, a row is a column of memory, and the next rows read the same
+/// cache lines again.
 const COLUMNS: usize = 256;
 
-/// The places of the columns that are passed at a time: those before `last`, from `first` on.
+/// The columns of one pass: the places from `first` on and before `last`.
 #[derive(Clone, Copy)]
 struct Columns {
     first: usize,
     last: usize,
 }
 
-/// The heaviest of the twelve links from a place in the list on.
+/// The index of the heaviest of the twelve links that begin at `first`.
 fn heaviest(links: &[Link], first: usize) -> usize
     requires { first + 12 ≤ length links.now }
     ensures low { first ≤ result }
@@ -43,8 +44,8 @@ fn heaviest(links: &[Link], first: usize) -> usize
     found
 }
 
-/// Puts a link in the place of the heaviest one of its place, whose number is then no more than the
-/// weight of each link that isn't kept.
+/// Replaces the heaviest link of the link's own place. The bound of that place is then no more than
+/// the weight of any link that isn't kept.
 fn put(links: &mut [Link], bounds: &mut [i64], link: Link)
     requires long { length links.old ≡ 12 * length bounds.old }
     requires from { link.from < length bounds.old }
@@ -60,7 +61,7 @@ fn put(links: &mut [Link], bounds: &mut [i64], link: Link)
     bounds[place] = lesser(dropped, left);
 }
 
-/// Takes a link into the list of its place, if it weighs less than one of these.
+/// Keeps a link if it weighs less than one of those kept for its place.
 #[inline]
 fn take(links: &mut [Link], bounds: &mut [i64], link: Link)
     requires long { length links.old ≡ 12 * length bounds.old }
@@ -73,7 +74,7 @@ fn take(links: &mut [Link], bounds: &mut [i64], link: Link)
     }
 }
 
-/// Takes the links between a place and the later ones in the columns, in both directions.
+/// Offers the links between a place and each later place of the columns, in both directions.
 fn take_row<W: BoxedWeights>(
     placed: &Placed<W>,
     row: &mut [i64],
@@ -123,7 +124,7 @@ fn take_row<W: BoxedWeights>(
     }
 }
 
-/// Takes the links of which the later place is in the columns.
+/// Offers all links whose later place is in the columns.
 fn take_columns<W: BoxedWeights>(
     placed: &Placed<W>,
     row: &mut [i64],
@@ -149,7 +150,7 @@ fn take_columns<W: BoxedWeights>(
     }
 }
 
-/// Takes the links of all pairs.
+/// Offers the links of all pairs, columns by columns.
 fn take_all<W: BoxedWeights>(
     placed: &Placed<W>,
     row: &mut [i64],
@@ -175,8 +176,8 @@ fn take_all<W: BoxedWeights>(
 
 // ---- the forest of nodes without points
 
-/// Nodes in an order with labels, the least links of each place, and for each a number that no
-/// other link of it is below.
+/// The nodes in an order, each with the label of its component, its lightest links, and a number
+/// that no other link of it is below.
 #[derive(Drop)]
 pub(crate) struct Listed<'a, W: BoxedWeights> {
     placed: Placed<'a, W>,
@@ -196,8 +197,8 @@ impl<'a, W: BoxedWeights> Listed<'a, W> {
     ghost use Rattle.tsp_bound.specs.states.Components.{IsKeptLink};
     ghost use Rattle.tsp_bound.specs.states.Components.{kept_at, IsOwnLink};
 
-    /// Nodes that are a component each, with their least links. The row that is lent is written
-    /// over.
+    /// A forest without edges, in which each node is a component, along with each node's lightest
+    /// links. `row` is scratch space and is overwritten.
     ///
     /// # Errors
     ///
@@ -232,7 +233,8 @@ impl<'a, W: BoxedWeights> Listed<'a, W> {
         })
     }
 
-    /// The least kept link of a place to another component; if there is none, its heaviest link.
+    /// The lightest kept link from a place to another component; if there is none, its heaviest
+    /// link.
     fn best_kept(&self, from: u32) -> Link
         requires { from < length self.now.placed.order.now }
         ensures own { IsOwnLink (length self.now.placed.order.now)
@@ -257,7 +259,7 @@ impl<'a, W: BoxedWeights> Listed<'a, W> {
         }
     }
 
-    /// The least link from a place to another component, by all its pairs.
+    /// The lightest link from a place to another component, found by looking at all its pairs.
     fn least_of_all(&self, from: u32) -> Option<Link>
         requires { from < length self.now.placed.order.now }
         ensures { IfSome result (IsKeptLink (length self.now.placed.order.now)
@@ -301,8 +303,8 @@ impl<W: BoxedWeights> Components for Listed<'_, W> {
         self.labels[node as usize]
     }
 
-    /// The least link to another component: a kept one if no other can weigh less, else by all
-    /// pairs.
+    /// The lightest link to another component: a kept one if no other can weigh less, otherwise the
+    /// result of looking at all pairs.
     fn nearest(&self, from: u32, near: u32, most: i64, steps: &mut u64) -> Option<Link> {
         let link = self.best_kept(from);
         if link.weight != i64::MAX

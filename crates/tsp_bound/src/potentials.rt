@@ -1,5 +1,6 @@
-//! Certificates of a bound: potentials of nodes with multipliers of fixed edges, for symmetric costs,
-//! and duals of an assignment.
+//! The numbers of a potentials file, once they are known to be within its limits: `Potentials` and
+//! `Multipliers` for symmetric costs, `Duals` for any costs. `new` tests the limits, and after it
+//! sums and weights fit their integers with no further test.
 
 ghost use Rattle.tsp_bound.specs.Prelude.{All, IsTrue, length, pos, neg_ℤ, most_nodes, most_potential, most_triples, most_multiplier, most_scale, most_weight, IsNode, IsFromTo, triples_total, AreNodePotentials, IsMultiplier, AreMultipliers, IsScale, ArePotentials, total, IsLeastBound, IsBoundSized, AreDuals};
 ghost use Rattle.std.specs.Prelude.{◌↔◌, ◌≡◌, ◌≤◌, ◌*◌, ◌^◌, ◌*ℤ◌, ◌≤ℤ◌};
@@ -7,7 +8,7 @@ ghost use Rattle.std.specs.Prelude.{◌↔◌, ◌≡◌, ◌≤◌, ◌*◌, �
 use tsp_format::{MOST_MULTIPLIER, MOST_MULTIPLIERS, MOST_POTENTIAL, MOST_SCALE};
 use tsp_theory::Costs;
 
-/// A number for each node, at a scale.
+/// Potentials: a number for each node, as a multiple of 1 / scale.
 #[derive(Clone, Copy, Debug)]
 pub struct Potentials<'a> {
     pub(crate) scale: i64,
@@ -46,7 +47,7 @@ impl<'a> Potentials<'a> {
 
     /// The weight between two nodes: the cost at the scale, and the potentials of both.
     ///
-    /// The limits of certificates and of weights let it fit 64 bits.
+    /// It fits 64 bits because certificates and weights have limits.
     #[inline]
     pub(crate) fn weight<C: Costs>(&self, c: &C, i: u32, j: u32) -> i64
         requires count { length (numbers_of self.now) ≡ C.nodes c.now }
@@ -76,7 +77,7 @@ impl<'a> Potentials<'a> {
 
 // ---- multipliers of fixed edges
 
-/// A number for each of some pairs of nodes, as triples of two nodes and the number.
+/// Multipliers: numbers on some pairs of nodes, as triples of two nodes and the number.
 #[derive(Clone, Copy, Debug)]
 pub struct Multipliers<'a> {
     pub(crate) triples: &'a [(u32, u32, i64)],
@@ -89,8 +90,8 @@ impl<'a> Multipliers<'a> {
 
     /// The multipliers of these triples, each number a count of 1 / scale.
     ///
-    /// None if there are more than 100,000, a number isn't from 0 to 10^15, or the two nodes of
-    /// a triple are the same, and only there. No memory is taken.
+    /// `None` exactly if there are more than 100,000, a number isn't from 0 to 10^15, or the two
+    /// nodes of a triple are the same. No memory is taken.
     pub fn new(l: &'a [(u32, u32, i64)]) -> Option<Multipliers<'a>>
         ensures { MatchOption result (AreMultipliers l.now → ⊥)
             (λ made. AreMultipliers l.now × (triples_of made ≡ l.now)) }
@@ -153,14 +154,14 @@ pub(crate) fn total_of(triples: &[(u32, u32, i64)]) -> i128
     sum
 }
 
-/// The least whole number that at a scale is no less than a sum.
+/// The least whole number that, times the scale, is no less than the sum.
 pub(crate) fn least_bound(scale: i64, sum: i128) -> i128
     requires scale { IsScale scale }
     requires size { IsFromTo (neg_ℤ (pos (2 ^ 100))) (pos (2 ^ 100)) sum }
     ensures value { IsLeastBound scale sum result }
     ensures size { IsBoundSized result }
 {
-    // Euclid's quotient rounds down, so that of the negative sum rounds up.
+    // Euclidean division rounds down, so dividing the negated sum rounds up.
     -(-sum).div_euclid(i128::from(scale))
 }
 
@@ -209,8 +210,8 @@ impl<'a> Duals<'a> {
 
     /// The duals of these numbers of rows and of columns, each a count of 1 / scale.
     ///
-    /// None if the scale isn't from 1 to 1,000,000, a number is larger than 10^15 in size, or
-    /// there aren't as many numbers of rows as of columns; and only there.
+    /// `None` exactly if the scale isn't from 1 to 1,000,000, a number is larger than 10^15 in
+    /// size, or the numbers of rows and columns differ in length.
     pub fn new(scale: i64, u: &'a [i64], v: &'a [i64]) -> Option<Duals<'a>>
         ensures { MatchOption result (AreDuals scale u.now v.now → ⊥)
             (λ d. AreDuals scale u.now v.now × (dual_scale d ≡ scale)

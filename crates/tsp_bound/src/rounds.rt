@@ -1,5 +1,7 @@
-//! A least tree over the nodes 2 to n: in rounds, by boxes or by lists of lightest edges, or pair
-//! by pair.
+//! Grows a least tree over the nodes 2 to n in rounds, as O. Boruvka did in 1926: in each round
+//! every component takes its lightest edge. If a budget of steps is used up, the tree grows pair by
+//! pair instead (`tree.rt`). Budgets and orders decide about speed; that the tree is least is
+//! `IsWholeForest` in tsp_theory.
 
 ghost use Rattle.tsp_bound.specs.Prelude.{All, ℕ, length, slice_index_or, map, pos, neg_ℤ, IfOk, IfSome, true, false, MatchOption, ℤ, most_nodes, IsNode, IsFromTo, IsSumSized, IsInner, weight_of};
 ghost use Rattle.std.specs.Bool.{OnTrue};
@@ -18,8 +20,8 @@ use tsp_io::{Refused, filled, push, with_capacity};
 /// A least tree over the nodes 2..n: each pair leads from a part that no earlier pair leaves to a
 /// node outside it, and no such pair weighs less.
 ///
-/// All nodes are joined in rounds. If that takes too many steps, a tree grows from node 2 pair
-/// by pair. A row of one place more than there are nodes is lent for both.
+/// All nodes are joined in rounds. If that takes too many steps, a tree grows from node 2, pair by
+/// pair. Both use `row` as scratch space, with one place more than there are nodes.
 ///
 /// # Errors
 ///
@@ -62,8 +64,8 @@ fn nodes_from_two(alloc: Global, count: u32) -> Result<Vec<u32>, Refused>
     Ok(nodes)
 }
 
-/// The nodes 2..n in an order in which near ones are near each other, or from 2 on, if there is
-/// no such order of as many nodes.
+/// The nodes 2..n in an order in which near ones are close together; if the weights have no such
+/// order, by their numbers.
 ///
 /// # Errors
 ///
@@ -79,8 +81,8 @@ fn inner_order<W: BoxedWeights>(alloc: Global, w: &W) -> Result<Vec<u32>, Refuse
     nodes_from_two(alloc, w.count())
 }
 
-/// A least tree by rounds, and its weight; none if the order isn't one of all the nodes, or it
-/// would take too many steps.
+/// A least tree, grown in rounds, and its weight; `None` if the order doesn't contain each node
+/// once, or if the rounds would take too many steps.
 ///
 /// # Errors
 ///
@@ -96,7 +98,7 @@ fn joined<W: BoxedWeights>(alloc: Global, w: &W, row: &mut [i64]) -> Result<Opti
     joined_over(alloc, w, &order, row)
 }
 
-/// A least tree by rounds over the nodes of this order, with the result of `joined`.
+/// What `joined` returns, over the nodes of this order.
 fn joined_over<W: BoxedWeights>(
     alloc: Global,
     w: &W,
@@ -119,9 +121,9 @@ fn joined_over<W: BoxedWeights>(
     Ok(Some(grown))
 }
 
-/// The pairs of places of a least tree: over the boxes of the nodes, or by the least links of each
-/// if a node has no place. None if that would take too many steps, or if a node has no
-/// place and rows are next to each other: a growth pair by pair is quicker then.
+/// The pairs of places of a least tree, found by boxes, or by the lightest links of each node if
+/// some node has no place. `None` if that would take too many steps, or if some node has no place
+/// but rows are next to each other in memory: growing pair by pair is faster then.
 fn pairs_over<W: BoxedWeights>(
     alloc: Global,
     w: &W,
@@ -142,7 +144,8 @@ fn pairs_over<W: BoxedWeights>(
     if let Some(mut nodes) = Labelled::new(alloc, Placed::new(w, order, places))? {
         return grow_by_rounds(alloc, &mut nodes, most_boxes(w.count()));
     }
-    // If rows are near, the growth pair by pair is quicker than a list for each node.
+    // If rows are next to each other in memory, growing pair by pair is faster than a list for each
+    // node.
     if w.has_rows() {
         return Ok(None);
     }
@@ -150,20 +153,20 @@ fn pairs_over<W: BoxedWeights>(
     grow_by_rounds(alloc, &mut nodes, most_pairs(w.count()))
 }
 
-/// How many boxes the rounds over this many nodes may look at: a part of the work that the growth
-/// pair by pair takes, and about as much for some thousand nodes.
+/// How many boxes the rounds may look at for this many nodes: a fraction of the work of growing
+/// pair by pair, and about as much for a few thousand nodes.
 fn most_boxes(count: u32) -> u64 {
     let nodes = u64::from(count);
     (nodes * nodes / 4).max(600 * nodes)
 }
 
-/// How many pairs the rounds over this many nodes may look at again: a part of all of them.
+/// How many pairs the rounds may look at again for this many nodes: a fraction of all pairs.
 fn most_pairs(count: u32) -> u64 {
     let nodes = u64::from(count);
     nodes * nodes / 8
 }
 
-/// The pairs of the nodes at pairs of places, and the sum of their weights.
+/// The nodes at these pairs of places, as pairs, and the sum of their weights.
 ///
 /// # Errors
 ///
@@ -198,16 +201,17 @@ fn weighed<W: BoxedWeights>(
 
 // ---- the growth of a forest into a tree
 
-/// As many rounds as any tree takes: in each one at least half of the components vanish.
+/// As many rounds as any tree can take: each one at least halves the number of components.
 const MOST_ROUNDS: u32 = 32;
 
-/// Joins all nodes by pairs, for about as many steps of search as the budget allows. Each pair
-/// leads from a component of the pairs before it to another one, and no such pair weighs less. None
-/// if the budget is exhausted.
+/// Joins all nodes by pairs, within a budget of search steps. Each pair leads from a component of
+/// the earlier pairs to another one, and no such pair weighs less. `None` if the budget is
+/// exhausted.
 ///
-/// Each node keeps the least link that a search found for it. Components only grow, so no pair from
-/// it to another component weighs less. A new search is needed only if the link no longer leads to
-/// another component and weighs less than the best link of its own.
+/// Each node keeps the lightest link that a search found for it. Components only grow, so no link
+/// from the node to another component weighs less. A new search is needed only if that link no
+/// longer leads to another component and weighs less than the best link of the node's own
+/// component.
 ///
 /// # Errors
 ///
@@ -241,7 +245,7 @@ fn grow_by_rounds<P: Components>(
     Ok(None)
 }
 
-/// The least link of each node to another component; none if the budget is exhausted.
+/// The lightest link from each node to another component; `None` if the budget is exhausted.
 ///
 /// # Errors
 ///
@@ -270,8 +274,8 @@ fn first_links<P: Components>(
     Ok(Some(known))
 }
 
-/// Searches for the links again that are better than the best of their components, and takes what
-/// it finds into account. False if the budget is exhausted.
+/// Searches again for each link that would be better than the best of its component, and updates
+/// the best ones. `false` if the budget is exhausted.
 fn search_again<P: Components>(
     nodes: &P,
     known: &mut Vec<Link>,
@@ -339,7 +343,7 @@ fn weight_of(best: Option<Link>) -> i64 {
     }
 }
 
-/// The lighter one of a link and the best one, if there is one.
+/// The lighter of a link and the best one, if there is one.
 #[inline]
 pub(crate) fn better(best: Option<Link>, link: Link) -> Link
     ensures { IsOffered best link result }
@@ -350,7 +354,7 @@ pub(crate) fn better(best: Option<Link>, link: Link) -> Link
     }
 }
 
-/// The best link of each component, by label, of those that lead to another component.
+/// The best link of each component, by label, among those that lead to another component.
 ///
 /// # Errors
 ///
@@ -375,9 +379,9 @@ fn best_of<P: Components>(
     Ok(best)
 }
 
-/// Adds the best link of each component that is met for the first time, as the one it is of or the
-/// one it leads to. Returns for each label the new one, which a component takes over from the one
-/// that its link leads to.
+/// Goes over the components, and adds the best link of each one that no link of this round has met
+/// so far, at either end. Returns the new label for each old one: a component takes the label of
+/// the component to which its link leads.
 ///
 /// # Errors
 ///
@@ -433,16 +437,16 @@ pub(crate) trait Components {
         requires { node < count_of self.now }
         ensures { result ≡ label_of self.now node };
 
-    /// A link from the node that weighs no more than any to another component: the least of these,
-    /// but perhaps if none weighs less than `most`. None if there is none. It adds to `steps`
-    /// what the search took, which begins at the node `near`.
+    /// A link from the node that weighs no more than any other to another component: the lightest
+    /// one, except that if none weighs less than `most` it may be another. `None` if there is none.
+    /// The search begins at the node `near`, and adds its steps to `steps`.
     fn nearest(&self, from: u32, near: u32, most: i64, steps: &mut u64) -> Option<Link>
         requires from { from < count_of self.now }
         requires near { near < count_of self.now }
         ensures { IfSome result
             (IsKeptLink (count_of self.now) (weight_of self.now) (label_of self.now) from) };
 
-    /// Gives each component a new label: the entry of its old one.
+    /// Replaces the label of each component by the entry of `labels` at that index.
     fn relabel(&mut self, labels: &[u32])
         requires len { length labels.now ≡ count_of self.old }
         requires low { (c : ℕ) → c < count_of self.old → label_at labels.now c < count_of self.old }
@@ -454,8 +458,8 @@ pub(crate) trait Components {
 
 // ---- the place of each node in an order, or nothing if the order does not have each node
 
-/// The place of each node of 2..last in the list; none if the list doesn't have each of them
-/// just once. How the list was put in order needs no proof then.
+/// The place of each node of 2..last in the list; `None` if the list doesn't contain each of them
+/// exactly once. Because of this test, nothing has to be proved about how the list was ordered.
 ///
 /// # Errors
 ///

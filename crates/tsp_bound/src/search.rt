@@ -1,10 +1,10 @@
 //! The search for the nearest node in another component, by a tree of boxes over the nodes in an
-//! order (`Placed`). `boxes.rt` implements `Seen`, the tree; `Link`, an edge that was found, is for
-//! `lists.rt` and `rounds.rt` too.
+//! order (`Placed`). `boxes.rt` implements `Seen`, the tree. `Link`, an edge that was found, is
+//! what `lists.rt` and `rounds.rt` deal in, too.
 //!
 //! A place is the index of a node in the order. A node is outside if its component isn't that of
-//! the node the search starts from. `steps` counts the boxes and nodes that a search looks at. Past
-//! a budget the tree grows pair by pair instead (`rounds.rt`), so `steps` affects only speed.
+//! the node from which the search starts. `steps` counts the boxes and nodes that are looked at;
+//! past a budget `rounds.rt` gives the search up, so `steps` affects only speed.
 
 ghost use Rattle.tsp_bound.specs.Prelude.{ℕ, length, slice_index_or, Bool, Option, None, Some, MatchOption, IsNode, IsScale, IsInner};
 ghost use Rattle.std.specs.Bool.{OnTrue};
@@ -16,7 +16,7 @@ ghost use Rattle.tsp_bound.specs.states.Potentials.{IsInverse};
 use crate::area::Area;
 use crate::boxes::{BoxedWeights, NumberedSite};
 
-/// An order of the nodes 2..n, the place of each in it, and what gives the weights between them.
+/// The nodes 2..n in an order, the place of each node in it, and the weights between them.
 #[derive(Drop)]
 pub(crate) struct Placed<'a, W: BoxedWeights> {
     pub(crate) w: &'a W,
@@ -36,7 +36,7 @@ impl<'a, W: BoxedWeights> Placed<'a, W> {
     ghost use Rattle.tsp_bound.specs.states.Boxes.{HoldsNode, AreHeld, IsBest};
     ghost use Rattle.tsp_bound.specs.states.Components.{IsNearest};
 
-    /// The nodes of an order, with the place of each.
+    /// The nodes of an order, along with their places.
     pub(crate) fn new(w: &'a W, order: &'a [u32], places: &'a [u32]) -> Placed<'a, W>
         requires long { length places.now ≡ W.nodes w.now + 1 }
         requires numbering { IsNumbering (length order.now) (IsInner (W.nodes w.now)) (node_of order.now)
@@ -48,8 +48,9 @@ impl<'a, W: BoxedWeights> Placed<'a, W> {
         Placed { w, order, places }
     }
 
-    /// The least link from a node to one outside, by places, or none. It adds to `steps` what the
-    /// search took, which begins at the place `near`. The numbered sites are those of the order.
+    /// The lightest link from a node to one outside, by places, if there is one. The search begins
+    /// at the place `near`, and adds its steps to `steps`. The numbered sites are those of the
+    /// order.
     pub(crate) fn nearest<S: Seen>(
         &self,
         sites: &[NumberedSite],
@@ -91,7 +92,7 @@ impl<'a, W: BoxedWeights> Placed<'a, W> {
         })
     }
 
-    /// The place of a node that is outside, else none.
+    /// The place of a node if it is outside.
     fn place_outside<S: Seen>(&self, seen: &S, node: u32) -> Option<usize>
         requires node { IsNode (W.nodes self.now.w.now) node }
         requires as_many { S.count_of seen.now ≡ length self.now.order.now }
@@ -113,10 +114,10 @@ impl<'a, W: BoxedWeights> Placed<'a, W> {
         }
     }
 
-    /// The best node, if it is known before weights are lowered: the nodes to which they are may
-    /// be better.
+    /// The better of the best node before lowering and the nodes to which weights are lowered, any
+    /// of which may be nearer.
     ///
-    /// It adds to `steps` how many these are.
+    /// It adds the number of the latter to `steps`.
     fn lowered<S: Seen>(&self, seen: &S, from: u32, unlowered: Best, steps: &mut u64) -> Best
         requires from { from < length self.now.order.now }
         requires as_many { S.count_of seen.now ≡ length self.now.order.now }
@@ -149,11 +150,11 @@ pub(crate) struct Best {
     pub(crate) place: usize,
 }
 
-/// The best of all nodes outside: from the leaf of a place on, each box above it and its other
-/// half.
+/// The best of all nodes outside: starts at the leaf of a place, and goes up, looking at the other
+/// half of each box above it.
 ///
-/// The node at the place `near` is looked at first, if it is outside: a good one leaves more
-/// boxes alone. `steps` counts the boxes.
+/// The node at the place `near` is looked at first if it is outside, because a good node lets the
+/// search skip more boxes. `steps` counts the boxes.
 fn nearest_from<W: BoxedWeights, S: Seen>(
     search: &Search<W, S>,
     place: usize,
@@ -187,7 +188,7 @@ fn nearest_from<W: BoxedWeights, S: Seen>(
 
 const TWO_TO_64: u128 = 18_446_744_073_709_551_616;
 
-/// 2^64 over a scale, rounded up; of the scale 1, nothing.
+/// 2^64 / scale, rounded up; `None` for scale 1.
 fn inverse_of(scale: i64) -> u64
     requires { IsScale scale }
     ensures { IsInverse scale result }
@@ -198,8 +199,9 @@ fn inverse_of(scale: i64) -> u64
     u64::MAX / scale as u64 + 1
 }
 
-/// A cost that at the scale is no less than a weight: most often the least one.
-// (by the inverse of the scale, since a division takes longer than all else that is done for a box)
+/// A cost that, times the scale, is no less than a weight: in most cases the least such cost.
+// (multiplying by the inverse of the scale, because a division would take longer than everything
+// else that is done for a box)
 #[inline]
 fn cost_of(scale: i64, inverse: u64, weight: i64) -> i64
     requires scale { IsScale scale }
@@ -216,7 +218,7 @@ fn cost_of(scale: i64, inverse: u64, weight: i64) -> i64
     (product / TWO_TO_64) as i64 + 1
 }
 
-/// The node that a search is from, and the nodes and boxes that it looks at.
+/// A search: the node that it starts from, and the nodes and boxes that it looks at.
 #[derive(Drop)]
 pub(crate) struct Search<'a, W: BoxedWeights, S: Seen> {
     pub(crate) w: &'a W,
@@ -240,8 +242,8 @@ pub(crate) struct Search<'a, W: BoxedWeights, S: Seen> {
 impl<W: BoxedWeights, S: Seen> Search<'_, W, S> {
     /// Whether it is known that no node in the box `v` weighs less than `best`.
     ///
-    /// A node can weigh less only if its cost is less than what is left of `best` without the
-    /// numbers of both nodes: a comparison of squares, whereas a cost takes a root.
+    /// A node can weigh less only if its cost is less than `best` minus the numbers of both nodes.
+    /// This test compares squares, while computing a cost takes a root.
     #[inline(always)]
     pub(crate) fn is_left_alone(&self, v: usize, best: i64) -> bool
         requires { v < 2 * length self.now.order.now }
@@ -261,7 +263,7 @@ impl<W: BoxedWeights, S: Seen> Search<'_, W, S> {
         }
     }
 
-    /// The better of the best so far and the node at a place, if that is outside.
+    /// The better of the best so far and the node at a place, if that node is outside.
     #[inline]
     pub(crate) fn better_of(&self, place: usize, best: Best) -> Best
         requires { place < length self.now.order.now }
@@ -281,11 +283,11 @@ impl<W: BoxedWeights, S: Seen> Search<'_, W, S> {
         }
     }
 
-    /// The best of the nodes outside below the box `v` and of the best so far. `steps` counts the
-    /// boxes that it looks at.
+    /// The best of the nodes outside in the box `v` and of the best so far. `steps` counts the
+    /// boxes that are looked at.
     ///
-    /// The halves are in the order of their numbers: with near nodes beside each other, the one
-    /// that is nearer by its region isn't better first.
+    /// The halves are searched in the order of their numbers: as near nodes are close together in
+    /// the order, starting with the nearer region is no better.
     pub(crate) fn below(&self, v: usize, best: Best, steps: &mut u64) -> Best
         requires low { 1 ≤ v }
         requires high { v < 2 * length self.now.order.now }
@@ -310,7 +312,7 @@ impl<W: BoxedWeights, S: Seen> Search<'_, W, S> {
 
 // ---- the trait of a tree of boxes over places, in which a search sees the nodes outside alone
 
-/// The places 0..count, of which some are outside, and a box for each part of them.
+/// The places 0..count, some of which are outside, and a box around the outside nodes of each part.
 pub(crate) trait Seen {
     ghost count_of: { Self → ℕ };
 
@@ -323,7 +325,7 @@ pub(crate) trait Seen {
         requires { place < count_of self.now }
         ensures { result ≡ outside_of self.now place };
 
-    /// The box `v`, which holds the nodes outside below it; none if there is none of them.
+    /// The box `v` around the outside nodes below it; `None` if there are none.
     fn area(&self, v: usize) -> Option<&Area>
         requires { v < 2 * count_of self.now }
         ensures { MatchOption result (area_of self.now v ≡ None)

@@ -1,6 +1,7 @@
-//! The weight of a least 1-tree, and Prim's method for the tree in it (`grow`). `Growing` is the
-//! trait of weights that choose how that tree grows: by Prim's method, or in rounds (`rounds.rt`).
-//! `bound.rt` returns the edges too.
+//! The weight of a least 1-tree: the tree over the nodes 2 to n, by R. C. Prim's algorithm, a row
+//! of weights for each node (`grow`), and the two lightest edges at node 1. Weights that know a
+//! quicker way to a least tree say so through the trait `Growing`. `IsLeastWeight` pins the sum,
+//! whatever the way.
 
 ghost use Rattle.tsp_bound.specs.Prelude.{ℕ, length, pos, neg_ℤ, IfOk, slice_index, MatchOption, ℤ, most_nodes, IsNode, IsFromTo, IsWholeGrowth, AreNearest, weight_of, least_at, IsNearer};
 ghost use Rattle.std.specs.Prelude.{◌≡◌, ◌≤◌, ◌+◌, ◌*◌, ◌^◌, ◌<◌, ◌<ℤ◌, ◌-◌, ◌≢◌, ◌+ℤ◌};
@@ -24,7 +25,7 @@ use tsp_theory::{Weights, weight_in};
 ///
 /// # Errors
 ///
-/// Out of memory, of which it takes some for each node.
+/// Out of memory. It allocates memory for each node.
 pub fn least_weight<W: Growing>(alloc: Global, w: &W, row: &mut [i64]) -> Result<i128, Refused>
     requires some { 3 ≤ W.nodes w.now }
     requires room { length row.old ≡ W.nodes w.now + 1 }
@@ -55,8 +56,9 @@ pub struct Grown {
 /// Grows a tree over the nodes 2..n from node 2: each of its pairs leads from a node inside to one
 /// outside, and no such pair weighs less.
 ///
-/// It lists the nodes outside, and keeps of each the nearest node inside and the weight between the
-/// two, so that each row is asked for once. The row that is lent is written over.
+/// It lists the nodes outside, and for each of them keeps the nearest node inside and the weight
+/// between the two, so that each row is needed only once. `row` is scratch space and is
+/// overwritten.
 ///
 /// # Requires
 ///
@@ -64,7 +66,7 @@ pub struct Grown {
 ///
 /// # Errors
 ///
-/// Out of memory, of which it takes some for each node.
+/// Out of memory. It allocates memory for each node.
 pub fn grow<W: Weights>(alloc: Global, w: &W, row: &mut [i64]) -> Result<Grown, Refused>
     requires some { 3 ≤ W.nodes w.now }
     requires room { length row.old ≡ W.nodes w.now + 1 }
@@ -77,7 +79,7 @@ pub fn grow<W: Weights>(alloc: Global, w: &W, row: &mut [i64]) -> Result<Grown, 
 {
     let mut outside = nodes_from_three(alloc, w.count())?;
     let mut near: Vec<u32> = filled(alloc, 2, outside.len())?;
-    // Every weight is below the one that means none.
+    // Every weight is below the number that stands for none.
     let mut least = filled(alloc, i64::MAX, outside.len())?;
     let mut pairs = with_capacity(alloc, outside.len())?;
     let mut weight = 0;
@@ -104,8 +106,8 @@ fn nodes_from_three(alloc: Global, count: u32) -> Result<Vec<u32>, Refused>
     Ok(nodes)
 }
 
-/// Updates the entries of the nodes outside once `next` is inside, and finds the place of the
-/// nearest of them.
+/// Updates the entries of the nodes outside after `next` has moved inside, and finds the place of
+/// the nearest of them.
 fn reach<W: Weights>(
     w: &W,
     row: &mut [i64],
@@ -129,7 +131,7 @@ fn reach<W: Weights>(
     bring(row, outside, near, least, next)
 }
 
-/// Does what [`reach`] does, once the row of `next` is written.
+/// Does the work of [`reach`] after the row of `next` has been written.
 fn bring(
     row: &[i64],
     outside: &[u32],
@@ -150,7 +152,7 @@ fn bring(
     if outside.is_empty() {
         return None;
     }
-    // A place and no `Option`, which the loop would carry along as two values.
+    // A place rather than an `Option`, which the loop would carry along as two values.
     let mut nearest = 0;
     let mut best = i64::MAX;
     'places: for place in 0..outside.len() {
@@ -164,13 +166,13 @@ fn bring(
     Some(nearest)
 }
 
-/// Takes `next` for the nearest node if it is nearer, and returns the least weight.
+/// Makes `next` the nearest node if it is nearer, and returns the least weight.
 #[inline]
 fn take_nearer(near: &mut u32, least: &mut i64, next: u32, weight: i64) -> i64
     ensures nearer { IsNearer weight next near.old least.old near.new least.new }
     ensures value { result ≡ least.new }
 {
-    // No branch: it would be taken for some nodes of each row, which no processor foresees.
+    // Without a branch: some nodes of each row would take it, and no processor could predict which.
     let is_nearer = weight < *least;
     *near = if is_nearer { next } else { *near };
     *least = if is_nearer { weight } else { *least };
@@ -190,7 +192,7 @@ pub trait Growing: Weights {
     ///
     /// # Errors
     ///
-    /// Out of memory, of which it takes some for each node.
+    /// Out of memory. It allocates memory for each node.
     fn grow(&self, alloc: Global, row: &mut [i64]) -> Result<Grown, Refused>
         requires some { 3 ≤ Self.nodes self.now }
         requires room { length row.old ≡ Self.nodes self.now + 1 }
@@ -212,8 +214,8 @@ pub struct RootEdge {
     pub weight: i64,
 }
 
-/// The two nodes of 2..n that are nearest to node 1, by its row; the row that is lent is written
-/// over.
+/// The two nodes of 2..n that are nearest to node 1, by its row; `row` is scratch space and is
+/// overwritten.
 pub fn two_root_edges<W: Weights>(w: &W, row: &mut [i64]) -> (RootEdge, RootEdge)
     requires some { 3 ≤ W.nodes w.now }
     requires few { W.nodes w.now ≤ most_nodes }

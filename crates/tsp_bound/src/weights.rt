@@ -1,5 +1,6 @@
 //! The weight of a pair under potentials: its cost at the scale plus both potentials, less the
-//! multiplier of a fixed edge; as `tsp_theory::Weights` by rows, and as `BoxedWeights` by boxes.
+//! multiplier of a fixed edge. Given by rows (`tsp_theory::Weights`) and, for boxes, pair by pair
+//! (`BoxedWeights`); `weight_less` in `specs/states/Potentials.antt` is both.
 
 ghost use Rattle.tsp_bound.specs.Prelude.{ℕ, length, slice_index, pos, neg_ℤ, All, IsNode, most_multiplier, most_between, IsFromTo, least_at, IsMoved};
 ghost use Rattle.std.specs.Prelude.{◌≡◌, ◌≤◌, ◌<◌, ◌+◌};
@@ -13,7 +14,7 @@ use std::alloc::Global;
 use tsp_io::Refused;
 use tsp_theory::{Costs, Region, Site, add_at};
 
-/// Costs of three or more nodes, and the potentials and the multipliers of these.
+/// The costs of three or more nodes, along with their potentials and multipliers.
 #[derive(Drop)]
 pub(crate) struct PotentialWeights<'a, C: Costs> {
     pub(crate) c: &'a C,
@@ -56,7 +57,7 @@ fn weigh_all<C: Costs>(w: &PotentialWeights<C>, from: u32, row: &mut [i64])
     ensures sizes { (x : ℕ) → IsNode (C.nodes w.now.c.now) x
         → IsFromTo (neg_ℤ (pos most_between)) (pos most_between) (least_at row.new x) }
 {
-    // Out of the loop, which writes to other memory.
+    // Read once, before the loop: the compiler would read them again after each write to `row`.
     let c = w.c;
     let p = w.p;
     let own = p.number(from);
@@ -84,9 +85,9 @@ fn weigh<C: Costs>(w: &PotentialWeights<C>, from: u32, to: &[u32], row: &mut [i6
     }
 }
 
-/// Takes the multipliers of a node's pairs off its row.
+/// Subtracts the multipliers of a node's pairs from its row.
 ///
-/// Places that weren't written may hold any number, so sums are taken in their remainders.
+/// Places that weren't written may contain any number, so the differences wrap around.
 fn lower(row: &mut [i64], lowerings: &[(u32, i64)])
     requires { All (λ lowering. (lowering.0 < length row.old)
         × IsFromTo (pos 0) (pos most_multiplier) lowering.1) lowerings.now }

@@ -1,4 +1,5 @@
--- Leaves by boxes: the sets that have both of two nodes, the least weight of an edge, and equal weights.
+-- For src/boxed.rt: the sets that have both of two nodes, the least that an edge can weigh in a box, and that boxes and
+-- rows have equal weights.
 use Rattle.tsp_branch.proofs.Prelude.{◌≡◌, ◌≢◌, ℕ, zero, suc, ◌+◌, ◌<◌, ◌==◌, ◌&&◌, ◌||◌, Bool, true, false, List, [], ◌∷◌, ◌++◌, length, drop, drop-cons, add-one, get_or, inl, inr, refl, ap, sym, ◌∙◌, arith, map, subst, ◌*◌, ◌^◌, ap₂, to_z, of_z, cases_Bool, eq-eqb, ne_eqb, cases_eq, ints, int_wrap_fits, int_wrap-add_same, reverse-append, w64, int_wrap, w128, All, AllByRecursion, filter, ℤ, pos, ◌+ℤ◌, ◌*ℤ◌, ◌≤ℤ◌, if◌then◌else◌, negsuc, neg_ℤ, ◌<ℤ◌, reverse, ◌-ℤ◌, most_nodes, IsFromTo, entry, weight_between, most_between, total, IsLeastBound, triples_total, changes_borne, changes_turned, both_sums, added_once, changes_are, sets_come_to, places_inside, case_weight, multiplied, least_of, leaf_weight, on_taken, on_avoided, decided_number, HasEachOnce, families_with, Decision, SetPlace, decided, change_of, changes, stack_of, bears_on, added, times, places_in, places_with, place_at, IsPlaceIn, summed_from, multipliers_at, set_in, twice_in, inside_both, AreSmallMultipliers, set_crossings, most_combed, set_weight}
 use Rattle.std.proofs.Math.Bool.{and-false, or-false}
 use Rattle.std.proofs.Math.ListN.{get_or-map}

@@ -1,4 +1,5 @@
--- The bound of a leaf: closed links, least open links and their sum, decisions, and what is given back.
+-- For src/case_leaf.rt: closed links, least open links and their sum, the numbers of decisions, and what a leaf gives
+-- back.
 use Rattle.tsp_branch.proofs.Prelude.{ℕ, ◌+◌, ◌<◌, List, get_or, length, inl, inr, refl, ◌∙◌, arith, ◌≡◌, Bool, false, ◌*◌, ◌^◌, [], ◌∷◌, ◌++◌, drop, FitsSigned, ap, sym, to_z, of_z, drop-cons, add-one, ◌≢◌, true, subst, zero, suc, ◌≤◌, ◌==◌, cases_eq, cases_Bool, eq-eqb, ne_eqb, ints, get_or_default, reverse-append, length-reverse, w64, w128, int_wrap, filter, All, AllByRecursion, Contains, range_with_len, ℤ, pos, neg_ℤ, ◌+ℤ◌, ◌-ℤ◌, ◌*ℤ◌, reverse, ◌↔◌, ◌≤ℤ◌, ◌<ℤ◌, if◌then◌else◌, most_nodes, IsNode, nodes_to, IsFromTo, moved_to, most_64, total, triples_total, IsSumSized, least_at, IsMoved, first_bears, second_only, filter_in, filter_out, few_changes, changes_listed, changes_are, within, least_of, multiplied, AllowsLink, Allows, IsAllowed, IsLeastFrom, IsSumOfLeast, on_taken, decided_number, DecideOnce, families_with, sum_with, Decision, stack_of, IsDecision, IsOnPlaces, bears_on, changes, decided, marks_in, most_decided, most_combed}
 use Rattle.std.proofs.lemmas.List.Elements.{All-contains, All-filter, All-from_recursion, Contains-get_or, recursion_from_All}
 use Rattle.std.proofs.lemmas.List.Sorted.{IsPermutation-reverse, IsPermutation-sym, Contains-permutation}

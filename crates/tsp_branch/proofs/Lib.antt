@@ -1,4 +1,4 @@
--- The files of lemmas of this crate. Crates above may import them.
+-- Lemmas on leaves, over boxes and over rows, and on the verdict that is put together from them.
 mod Prelude
 pub mod BoxedLeaves
 pub mod CaseLeaves

@@ -1,5 +1,5 @@
--- The verdict on a certificate by branching, for a TSP or an ATSP, from the bound of each leaf: its bound, or the first
--- reason against it.
+-- The verdict on a branches file for a TSP or an ATSP: its bound, or the first reason against it, families before
+-- branches before leaves. tsp_verdict passes it on to the report.
 use Rattle.tsp_branch.specs.Prelude.{ℕ, List, ℤ, pos, length, Bool, None, Some, IfSome, total, IsLeastBound, triples_total, IsBoundSized, least_of, leaf_weight, IsLeafBound, IsCaseTree, IsCaseTreeBound, BoundsIfAny, decided_number}
 use Rattle.std.specs.Prelude.{◌≡◌, ◌+ℤ◌, ◌-ℤ◌, ◌*ℤ◌}
 use Rattle.tsp_format.specs.Steps as listed

@@ -1,4 +1,4 @@
--- The files of definitions of this crate. Crates above may import them.
+-- Definitions of the verdict on a branches file for tours, and of a leaf's rows of weights.
 pub mod Prelude
 pub mod states
 pub mod BranchVerdicts

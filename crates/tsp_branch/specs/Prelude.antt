@@ -1,4 +1,4 @@
--- What the definitions and contracts of this crate use most of other crates, passed on from one place.
+-- Names from other crates that definitions and contracts here use often, re-exported so that a file needs one import.
 pub use Rattle.std.specs.List.{All, filter, list_any}
 pub use Rattle.std.specs.Prelude.{Bool, IfOk, IfSome, List, MatchOption, None, Some, false, length, map, neg_ℤ, negsuc, pos, reverse, slice_index, slice_index_or, true, ℕ, ℤ}
 pub use Rattle.tsp_cases.specs.CaseTrees.{Allows, BoundsIfAny, HasNoLink, IsAllowed, IsCaseTree, IsCaseTreeBound, IsFoundAt, IsLeafBound, IsLeastFrom, IsRowBound, IsSumOfLeast, leaf_weight, least_of, multiplied}

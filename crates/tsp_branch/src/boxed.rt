@@ -1,6 +1,6 @@
-//! The bound of a leaf by a least 1-tree (`bound_of_trees`). It grows over boxes of points if these
-//! suit the sets of the leaf (`BoxedLeaf`), else over rows (`leaf_rows.rt`). Also the rounding of a
-//! bound at a scale, for `case_leaf.rt`.
+//! The bound of a leaf by a least 1-tree (`bound_of_trees`), which grows over kept rows, boxes of
+//! points (`BoxedLeaf`) or rows (`leaf_rows.rt`): three ways to the same bound. Also how a bound at
+//! a scale is rounded up, which does change the number.
 
 ghost use Rattle.tsp_branch.specs.Prelude.{All, false, length, pos, neg_ℤ, IfOk, true, ℕ, IsNode, IsFromTo, IsBoundSized, IsScale, IsLeastBound, weight_between, most_between, least_at, decided_number, most_combed, set_weight, lent_in, AreFewChanges, changes, decided, decisions_in};
 ghost use Rattle.std.specs.Int.{w64, int_wrap};
@@ -18,8 +18,8 @@ use tsp_theory::{Costs, Region, Site, Weights, weight_in};
 
 /// A leaf whose weights a box can bound.
 ///
-/// The number of a node is its potential less the multipliers of its sets, and is at most 4 * 10^18
-/// in size. Shared sets and avoided pairs only add to a weight. So each weight, except that of a
+/// The number of a node is its potential less the multipliers of its sets, at most 4 * 10^18 in
+/// size. Shared sets and avoided pairs only add to a weight. So every weight, except that of a
 /// taken pair, is at least the cost at the scale plus the numbers of both nodes.
 #[derive(Drop)]
 pub(crate) struct BoxedLeaf<'a, C: Costs> {
@@ -31,7 +31,7 @@ pub(crate) struct BoxedLeaf<'a, C: Costs> {
 }
 
 impl<C: Costs> BoxedLeaf<'_, C> {
-    /// The cost at the scale and the numbers of both nodes, when the caller passes the cost.
+    /// The cost at the scale plus the numbers of both nodes. The caller passes the cost.
     #[inline]
     fn base(&self, cost: i64, from: u32, to: u32) -> i64
         requires from { IsNode (C.nodes self.now.leaf.now.context.now.costs.now) from }
@@ -51,8 +51,7 @@ impl<C: Costs> BoxedLeaf<'_, C> {
         leaf.context.cases.scale * cost + both
     }
 
-    /// The weight without decisions, when the caller passes what it is without the sets of both
-    /// nodes.
+    /// The weight without decisions. The caller passes what it is without shared sets.
     fn combed(&self, base: i64, from: u32, to: u32) -> i64
         requires from { IsNode (C.nodes self.now.leaf.now.context.now.costs.now) from }
         requires to { IsNode (C.nodes self.now.leaf.now.context.now.costs.now) to }
@@ -204,8 +203,9 @@ impl<C: Costs> BoxedWeights for BoxedLeaf<'_, C> {
 
 /// The bound of a leaf by a least 1-tree: by kept rows, by boxes, or by rows.
 ///
-/// Kept rows come first. Without them, boxes are taken if they suit the sets of the leaf and its
-/// numbers aren't too large. The requirements are those of [`leaf_bound`](crate::leaf_bound).
+/// Kept rows are used if there are any. Otherwise boxes are used if they suit the sets of the leaf
+/// and its numbers aren't too large. The requirements are those of
+/// [`leaf_bound`](crate::leaf_bound).
 ///
 /// # Errors
 ///
@@ -233,7 +233,7 @@ pub(crate) fn bound_of_trees<C: Costs>(
 
 // ---- the sets that two nodes are both in
 
-/// The most that the multipliers of a node's sets may come to if boxes bound its weights.
+/// The largest sum of multipliers of a node's sets for which boxes can bound its weights.
 const MOST_TAKEN: i64 = 3_000_000_000_000_000_000;
 
 /// Whether two places are the same.
@@ -244,7 +244,7 @@ fn is_same_place(place: SetPlace, other: SetPlace) -> bool
     other.family == place.family && other.set == place.set
 }
 
-/// Whether a list has a place.
+/// Whether the list contains the place.
 fn has_place(places: &[SetPlace], place: SetPlace) -> bool
     ensures { result ≡ has_place places.now place }
 {
@@ -256,8 +256,8 @@ fn has_place(places: &[SetPlace], place: SetPlace) -> bool
     false
 }
 
-/// What the sets of both nodes add to a weight, wrapped to 64 bits: the multipliers of their
-/// families twice.
+/// What the sets that contain both nodes add to a weight: twice the multiplier of the family of
+/// each, wrapped to 64 bits.
 fn shared_by(multipliers: &Multipliers, others: &[SetPlace], places: &[SetPlace]) -> i64
     requires { All (λ place. place.family < length multipliers.now.numbers.now) places.now }
     ensures { int_wrap w64 result ≡ int_wrap w64 (shared_by multipliers.now.numbers.now others.now places.now) }
@@ -271,7 +271,7 @@ fn shared_by(multipliers: &Multipliers, others: &[SetPlace], places: &[SetPlace]
     sum
 }
 
-/// Whether the multipliers of the families of places sum to 3 * 10^18 at most.
+/// Whether the multipliers at these places sum to at most 3 * 10^18.
 pub(crate) fn are_few(multipliers: &Multipliers, places: &[SetPlace]) -> bool
     requires { All (λ place. place.family < length multipliers.now.numbers.now) places.now }
     ensures { result ≡ true → IsFromTo (pos 0) (pos 3000000000000000000)
@@ -289,12 +289,12 @@ pub(crate) fn are_few(multipliers: &Multipliers, places: &[SetPlace]) -> bool
 
 // ---- the bound of a leaf from its weights
 
-/// The bound of a leaf that has these weights: the least whole number that at the scale is no less
+/// The bound of a leaf from its weights: the least whole number that, times the scale, is no less
 /// than the weight of a least 1-tree plus a sum.
 ///
-/// The sum has the numbers of the taken pairs and the least crossings of the combs, each times its
-/// multiplier, less each potential twice; with these it is the bound of each leaf that has these
-/// weights.
+/// The sum is that of the taken pairs' numbers and of the combs' multipliers, each times the least
+/// number of crossings, less each potential twice. With it the result bounds every leaf that has
+/// these weights.
 ///
 /// # Requires
 ///
@@ -303,7 +303,7 @@ pub(crate) fn are_few(multipliers: &Multipliers, places: &[SetPlace]) -> bool
 ///
 /// # Errors
 ///
-/// Out of memory, of which it takes some for each node.
+/// Out of memory. It allocates memory for each node.
 pub fn leaf_bound<W: Growing>(
     alloc: Global,
     w: &W,
@@ -326,13 +326,13 @@ pub fn leaf_bound<W: Growing>(
     Ok(rounded_up(scale, weight + given_back))
 }
 
-/// The least whole number that at a scale is no less than a sum.
+/// The least whole number that, times the scale, is no less than the sum.
 pub(crate) fn rounded_up(scale: i64, sum: i128) -> i128
     requires scale { IsScale scale }
     requires size { IsFromTo (neg_ℤ (pos (2 ^ 100))) (pos (2 ^ 100)) sum }
     ensures value { IsLeastBound scale sum result }
     ensures size { IsBoundSized result }
 {
-    // Euclid's quotient rounds down, so that of the negative sum rounds up.
+    // Euclidean division rounds down, so dividing the negated sum rounds up.
     -(-sum).div_euclid(i128::from(scale))
 }

@@ -1,4 +1,6 @@
-//! A leaf of a tree of cases, and its bound: by a least 1-tree, or by the least arc from each node.
+//! A leaf of a tree of cases, and its bound: for a TSP by a least 1-tree, for an ATSP by the least
+//! arc from each node that the decisions allow. `IsLeafBound` and `IsRowLeafBound` in tsp_cases pin
+//! the two.
 
 ghost use Rattle.tsp_branch.specs.Prelude.{All, filter, length, pos, neg_ℤ, ℕ, List, true, ℤ, IsNode, triples_total, total, IsScale, IsFromTo, least_at, IsMoved, multiplied, least_of, Allows, DecideOnce, on_taken, decided_number, AreFewCrossings, lent_in, good_in, marks_in, IsOnPlaces, IsChanged, change_of, changes, stack_of, IsOpenCase, decisions_in, bears_on};
 ghost use Rattle.std.specs.Int.{w64, int_wrap};
@@ -14,7 +16,7 @@ use tsp_cases::{DECIDED, Decision, LeafContext, Multipliers, OpenCase, sum_left,
 use tsp_io::Refused;
 use tsp_theory::{Costs, Weights, add_at};
 
-/// A leaf, whose numbers are good.
+/// A leaf with good numbers.
 #[derive(Drop)]
 pub(crate) struct CaseLeaf<'a, C: Costs> {
     /// What it shares with all other leaves.
@@ -23,9 +25,9 @@ pub(crate) struct CaseLeaf<'a, C: Costs> {
     pub(crate) case: &'a OpenCase<'a>,
     pub(crate) potentials: &'a [i64],
     pub(crate) multipliers: &'a [i64],
-    /// By node, the potential less the multipliers of the node's sets; place 0 isn't read.
+    /// For each node, its potential less the multipliers of its sets; place 0 is unused.
     pub(crate) moved: &'a [i64],
-    /// A row of weights without potentials for each node, or no row if none are kept.
+    /// The kept rows, one of weights without potentials for each node; empty if none are kept.
     pub(crate) kept: &'a [Vec<i64>],
     ghost is_case: { IsOpenCase (C.nodes context.now.costs.now) case.now },
     ghost direction: { case.now.by_node.directed ≡ context.now.cases.now.directed },
@@ -47,8 +49,8 @@ impl<C: Costs> CaseLeaf<'_, C> {
     ghost use Rattle.std.specs.Prelude.{◌≡◌, ◌+◌};
     ghost use Rattle.tsp_cases.specs.ListedCases.{as_leaf_numbers};
 
-    /// The bound of the leaf under the decisions of its case; `None` if there is none, because they
-    /// allow no arc from some node. `row` is scratch space.
+    /// The bound of the leaf under the decisions of its case; `None` if they allow no arc from some
+    /// node, so that no cycle keeps them. `row` is scratch space.
     ///
     /// # Errors
     ///
@@ -69,8 +71,8 @@ impl<C: Costs> CaseLeaf<'_, C> {
         Ok(Some(bound))
     }
 
-    /// The bound of a least 1-tree, if pairs have no direction: by rows if they are kept,
-    /// else by boxes if nodes have places.
+    /// The bound by a least 1-tree, for pairs without a direction: over kept rows if there are any,
+    /// otherwise over boxes if nodes have places.
     ///
     /// # Errors
     ///
@@ -95,8 +97,8 @@ impl<C: Costs> CaseLeaf<'_, C> {
         bound_of_trees(alloc, self, row, sum)
     }
 
-    /// The bound of the least link from each node; `None` if some node has no link that the
-    /// decisions allow.
+    /// The bound by the least link from each node; `None` if the decisions allow no link from some
+    /// node.
     fn bound_by_rows(&self, row: &mut [i64]) -> Option<i128>
         requires directed { self.now.context.now.cases.now.directed ≡ true }
         requires row { length row.old ≡ C.nodes self.now.context.now.costs.now + 1 }
@@ -123,8 +125,8 @@ impl<C: Costs> CaseLeaf<'_, C> {
 
 // ---- the sum that a leaf gives back to its bound
 
-/// The least crossings of a leaf's families, each times its multiplier, less each potential twice:
-/// at most 2^98 in size.
+/// What a leaf adds to its bound: for each family the least number of crossings times its
+/// multiplier, less each potential twice. At most 2^98 in size.
 fn given_back<C: Costs>(leaf: &CaseLeaf<C>) -> i128
     ensures value { result ≡ least_of (multiplied (good_in leaf.now.context.now.families.now) leaf.now.multipliers.now)
         -ℤ (pos 2 *ℤ total leaf.now.potentials.now) }
@@ -137,7 +139,7 @@ fn given_back<C: Costs>(leaf: &CaseLeaf<C>) -> i128
     sum_with(false, &multipliers) - 2 * total(leaf)
 }
 
-/// The sum of the potentials of a leaf.
+/// The sum of a leaf's potentials.
 fn total<C: Costs>(leaf: &CaseLeaf<C>) -> i128
     ensures value { result ≡ total leaf.now.potentials.now }
     ensures size { IsFromTo (neg_ℤ (pos (2 ^ 95))) (pos (2 ^ 95)) result }
@@ -149,7 +151,7 @@ fn total<C: Costs>(leaf: &CaseLeaf<C>) -> i128
     sum
 }
 
-/// The numbers of the taken pairs.
+/// The sum of the taken pairs' numbers.
 fn taken_back(taken: &[Decision]) -> i128
     requires { length taken.now < 2 ^ 33 }
     ensures value { result ≡ triples_total (on_taken decided_number taken.now) }
@@ -166,7 +168,7 @@ fn taken_back(taken: &[Decision]) -> i128
 
 // ---- the change of a pair's weight by the decisions of a case
 
-/// Changes the row of a node by decisions.
+/// Applies decisions to the row of a node.
 pub(crate) fn change_row(row: &mut [i64], decisions: &[Decision], from: u32)
     requires { All (IsOnPlaces (length row.old)) decisions.now }
     ensures { (x : ℕ) → IsMoved (changes decisions.now from x) (least_at row.old x) (least_at row.new x) }
@@ -176,18 +178,17 @@ pub(crate) fn change_row(row: &mut [i64], decisions: &[Decision], from: u32)
     }
 }
 
-/// Changes the row of a node by a decision, if its pair has that node.
+/// Applies a decision to the row of a node, if its pair contains the node.
 ///
-/// What two decisions on one pair come to may go past 64 bits on the way, so sums are taken in
-/// their remainders.
+/// Two decisions on one pair may add up to more than 64 bits on the way, so sums wrap around.
 fn change(row: &mut [i64], decision: Decision, from: u32)
     requires { IsOnPlaces (length row.old) decision }
     ensures { (x : ℕ) → IsChanged decision from x (least_at row.old x) (least_at row.new x) }
 {
     let (first, second) = decision.pair;
     let number = if decision.taken { -DECIDED } else { DECIDED };
-    // Nothing is added at the other node if the row is of neither: a branch that is seldom
-    // guessed right would cost more.
+    // If the row is of neither node, 0 is added: a branch that is seldom predicted right would take
+    // longer.
     let other = if first == from { second } else { first };
     let is_at = first == from || second == from;
     add_at(row, other, if is_at { number } else { 0 });
@@ -217,8 +218,8 @@ pub(crate) fn change_between(decisions: &[Decision], from: u32, to: u32) -> i64
 
 // ---- the sum that a leaf gives back, with the scale
 
-/// What a leaf gives back, and its scale: with it the weight of a least 1-tree, or of the least
-/// links, is a bound at the scale.
+/// What a leaf adds to the weight of a least 1-tree, or of the least links, and the scale by which
+/// their sum is divided to get its bound.
 #[derive(Clone, Copy)]
 pub(crate) struct LeafSum {
     pub(crate) scale: i64,
@@ -230,8 +231,8 @@ pub(crate) struct LeafSum {
 
 // ---- the bound of a leaf by the least arc from each node, if pairs have a direction
 
-/// Weights by rows, and the decisions of a case, by which a link is allowed or not. Pairs have a
-/// direction.
+/// Weights by rows, for pairs with a direction, and the decisions of a case, which say which links
+/// are allowed.
 #[derive(Drop)]
 pub(crate) struct AllowedRows<'a, W: Weights> {
     pub(crate) weights: &'a W,
@@ -245,9 +246,9 @@ impl<W: Weights> AllowedRows<'_, W> {
     ghost use Rattle.std.specs.Prelude.{◌≡◌, ◌+◌};
     ghost use Rattle.tsp_format.specs.Limits.{most_nodes};
 
-    /// The bound of a leaf that has these weights: the least whole number that at the scale is no
-    /// less than the least weights from all nodes plus a sum. `None` if the decisions allow no
-    /// link from some node: then no cycle keeps them.
+    /// The bound of a leaf from its weights: the least whole number that, times the scale, is no
+    /// less than the sum of the least weights from all nodes plus a given sum. `None` if the
+    /// decisions allow no link from some node: then no cycle keeps them.
     ///
     /// # Requires
     ///
@@ -300,8 +301,8 @@ impl<W: Weights> AllowedRows<'_, W> {
     }
 }
 
-/// Closes in the row of a node the place of the node itself, and what some decision doesn't allow:
-/// one that begins at the node, or one that takes its pair.
+/// Closes the node's own place in its row, and each link that some decision doesn't allow. The
+/// decisions that matter begin at the node, or take a pair.
 fn close_row(row: &mut [i64], own: &[Decision], taken: &[Decision], from: u32)
     requires own { All (λ decision. decision.pair.1 < length row.old) own.now }
     requires taken { All (λ decision. decision.pair.1 < length row.old) taken.now }
@@ -334,10 +335,10 @@ fn least_in(row: &[i64]) -> i64
 
 // ---- the row of a node's weights in which the arcs that decisions don't allow are closed
 
-/// The weight that means no link: all weights are below it.
+/// The weight of a closed link. All other weights are below it.
 const CLOSED: i64 = i64::MAX;
 
-/// Closes in the row of a node each link that some decision doesn't allow.
+/// Closes each link in the row of a node that some decision doesn't allow.
 fn close_all(row: &mut [i64], decisions: &[Decision], from: u32)
     requires { All (λ decision. decision.pair.1 < length row.old) decisions.now }
     ensures { (x : ℕ) → x < length row.old
@@ -348,9 +349,9 @@ fn close_all(row: &mut [i64], decisions: &[Decision], from: u32)
     }
 }
 
-/// Closes in the row of a node what a decision doesn't allow: if the pair is taken and starts
-/// at the node, all other links, and if it starts elsewhere, the link to its second node; if
-/// it is avoided and starts at the node, that link.
+/// Closes the links in the row of a node that a decision doesn't allow. A taken pair that begins at
+/// the node leaves only its own link, one that begins elsewhere closes the link to its second node,
+/// and an avoided pair that begins at the node closes that link.
 fn close(row: &mut [i64], decision: Decision, from: u32)
     requires { decision.pair.1 < length row.old }
     ensures { (x : ℕ) → x < length row.old

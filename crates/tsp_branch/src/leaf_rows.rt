@@ -1,4 +1,5 @@
-//! The weights of a leaf for tours as rows: `CaseLeaf` as the traits `Weights` and `Growing`.
+//! The weights of a leaf for tours as rows: `CaseLeaf` as the traits `Weights` and `Growing`, the
+//! way that works for every leaf.
 //!
 //! An edge crosses a set if exactly one of its nodes is in it: the number of its nodes there, less
 //! 2 if both are. So each multiplier is subtracted from the potentials of the nodes in its sets,
@@ -19,8 +20,7 @@ use tsp_cases::{
 use tsp_io::Refused;
 use tsp_theory::{Costs, Weights, weight_in};
 
-/// Whether a number of a node is at most as large as that on a decided pair, as it has to be if
-/// boxes bound the weights.
+/// Whether a node's number is at most as large as that of a decided pair, which boxes require.
 fn is_number(number: i64) -> bool
     ensures { result ≡ true → IsFromTo (neg_ℤ (pos most_number)) (pos most_number) number }
 {
@@ -56,7 +56,7 @@ impl<C: Costs> CaseLeaf<'_, C> {
         true
     }
 
-    /// Writes a row without what shared sets add. The contract also says how large the weights are
+    /// Writes a row without what shared sets add. The contract also bounds the weights for leaves
     /// without families.
     fn fill_apart(&self, from: u32, row: &mut [i64])
         requires from { IsNode (C.nodes self.now.context.now.costs.now) from }
@@ -75,8 +75,8 @@ impl<C: Costs> CaseLeaf<'_, C> {
         shift_row(row, self.moved, weight_in(self.moved, from));
     }
 
-    /// What is left in 64 bits of a weight from a node as if no set had two nodes, if the caller
-    /// passes what is left of the node's potential; and how large the weight is without combs.
+    /// A weight without what shared sets add, wrapped to 64 bits. The caller passes the wrapped
+    /// number of the first node. The contract also bounds the weight for leaves without combs.
     #[inline]
     fn weight_apart(&self, own: i64, from: u32, to: u32) -> i64
         requires own { own ≡ least_at self.now.moved.now from }
@@ -94,7 +94,7 @@ impl<C: Costs> CaseLeaf<'_, C> {
         )
     }
 
-    /// The same as `fill_apart` at some nodes.
+    /// What `fill_apart` does, for some entries only.
     fn fill_apart_at(&self, from: u32, to: &[u32], row: &mut [i64])
         requires from { IsNode (C.nodes self.now.context.now.costs.now) from }
         requires to { (k : ℕ) → k < length to.now → IsNode (C.nodes self.now.context.now.costs.now) (slice_index to.now k) }
@@ -110,7 +110,7 @@ impl<C: Costs> CaseLeaf<'_, C> {
         }
     }
 
-    /// Writes a row as `fill_at` does, of weights that are at most 2 * 10^18 in size.
+    /// What `fill_at` does, for weights of at most 2 * 10^18 in size.
     pub(crate) fn fill_combed_at(&self, from: u32, to: &[u32], row: &mut [i64])
         requires from { IsNode (C.nodes self.now.context.now.costs.now) from }
         requires to { (k : ℕ) → k < length to.now → IsNode (C.nodes self.now.context.now.costs.now) (slice_index to.now k) }
@@ -129,7 +129,7 @@ impl<C: Costs> CaseLeaf<'_, C> {
         add_sets(row, &self.context.by_node[from as usize], &multiplied);
     }
 
-    /// Writes a row as `fill` does, of weights that are at most 2 * 10^18 in size.
+    /// What `fill` does, for weights of at most 2 * 10^18 in size.
     pub(crate) fn fill_combed(&self, from: u32, row: &mut [i64])
         requires from { IsNode (C.nodes self.now.context.now.costs.now) from }
         requires room { length row.old ≡ C.nodes self.now.context.now.costs.now + 1 }
@@ -147,7 +147,7 @@ impl<C: Costs> CaseLeaf<'_, C> {
         add_sets(row, &self.context.by_node[from as usize], &multiplied);
     }
 
-    /// A row of these by the one that is kept.
+    /// Writes a row, starting from the one that is kept.
     fn fill_by_kept(&self, from: u32, row: &mut [i64])
         requires kept { 1 ≤ length self.now.kept.now }
         requires from { IsNode (C.nodes self.now.context.now.costs.now) from }
@@ -192,7 +192,7 @@ impl<C: Costs> Weights for CaseLeaf<'_, C> {
 
     fn fill_at(&self, from: u32, to: &[u32], row: &mut [i64]) {
         if !self.kept.is_empty() {
-            // A whole row in order takes less time than half of it by node.
+            // A whole row in order takes less time than half of it, node by node.
             self.fill_by_kept(from, row);
             return;
         }

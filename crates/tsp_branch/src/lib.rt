@@ -1,8 +1,9 @@
 //! The code of lower bounds by branching: the bound of each leaf of a tree of cases, by a least
 //! 1-tree or by the least arc from each node.
 //!
-//! [`judge_branches`] finds the bound of a certificate, or what is wrong with it first. It searches
-//! for no certificates, and knows costs by their traits only. The theorems are tsp_cases's.
+//! [`judge_branches`] finds the bound of a certificate, or the first thing that is wrong with it.
+//! It doesn't search for certificates, and knows costs only by their traits. The theorems are in
+//! tsp_cases.
 //!
 //! ```text
 //! let verdict = judge_branches(alloc, &tree)?;

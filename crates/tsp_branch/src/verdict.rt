@@ -1,5 +1,7 @@
-//! Judges a certificate by branching for tours: its families, then its branches, then its leaves.
-//! Also the estimates by which a leaf takes boxes or rows, and a tree keeps rows.
+//! Judges a branches file for a TSP or an ATSP: its families, then its branches, then its leaves.
+//! This order decides the reason that a report gives (`IsBranchVerdict` in
+//! `specs/BranchVerdicts.antt`). Also the estimates by which a leaf takes boxes or rows, and a tree
+//! keeps rows, which affect only speed.
 
 ghost use Rattle.tsp_branch.specs.Prelude.{All, IfOk, false, length, IsFoundAt, DecideOnce, decided_number, marks_in, IsOpenCase, decisions_in, good_in, lent_in};
 ghost use Rattle.std.specs.Prelude.{◌≡◌, ◌≤◌, ◌<◌, ◌^◌, ◌+◌};
@@ -23,21 +25,21 @@ use tsp_cases::{
 use tsp_io::Refused;
 use tsp_theory::Costs;
 
-/// Judges a certificate by branching: its bound, or what is bad in it first.
+/// Judges a certificate by branching, and returns its bound or the first reason against it.
 ///
-/// In this order: a family that isn't good, a branch that isn't on two nodes, a branch on a pair
-/// that is decided above it or given, a leaf that isn't good. The bound is at most the length of
-/// every cycle that keeps the given decisions, and sums with it fit 128 bits. If no leaf has a
-/// bound, no cycle keeps them.
+/// The reasons, in this order: a family that isn't good, a branch that isn't on two nodes, a branch
+/// on a pair that is given or decided above it, a leaf that isn't good. The bound is at most the
+/// length of every cycle that keeps the given decisions, and small enough for sums with it to fit
+/// 128 bits. If no leaf has a bound, no cycle keeps them.
 ///
-/// The bound of a leaf is that of a least 1-tree, or, if pairs have a direction, the sum of the
-/// least arcs from each node. If nodes have points, boxes of points spare most pairs.
+/// The bound of a leaf is that of a least 1-tree or, if pairs have a direction, the sum of the
+/// least arcs from each node. If nodes have points, boxes rule out most pairs.
 ///
 /// # Errors
 ///
-/// Out of memory, of which it takes some for each node, each comb, each node of a set, and
-/// each decision of a case. For trees of several leaves it also takes some for each pair of up to
-/// 2,000 nodes, if there is any.
+/// Out of memory. It allocates memory for each node, each comb, each node of a set, and each
+/// decision of a case. For a tree of several leaves it also tries to allocate memory for each pair
+/// of up to 2,000 nodes, and goes on without it if it gets none.
 pub fn judge_branches<C: Costs>(
     alloc: Global,
     tree: &BranchingCertificate<C>,
@@ -83,25 +85,25 @@ pub enum BranchVerdict {
 
 // ---- the bound of a certificate by branching
 
-/// The bound of cases: the least of the bounds of the leaves, which is at most the length of every
-/// cycle that keeps the given decisions, or none if no leaf has one. Or the first leaf that is
-/// not good: one with an index past those of the nodes and the families, with a potential above
-/// 10^15 in size, with a negative multiplier, or with multipliers that sum to more than 9 * 10^17,
-/// if each counts as often as two nodes cross its family at most.
+/// The least bound of the leaves, which is at most the length of every cycle that keeps the given
+/// decisions; `None` if no leaf has a bound. Or the first leaf that isn't good: one with an index
+/// past those of the nodes and families, with a potential above 10^15 in size, with a negative
+/// multiplier, or with multipliers that, each times the largest number of its family's sets that
+/// one edge crosses, sum to more than 9 * 10^17.
 ///
-/// If pairs have no direction the bound of a leaf is that of a least 1-tree, else that of the
-/// least link from each node.
+/// The bound of a leaf is that of a least 1-tree, or, if pairs have a direction, that of the least
+/// link from each node.
 ///
 /// # Requires
 ///
-/// Three or more nodes, costs that are the same in both directions if pairs have none, and
-/// families and cases of these nodes.
+/// Three or more nodes, costs that are symmetric if pairs have no direction, and families and cases
+/// of these nodes.
 ///
 /// # Errors
 ///
-/// Out of memory, of which it takes some for each node, each comb, each node of a set, and
-/// each decision of a case. For trees of several leaves it also takes some for each pair of up to
-/// 2,000 nodes, if there is any.
+/// Out of memory. It allocates memory for each node, each comb, each node of a set, and each
+/// decision of a case. For a tree of several leaves it also tries to allocate memory for each pair
+/// of up to 2,000 nodes, and goes on without it if it gets none.
 pub fn branch_bound<C: Costs>(
     alloc: Global,
     costs: &C,
@@ -156,26 +158,27 @@ fn judge_context<C: Costs>(alloc: Global, context: &LeafContext<C>) -> Result<Ju
 
 // ---- how long leaves seem to take by boxes and by rows
 
-// Times are in nanoseconds, as measured; they decide on speed alone, never on a bound.
+// Times are in nanoseconds, as measured. They affect only speed, never a bound.
 
-/// For each node of a leaf, by boxes without sets: 20 leaves over 2,001 random points.
+/// For each node, by boxes without sets. Measured on 20 leaves over 2,001 random points.
 const NODE_BY_BOXES: u64 = 1_900;
 
-/// To compare two sets, by boxes: a leaf over 5,000 points in 100 nested sets. A node meets some
-/// others, and each time all its sets are compared with all of theirs.
+/// For each comparison of two sets, by boxes. Measured on a leaf over 5,000 points in 100 nested
+/// sets. A node meets several others, and each time all its sets are compared with all of theirs.
 const COMPARED_SETS: u64 = 20;
 
-/// For each pair of a leaf, by kept rows: 20 leaves over 2,000 random points.
+/// For each pair, by kept rows. Measured on 20 leaves over 2,000 random points.
 const PAIR_BY_KEPT_ROWS: u64 = 2;
 
-/// For each pair, once, to compute the cost of a kept row: the same leaves.
+/// For each pair, once, to compute the cost in a kept row. Measured on the same leaves.
 const PAIR_OF_COSTS: u64 = 11;
 
-/// For each pair of a leaf, by rows that aren't kept: 20 leaves over 2,001 points in 88 sets each.
+/// For each pair, by rows that aren't kept. Measured on 20 leaves over 2,001 points in 88 sets
+/// each.
 const PAIR_BY_ROWS: u64 = 9;
 
-/// Whether a tree of cases keeps rows: if it has several leaves, unless all of them seem to take
-/// less time by boxes.
+/// Whether a tree of cases keeps rows: it does if it has several leaves, unless boxes are expected
+/// to be faster for all of them.
 fn keeps_rows<C: Costs>(context: &LeafContext<C>) -> bool {
     let steps = context.cases.steps.len() as u64;
     if steps <= 1 {
@@ -192,17 +195,17 @@ fn keeps_rows<C: Costs>(context: &LeafContext<C>) -> bool {
     pair.saturating_mul(squared(nodes)) < leaves.saturating_mul(leaf)
 }
 
-/// Whether a leaf without kept rows seems to take no more time by boxes than by rows, under sets by
-/// node and sets of families.
+/// Whether boxes are expected to be at least as fast as rows for a leaf without kept rows, given
+/// the sets by node and the sets of each family.
 ///
-/// What boxes take without sets isn't counted: it is more than by rows only below some 200 nodes,
-/// if either takes less than a millisecond.
+/// The time that boxes take apart from sets isn't counted. It exceeds that of rows only below some
+/// 200 nodes, and there both take less than a millisecond.
 pub(crate) fn prefers_boxes(by_node: &[Vec<SetPlace>], families: &[Vec<Vec<u32>>]) -> bool {
     let rows = PAIR_BY_ROWS.saturating_mul(squared(by_node.len() as u64));
     time_of_comparing(by_node) <= rows.saturating_add(steps_of_sets(families))
 }
 
-/// The time that a leaf by boxes takes to compare the sets of nodes.
+/// The time for comparing the sets of nodes, by boxes.
 fn time_of_comparing(by_node: &[Vec<SetPlace>]) -> u64 {
     COMPARED_SETS.saturating_mul(compared(by_node))
 }
@@ -211,7 +214,7 @@ fn squared(number: u64) -> u64 {
     number.saturating_mul(number)
 }
 
-/// The steps by which the sets of each node are compared with as many others.
+/// The number of comparisons, if the sets of each node are compared with as many others.
 fn compared(by_node: &[Vec<SetPlace>]) -> u64 {
     let mut steps: u64 = 0;
     'nodes: for places in by_node {
@@ -220,7 +223,7 @@ fn compared(by_node: &[Vec<SetPlace>]) -> u64 {
     steps
 }
 
-/// The steps by which the sets of each node are added to its row, of a nanosecond each.
+/// The number of steps, of a nanosecond each, in which the sets of all nodes are added to rows.
 fn steps_of_sets(families: &[Vec<Vec<u32>>]) -> u64 {
     let mut steps: u64 = 0;
     'families: for sets in families {
@@ -229,7 +232,7 @@ fn steps_of_sets(families: &[Vec<Vec<u32>>]) -> u64 {
     steps
 }
 
-/// The steps by which the sets of a family are added to rows.
+/// The number of steps in which the sets of a family are added to rows.
 fn steps_of_family(sets: &[Vec<u32>]) -> u64 {
     let mut steps: u64 = 0;
     'sets: for set in sets {
@@ -240,7 +243,8 @@ fn steps_of_family(sets: &[Vec<u32>]) -> u64 {
 
 // ---- the judge of the leaves of a certificate for tours
 
-/// Judges leaves by least 1-trees, or by the least links if pairs have a direction.
+/// The judge of the leaves for tours: by least 1-trees, or by least links if pairs have a
+/// direction.
 #[derive(Drop)]
 pub(crate) struct CycleJudge<'a, C: Costs> {
     pub(crate) context: &'a LeafContext<'a, C>,

@@ -1,6 +1,6 @@
 -- The result of a call of the C library in numbers: the struct of bindings/c/tsp.h, whose numbers are 0 where the call
 -- doesn't have them.
-use Rattle.tsp_c.specs.Prelude.{ℕ, Bool, List, Option, None, Some, Result, Ok, Err, IsTrue, unwrap_or, ℤ, pos, unsigned_abs, Fields, nodes_of, ParsesTo, CertificateKind, rank_of, row_of_reason, is_yes, is_bound_yes, IsGapSized, RunFault, File, WrongKind, status_of}
+use Rattle.tsp_c.specs.Prelude.{ℕ, Bool, List, Option, None, Some, Result, Ok, Err, IsTrue, unwrap_or, ℤ, pos, unsigned_abs, Fields, nodes_of, ParsesTo, CertificateKind, number_of_reason, row_of_reason, is_yes, is_bound_yes, IsGapSized, RunFault, File, WrongKind, status_of}
 use Rattle.std.specs.Prelude.{◌≡◌, ◌≤◌, ◌<◌, ◌^◌}
 use Rattle.std.specs.Int.{int_div_euclid, int_rem_euclid}
 use Rattle.tsp_format.specs.declared.kinds.Kind.{Kind}
@@ -113,7 +113,7 @@ field_number fields.LoadUnitKey = 25
 field_number fields.MemoryPart = 26
 field_number fields.SubsetRowPart = 27
 
--- ---- a reason: its place in the order in which reasons are judged, its numbers, and its field
+-- ---- a reason: its number for C, the numbers that it has, and its field
 
 -- the first number of a reason, or 0
 abbrev pub first_number : Reason → ℤ
@@ -132,7 +132,7 @@ field_of_reason reason = 0
 abbrev pub with_reason : CallResult → Reason → CallResult
 with_reason call_result reason = record call_result {
   verdict = 3;
-  reason = rank_of reason;
+  reason = number_of_reason reason;
   first = first_number reason;
   second = second_number reason;
   field = field_of_reason reason;

@@ -9,6 +9,6 @@ pub use Rattle.tsp_judge.specs.declared.run_status.RunFault.{RunFault}
 pub use Rattle.tsp_judge.specs.declared.run_status.RunFault.TheVariants.{File, OutOfMemory, Relayout, Write, WrongKind}
 pub use Rattle.tsp_number.specs.declared.decimal.Point.{Point}
 pub use Rattle.tsp_report.specs.Report.{IsGapSized, IsSized, bound_report_of, report_of}
-pub use Rattle.tsp_report.specs.Verdicts.{is_bound_yes, is_yes, rank_of, row_of_reason}
+pub use Rattle.tsp_report.specs.Verdicts.{is_bound_yes, is_yes, number_of_reason, row_of_reason}
 pub use Rattle.tsp_report.specs.declared.task.CertificateKind.{CertificateKind}
 pub use Rattle.tsp_text.specs.ParsesTo.{ParsesTo, fault}

@@ -8,7 +8,7 @@ use tsp_cost::{Costs, Instance};
 use tsp_format::{Field, Kind};
 use tsp_judge::{Bounded, EndFault, Judged, LineFault, ReadFault, RunError, RunFault, Status};
 use tsp_number::NumberFault;
-use tsp_report::{BoundVerdict, Reason, Verdict, row_of_reason};
+use tsp_report::{BoundVerdict, Reason, Verdict, number_of_reason, row_of_reason};
 
 /// The verdicts by their numbers.
 const TOUR: u32 = 1;
@@ -273,7 +273,7 @@ impl CallResult {
         let row = row_of_reason(reason);
         CallResult {
             verdict: REJECTED,
-            reason: row.rank,
+            reason: number_of_reason(reason),
             first: row.numbers.0.unwrap_or(0),
             second: row.numbers.1.unwrap_or(0),
             field: field_of_reason(reason),

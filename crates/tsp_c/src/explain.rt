@@ -127,11 +127,17 @@ fn again<'a>(task: &Task<'_, Named<'a>>, fault: RunFault) -> Result<Option<&'a [
         }
         | RunFault::OutOfMemory
         | RunFault::Write(_) => Err(AllocError),
-        RunFault::File { file, fault: _ } => match task.file(file) {
-            Some((_, file)) => Ok(Some(file.bytes)),
-            None => Ok(None),
-        },
-        RunFault::WrongKind | RunFault::Relayout(_) => Ok(None),
+        RunFault::File { file, fault: _ } => Ok(bytes_of(task, file)),
+        RunFault::WrongKind => Ok(bytes_of(task, 1)),
+        RunFault::Relayout(_) => Ok(None),
+    }
+}
+
+/// The text with this number.
+fn bytes_of<'a>(task: &Task<'_, Named<'a>>, number: u32) -> Option<&'a [u8]> {
+    match task.file(number) {
+        Some((_, file)) => Some(file.bytes),
+        None => None,
     }
 }
 

@@ -1,4 +1,5 @@
--- A cycle is in one of both cases of a branch, and uses no link that the decisions of its case forbid.
+-- A cycle is in one of the two cases of a branch, and uses no link that the decisions of its case forbid: the laws on
+-- cases in src/laws.rt.
 use Rattle.tsp_cases.proofs.Prelude.{◌≡◌, ℕ, ◌==◌, ◌&&◌, Bool, true, false, List, [], ◌∷◌, length, ℤ, ◌≤ℤ◌, ◌⊎◌, inl, inr, refl, sym, ap, ◌∙◌, subst, arith, ◌≢◌, zero, suc, ◌≤◌, ◌+ℤ◌, get_or, cases_Bool, both_ways, and_parts, and_from, eqb-true, eq-eqb, cases_eq, ne_eqb, ints, recursion_from_All, All-cons, All-from_recursion, All-weaker, All-contains, Contains-get_or, Any-from_list_any, list_any_at, All, AllByRecursion, Contains, list_any, pos, IsNode, Laws, has_node, neighbours_or_not, sum_zero, one_if, none_or_one, sum_below, count_any, once, sum_int_by-le, IsCycle, links, Follows, Uses, length_of, links_to}
 use Rattle.tsp_cases.specs.CaseTrees.{AllowsLink, Allows, LinksAreAllowed, NoLinkNoCycle, SumsAreBelowCycles}
 use Rattle.tsp_cases.specs.Cases.{KeepsDecision, CaseStep, Branch, Leaf, are_case_trees, decide, leaves_of, cases_of, KeepsOne, CyclesKeepLeaves, BoundsCase, HasNoCycle, BoundsButOpen, CasesBoundCycles, CasesHaveNoCycle, StacksHoldCases, KeepsPair}

@@ -1,5 +1,5 @@
--- Sets divide the nodes into parts: members as bits of a number, parts by any numbers of the nodes, and cycles through
--- parts that are widened.
+-- Sets divide the nodes into parts, found by bits of a number for each node (src/family.rt), and cycles through parts
+-- that are widened.
 use Rattle.tsp_cases.proofs.Prelude.{◌≡◌, ◌≢◌, ℕ, ◌+◌, ◌-◌, ◌*◌, ◌/◌, ◌%◌, ◌^◌, ◌<◌, ◌≤◌, ◌⊎◌, Bool, true, false, zero, not, cond, List, [], ◌∷◌, ◌++◌, length, get_or, drop, ℤ, ◌+ℤ◌, ◌≤ℤ◌, inl, inr, refl, arith, ap, ap₂, sym, ◌∙◌, subst, pow-suc, bit_xor, length-append, suc, ◌==◌, map, cases_lt, cases_eq, eq-eqb, ne_eqb, ints, drop_more, get_or_append_left, get_or_default, get_or_past, get_or-map, length-map, get_or_push, recursion_from_All, All-from_recursion, All-weaker, div-add-mod', xor_block, ones_cat, Vec, count_ones, All, Any, AllByRecursion, AllZip, pos, slice_index, if◌then◌else◌, IsNode, one_if, length_of, IsCycle}
 use Rattle.std.proofs.Math.Nat.{div-lt_iff_lt-mul, mod-lt}
 use Rattle.std.proofs.lemmas.List.Quantifiers.{all_pairs_push}

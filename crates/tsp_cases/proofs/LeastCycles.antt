@@ -1,4 +1,5 @@
--- The least length of a cycle through few parts, from best paths by dynamic programming.
+-- The least length of a cycle through few parts, from best paths by dynamic programming (`least_cycle` in
+-- src/family.rt).
 use Rattle.tsp_cases.proofs.Prelude.{◌≡◌, ℕ, ◌+◌, ◌*◌, ◌<◌, List, [], ◌∷◌, ◌++◌, length, inl, inr, arith, sym, ◌∙◌, subst, length-append, ◌≢◌, zero, suc, ◌-◌, ◌/◌, ◌%◌, ◌^◌, ◌≤◌, ◌⊎◌, refl, ap, pow-suc, mul_comm, eqb, false, ◌≤ℤ◌, cases_lt, cases_eq, cases_order, eqb-false, ints, get_or_append_left, get_or_push, get_or_past, same_from_place, mul-add-lt, pow_pos, pow_below, bit_at, AllByRecursion, All, IsDistinct, range_with_len, slice_index, pos, IsNode, AreInner, turned_nodes, turned_length, IsCycle, length_of, IsInner}
 use Rattle.std.proofs.Math.Nat.{div-eq_of_lt}
 use Rattle.std.proofs.lemmas.List.FromFn.{length-range_with_len}

@@ -1,4 +1,5 @@
--- The files of lemmas of this crate. Crates above may import them.
+-- Lemmas on families (PartWalks, LeastCycles, Divisions, FamilyCrossings, GoodFamilies, SetSums) and on trees of cases
+-- (the others).
 mod Prelude
 pub mod PartWalks
 pub mod LeastCycles

@@ -1,4 +1,4 @@
--- One pass over the steps of a tree of cases, and what it finds at a branch, at a leaf and at the end.
+-- One pass over the steps of a tree of cases (src/pass.rt), and what it finds at a branch, at a leaf and at the end.
 use Rattle.tsp_cases.proofs.Prelude.{◌≡◌, ◌∙◌, ℕ, ◌+◌, ◌<◌, List, ◌∷◌, ◌++◌, length, take, drop, get_or, sym, ap, subst, arith, drop-cons, add-one, zero, suc, ◌-◌, Bool, true, false, [], ℤ, inl, inr, ◌≤ℤ◌, refl, ◌^◌, ◌≤◌, length-append, both_ways, ints, get_or-map, length-map, take-append-le, take_all, length-reverse, drop_all, recursion_from_All, All-from_recursion, All, Any, AllByRecursion, ◌⊎◌, Option, Some, None, IfSome, are_whole, TreeStep, step_of, steps_of, IsBoundSized}
 use Rattle.tsp_format.specs.Steps as listed
 use Rattle.tsp_cases.proofs.CaseLaws.{stacks_hold_cases}

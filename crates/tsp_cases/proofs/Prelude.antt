@@ -1,4 +1,4 @@
--- What the proofs of this crate use most of other crates, passed on from one place.
+-- Names from std and other crates that proofs here use often, re-exported so that a file needs one import.
 pub use Rattle.std.proofs.Common.{Bool, FitsSigned, List, None, Option, add-one, ap, ap₂, arith, bit_xor, cond, count_ones, drop, drop-cons, eqb, false, get_or, inl, inr, leb, length, length-append, map, mul_comm, not, of_z, pow-suc, refl, replicate, rules, subst, subst₂, suc, sym, take, to_z, true, zero, ℕ, ℤ, [], ◌%◌, ◌&&◌, ◌*◌, ◌++◌, ◌+◌, ◌-◌, ◌/◌, ◌<◌, ◌==◌, ◌^◌, ◌||◌, ◌∙◌, ◌∷◌, ◌≡◌, ◌≢◌, ◌≤ℤ◌, ◌≤◌, ◌⊎◌}
 pub use Rattle.std.proofs.Math.ListN.{length-set, set}
 pub use Rattle.std.proofs.Math.Logic.{∥∥₁_elim}

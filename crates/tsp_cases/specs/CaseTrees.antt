@@ -1,6 +1,6 @@
 -- Circle 3 of docs/trust.md.
--- The bound of a certificate by branching, as a theorem: the bound of a leaf by a least 1-tree or by the least link
--- from each node, and the least bound of all leaves.
+-- The bound of a branches file as mathematics: of a leaf by a least 1-tree or by the least link from each node, and of
+-- the file as the least of its leaves. The theorems that no tour is shorter are stated here.
 use Rattle.tsp_cases.specs.Prelude.{All, Any, ℕ, Bool, true, false, List, ℤ, [], length, pos, Option, Some, None, IsNode, nodes_to, IsSymmetric, IsLeastBound, IsScale, total, weight_between, adjusted, triples_total, UsesEach, UsesNone, IsAdjustedBound, IsCycle, Follows, sum_int_by, length_of, Problem, BoundsTours, HasNoTour, weight_of, IsLeastOneTree}
 use Rattle.std.specs.Prelude.{◌≡◌, ◌≢◌, ◌≤◌, ◌↔◌, ◌+ℤ◌, ◌≤ℤ◌, ◌-ℤ◌, ◌*ℤ◌, ◌⊎◌, ◌∷◌}
 use Rattle.tsp_cases.specs.Cases.{KeepsAll, HasNoCycle, BoundsCase, take_pairs, on_taken, on_avoided, LeafNumbers, CaseStep, are_case_trees, leaves_of}
@@ -23,7 +23,7 @@ pub record IsAllowed (n : ℕ) (decisions : List Decision) (i j : ℕ) : Type 0 
   pub other : i ≢ j
   pub each : All (Allows i j) decisions
 
--- the least weight of the allowed links from i, of which there is one at least
+-- the least weight of the allowed links from i, of which there is at least one
 pub record IsLeastFrom (n : ℕ) (w : ℕ → ℕ → ℤ) (decisions : List Decision) (i : ℕ) (least : ℤ) : Type 0 where
   pub to : ℕ
   pub allowed : IsAllowed n decisions i to
@@ -111,7 +111,7 @@ LeafBoundsBoundCycles = (n : ℕ) (cost : ℕ → ℕ → ℤ) (scale : ℤ) (po
     → IsLeafBound n cost scale potentials taken avoided families bound
     → IsCycle n nodes → UsesEach taken nodes → UsesNone avoided nodes → bound ≤ℤ length_of cost nodes
 
--- Without families it is the bound of Bounds.antt of tsp_theory.
+-- Without families it is the bound of Bounds.antt in tsp_theory.
 abbrev pub UncombedBoundsAreAdjustedBounds : Type 0
 UncombedBoundsAreAdjustedBounds = (n : ℕ) (cost : ℕ → ℕ → ℤ) (scale : ℤ) (potentials : List ℤ) (taken avoided : List (ℕ × ℕ × ℤ))
     (bound : ℤ) → IsLeafBound n cost scale potentials taken avoided [] bound

@@ -1,5 +1,6 @@
 -- Circle 3 of docs/trust.md.
--- Trees of cases: a branch divides the first open case by a decision on a pair, and a leaf closes it by numbers.
+-- Trees of cases: a branch divides the first open case by a decision on a pair, and a leaf closes it by numbers. That
+-- every tour keeps the decisions of some leaf is the reason why a least bound over leaves is a bound.
 use Rattle.tsp_cases.specs.Prelude.{All, AllPairs, ℕ, Bool, true, false, List, [], length, map, ℤ, pos, zero, suc, Option, None, Some, IsSymmetric, IsScale, most_number, pair_of, is_same_pair, IsAdjustedBound, IsCycle, Uses, length_of, Problem, BoundsTours}
 use Rattle.std.specs.Prelude.{◌≤◌, ◌≡◌, ◌==◌, ◌&&◌, if◌then◌else◌, ◌∷◌, ◌≤ℤ◌, ◌++◌, ◌⊎◌}
 use Rattle.tsp_cases.specs.declared.decision.Decision.{Decision}
@@ -133,7 +134,7 @@ CasesBoundCycles = (directed : Bool) (n : ℕ) (cost : ℕ → ℕ → ℤ) (bou
 abbrev pub HasNoCycle : Bool → ℕ → List Decision → Type 0
 HasNoCycle directed n case = (nodes : List ℕ) → IsCycle n nodes → KeepsAll directed nodes case → ⊥
 
--- So where the case of no leaf has a cycle, no cycle keeps the given decisions.
+-- So if the case of no leaf has a cycle, no cycle keeps the given decisions.
 abbrev pub CasesHaveNoCycle : Type 0
 CasesHaveNoCycle = (directed : Bool) (n : ℕ) (given : List Decision) (steps : List CaseStep)
     → are_case_trees 1 steps ≡ true → All (HasNoCycle directed n) (cases_of (leaves_of (given ∷ []) steps))
@@ -168,11 +169,11 @@ next_stack (decision ∷ stack) = if decision.taken then Some (decide decision.p
 abbrev pub StacksBegin : Type 0
 StacksBegin = (given : List Decision) → open_cases given (Some []) ≡ given ∷ []
 
--- The stack with one taken pair more has two cases in the place of the first.
+-- The stack with one more taken pair has two cases in place of the first.
 abbrev pub StacksBranch : Type 0
 StacksBranch = (given stack : List Decision) (pair : ℕ × ℕ) → open_cases given (Some (decide pair true stack))
     ≡ decide pair true (stack ++ given) ∷ decide pair false (stack ++ given) ∷ later_cases given stack
 
--- The stack after a leaf has the open cases but the first.
+-- The stack after a leaf has all open cases except the first.
 abbrev pub StacksHoldCases : Type 0
 StacksHoldCases = (given stack : List Decision) → open_cases given (next_stack stack) ≡ later_cases given stack

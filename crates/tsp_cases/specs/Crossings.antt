@@ -1,6 +1,6 @@
 -- Circle 3 of docs/trust.md.
--- How often families of sets of nodes are crossed: by a cycle at least, by two nodes at most. The parts that sets make
--- of the nodes, and the least cycle through them.
+-- How often a family of sets is crossed: by a cycle at least, by two nodes at most, found over the parts that the sets
+-- make of the nodes. What a family adds to a bound is decided by these two numbers.
 use Rattle.tsp_cases.specs.Prelude.{Vec, All, AllPairs, list_any, Any, AllByRecursion, ℕ, Bool, List, length, map, ℤ, [], slice_index, pos, IsNode, IsCycle, sum_int_by, length_of, crossing, IsInner}
 use Rattle.std.specs.Prelude.{◌≡◌, ◌<◌, ◌⊎◌, ◌==◌, ◌≤ℤ◌, ◌≢◌, ◌+◌, ◌*◌, ◌≤◌, ◌↔◌, if◌then◌else◌, ◌∷◌, ◌-◌, ◌^◌}
 
@@ -44,11 +44,11 @@ AreAlike sets i j = All (λ set. set i ≡ set j) sets
 abbrev pub AreUnlike : List (ℕ → Bool) → List ℕ → Type 0
 AreUnlike sets nodes = AllPairs (λ i j. AreAlike sets i j → ⊥) nodes
 
--- of the nodes 1..n some `count` are in different parts
+-- among the nodes 1..n, some `count` nodes are in different parts
 abbrev pub HasUnlike : ℕ → ℕ → List (ℕ → Bool) → Type 0
 HasUnlike count n sets = (nodes : List ℕ) × (length nodes ≡ count) × All (IsNode n) nodes × AreUnlike sets nodes
 
--- a family that isn't taken: more than 63 sets, or more than 14 parts
+-- a family that is refused: it has more than 63 sets, or more than 14 parts
 abbrev pub AreTooMany : ℕ → List (ℕ → Bool) → Type 0
 AreTooMany n sets = (63 < length sets) ⊎ HasUnlike 15 n sets
 
@@ -127,15 +127,15 @@ PartsTellCycles = (n : ℕ) (sets : List (ℕ → Bool)) (firsts : List ℕ) (le
     → 1 ≤ n → ArePartsOf n sets firsts → IsLeastLength (length firsts) (between sets firsts) least
     → IsLeastLength n (sets_crossed sets) least
 
--- There is one least length.
+-- The least length is unique.
 abbrev pub LeastLengthsAreUnique : Type 0
 LeastLengthsAreUnique = (n : ℕ) (cost : ℕ → ℕ → ℤ) (a b : ℤ) → IsLeastLength n cost a → IsLeastLength n cost b → a ≡ b
 
--- There is one largest cost.
+-- The largest cost is unique.
 abbrev pub MostCostsAreUnique : Type 0
 MostCostsAreUnique = (n : ℕ) (cost : ℕ → ℕ → ℤ) (a b : ℤ) → IsMostCost n cost a → IsMostCost n cost b → a ≡ b
 
--- Nodes of which no two are in the same sets are no more than the parts.
+-- If no two of some nodes are in the same sets, there are at least as many parts as nodes.
 abbrev pub UnlikeNodesNeedParts : Type 0
 UnlikeNodesNeedParts = (n : ℕ) (sets : List (ℕ → Bool)) (firsts nodes : List ℕ) → ArePartsOf n sets firsts
     → All (IsNode n) nodes → AreUnlike sets nodes → length nodes ≤ length firsts

@@ -1,4 +1,4 @@
--- Small sets, families, costs, numbers and trees of cases, on which the definitions are evaluated.
+-- Small sets, families, costs, numbers and trees of cases, for src/examples.rt.
 use Rattle.tsp_cases.specs.Prelude.{All, range_with_len, ℕ, Bool, List, [], true, false, Some, replicate, min, max, slice_index, slice_index_or, ℤ, pos, negsuc, map, length_of}
 use Rattle.std.specs.Prelude.{◌∷◌, ◌≡◌, ◌-◌, ◌*◌}
 use Rattle.tsp_format.specs.Steps as listed

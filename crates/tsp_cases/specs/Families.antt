@@ -1,6 +1,6 @@
 -- Circle 3 of docs/trust.md.
--- Families of sets of nodes: combs, lone sets and others, the least number of times that a cycle crosses each, and
--- which families of a file are good.
+-- Families of sets of nodes, such as combs and lone sets: the least number of times that a cycle crosses each, and
+-- which families of a file are good. A file with another one is rejected.
 use Rattle.tsp_cases.specs.Prelude.{ℕ, map, Bool, true, false, List, length, ℤ, pos, zero, suc, [], slice_index_or, IsNode, IsCycle, sum_int_by, length_of, crossing}
 use Rattle.std.specs.List.{All, AllPairs}
 use Rattle.std.specs.Prelude.{◌≡◌, ◌+◌, ◌*◌, ◌≤◌, ◌+ℤ◌, ◌≤ℤ◌, ◌∷◌, ◌⊎◌, if◌then◌else◌, ◌*ℤ◌, ◌≢◌, ◌<◌}
@@ -62,7 +62,7 @@ pub record Family : Type 0 where
   pub sets : Comb
   pub numbers : Crossings
 
--- a lone set, as a handle without teeth: it has a node of 1..n, and leaves one out
+-- a lone set, as a handle without teeth: it contains a node of 1..n, but not all
 pub record IsLoneSet (n : ℕ) (sets : Comb) : Type 0 where
   pub alone : sets.teeth ≡ []
   pub inside : ℕ
@@ -107,7 +107,7 @@ abbrev pub CyclesCrossFamilies : Type 0
 CyclesCrossFamilies = (n : ℕ) (family : Family) (nodes : List ℕ) → IsFamily n family → IsCycle n nodes
     → pos family.numbers.least ≤ℤ length_of (family_crossings family.sets) nodes
 
--- Sets have these numbers in one way only.
+-- The two numbers of given sets are unique.
 abbrev pub NumbersAreUnique : Type 0
 NumbersAreUnique = (n : ℕ) (a b : Family) → a.sets ≡ b.sets → IsFamily n a → IsFamily n b → a.numbers ≡ b.numbers
 

@@ -1,4 +1,5 @@
--- The judgement on the leaves of a tree, whatever gives a leaf's bound: the least bound, or the first bad leaf.
+-- The judgement on the leaves of a tree, whatever gives a leaf its bound: the least bound, or the first bad leaf. Tours
+-- and routes share it.
 use Rattle.tsp_cases.specs.Prelude.{All, Option, Some, None, ℤ, ℕ, List, [], IfSome, IsBoundSized}
 use Rattle.std.specs.Prelude.{◌≡◌, ◌⊎◌, ◌≤ℤ◌, ◌∷◌}
 use Rattle.tsp_format.specs.Steps as listed

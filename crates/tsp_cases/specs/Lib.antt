@@ -1,4 +1,5 @@
--- The files of definitions of this crate. Crates above may import them.
+-- Definitions of families (Crossings, Families), of trees of cases and their bounds (Cases, ListedCases, CaseTrees),
+-- and of the judgement on each (Judged..).
 pub mod Prelude
 pub mod Crossings
 pub mod Examples

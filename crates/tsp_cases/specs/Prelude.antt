@@ -1,4 +1,4 @@
--- What the definitions and contracts of this crate use most of other crates, passed on from one place.
+-- Names from other crates that definitions and contracts here use often, re-exported so that a file needs one import.
 pub use Rattle.std.specs.Global.{Vec}
 pub use Rattle.std.specs.Int.{w64}
 unfoldable pub use Rattle.std.specs.Int.{int_wrap}

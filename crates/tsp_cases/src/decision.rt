@@ -1,7 +1,9 @@
-//! A decision of a case: a pair of nodes that cycles use, or one that they avoid.
+//! A decision of a branch: a pair of nodes that cycles use, or one that they avoid. Also `DECIDED`,
+//! the large number that makes a least 1-tree keep to it; a smaller one would leave every bound
+//! sound and make most of them weaker.
 
-/// The number on each decided pair. It cancels in the bound, so any number would do. This one is
-/// far above all other parts of a weight and lets weights fit 64 bits.
+/// The number that is put on each decided pair. It cancels in the bound, so any number would do;
+/// this one is far above all other parts of a weight, and small enough for weights to fit 64 bits.
 pub const DECIDED: i64 = 4_000_000_000_000_000_000;
 
 /// A pair of nodes, and whether a cycle is to use it.
@@ -9,6 +11,6 @@ pub const DECIDED: i64 = 4_000_000_000_000_000_000;
 pub struct Decision {
     /// The two nodes, from the first to the second if pairs have a direction.
     pub pair: (u32, u32),
-    /// Whether a cycle uses the pair, or doesn't.
+    /// Whether cycles use the pair (true) or avoid it.
     pub taken: bool,
 }

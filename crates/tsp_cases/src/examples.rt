@@ -1,5 +1,6 @@
-//! Laws that state values of the definitions in `specs/`, worked out by hand: crossings of a comb,
-//! weights at leaves, bounds of small trees of cases, bad branches.
+//! Crossings of a comb, weights at leaves, bounds of small trees of cases and their bad branches,
+//! worked out by hand as laws. They are what stands against a wrong definition in `specs/` that the
+//! code follows.
 
 ghost use Rattle.std.specs.Prelude.{◌≡◌, ℕ, ℤ, List, [], ◌∷◌, true, false, pos, ◌-ℤ◌, ◌+ℤ◌, ◌+◌, ◌-◌, ◌*◌, ◌^◌, negsuc};
 ghost use Rattle.tsp_format.specs.Steps as listed;
@@ -14,8 +15,8 @@ use crate::decision::DECIDED;
 use crate::laws::{cycles_cross_families, numbers_are_unique, unlike_nodes_need_parts};
 use tsp_theory::lengths_add_up;
 
-/// How often some nodes cross the parts of a comb, and how often two cycles do: the first one as
-/// often as each cycle does at the least.
+/// How often edges between some nodes cross the sets of a comb, and how often two cycles do. The
+/// first cycle does so as seldom as any can.
 pub fn examples_of_crossings()
     ensures least { least_crossings small_comb ≡ pos 10 }
     ensures least_of_three_teeth { least_crossings_of 3 ≡ 10 }
@@ -33,8 +34,8 @@ pub fn examples_of_crossings()
     ensures other_cycle { CrossesInAll (1 ∷ 2 ∷ 3 ∷ 4 ∷ 5 ∷ 6 ∷ []) 14 }
 {}
 
-/// The number on each decided pair, in the code too; and what some pairs weigh at the leaves of two
-/// certificates.
+/// The number on each decided pair, which is the one in the code; and what some pairs weigh at the
+/// leaves of two certificates.
 pub fn examples_of_weights()
     ensures number { decided_number ≡ large }
     ensures code { DECIDED ≡ decided_number }
@@ -95,8 +96,8 @@ pub fn examples_of_verdicts()
     ensures sides { (changes : List (ℕ × ℤ)) → TwiceAt false [] (on_both_sides changes) 4 }
 {}
 
-/// Branches that are bad, if they may be on a pair of four nodes, and if they may be on one
-/// of two families of them; and which branches a file may have.
+/// Which branches are bad if they may be on a pair of four nodes, and which if they may be on one
+/// of two families; and which branches a file may have.
 pub fn examples_of_bad_branches()
     ensures family { IsFirstBadBranch 1 4 (branches 1 2 5 1) 2 }
     ensures family_first { IsFirstBadBranch 1 4 (branches 5 1 6 1) 1 }
@@ -152,13 +153,13 @@ pub fn examples_of_good_numbers()
     ensures lower_potential { ¬ AreGoodNumbers 3 [] (moved_at_three (negsuc (10 ^ 15))) }
 {}
 
-/// Each leaf has the numbers of the leaf before it, changed by its differences; the first one those
-/// of 0.
+/// Each leaf has the numbers of the leaf before it, changed by its differences. Before the first
+/// leaf all numbers are 0.
 pub fn examples_of_differences()
     ensures { listed_steps 3 1 by_differences ≡ by_numbers }
 {}
 
-/// Which links are allowed beside a taken arc, beside an avoided one, and without any.
+/// Which links are allowed by a taken arc, by an avoided one, and without decisions.
 pub fn examples_of_links()
     ensures taken { IsAllowed 3 (with_pair 1 3 ∷ []) 1 3 }
     ensures row_of_taken { ¬ IsAllowed 3 (with_pair 1 3 ∷ []) 1 2 }
@@ -174,8 +175,8 @@ pub fn examples_of_links()
     ensures past_the_last { ¬ IsAllowed 3 [] 2 4 }
 {}
 
-/// Bounds by rows: the costs of the least allowed links, and none if a node has no link. The
-/// arcs of node 1 go to the nodes 2 and 3, which two taken arcs enter elsewhere.
+/// Bounds by rows: the costs of the least allowed links, and no bound if some node has none. The
+/// arcs from node 1 lead to the nodes 2 and 3, which two taken arcs enter from elsewhere.
 pub fn examples_of_rows()
     ensures none_left { HasNoLink 3 (with_pair 3 2 ∷ with_pair 2 3 ∷ []) }
     ensures some_left { ¬ HasNoLink 3 [] }
@@ -186,9 +187,9 @@ pub fn examples_of_rows()
     ensures given_back { IsRowBound 3 cost_of_three (with_pair 1 3 ∷ []) (pos 2) (pos 5) (pos 14) }
 {}
 
-/// Bounds of leaves by rows. A potential of 3 at node 1 and of 1 at node 3 and a multiplier of 2
-/// for the crossings of node 1 alone make the least weights 2, 3 and 5 at the scale 1. The two
-/// crossings of each cycle give 4 back, and the potentials take 8.
+/// Bounds of leaves by rows. With a potential of 3 at node 1 and of 1 at node 3, and a multiplier
+/// of 2 on the lone set of node 1, the least weights are 2, 3 and 5 at scale 1. The two crossings
+/// of each cycle add 4, and the potentials take away 8.
 pub fn examples_of_leaves()
     ensures alone { LeafOfThreeHas [] (pos 1) (pos 6) }
     ensures taken { LeafOfThreeHas (with_pair 1 3 ∷ []) (pos 2) (pos 24) }

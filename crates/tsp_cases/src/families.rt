@@ -1,4 +1,5 @@
-//! The families of a certificate, all of them good, with the crossings of each.
+//! `Families`: the families of a certificate after all were found good, with the crossings of each.
+//! Later code takes this type and so never tests a family again.
 
 ghost use Rattle.std.specs.Prelude.{◌≡◌, ◌≤◌, ◌<◌, ◌-◌, ◌^◌, length};
 ghost use Rattle.std.specs.List.{All};
@@ -9,11 +10,11 @@ ghost use Rattle.tsp_cases.specs.states.GoodFamilies.{AreSmallCrossings};
 use crate::family::Crossings;
 use crate::sets::SetPlace;
 
-/// Families of sets of nodes, all of them good, as a file lends them, and how often cycles cross
-/// each. A comb has its handle first, then its teeth; a lone set is a handle without teeth.
+/// The families of a file, all of them good, and how often cycles cross each. A comb has its handle
+/// first, then its teeth; a lone set is a handle without teeth.
 ///
-/// For tours, [`judge_families`](crate::judge_families) makes such a value. tsp_routing makes one
-/// too, of single sets of customers, and keeps how often plans cross these beside it.
+/// For tours, [`judge_families`](crate::judge_families) makes this value. tsp_routing makes it of
+/// single sets of customers, and keeps how often plans cross them separately.
 #[derive(Drop)]
 pub struct Families<'a> {
     pub nodes: u32,

@@ -1,5 +1,7 @@
 //! How often a cycle crosses the sets of a family at least, and how many of them one edge crosses
-//! at most: by a shortest cycle through the at most 14 parts into which the sets divide the nodes.
+//! at most: by a shortest cycle through the parts into which the sets divide the nodes, at most 14,
+//! as M. Held and R. M. Karp found it in 1962. The bound of a leaf grows with the first number,
+//! which `IsLeastLength` in `specs/Crossings.antt` makes exact.
 
 ghost use Rattle.std.specs.List.{All, Any};
 ghost use Rattle.std.specs.Prelude.{◌≤◌, pos, MatchOption, IfOk, IfSome, ◌≡◌, ◌<◌, ◌+◌, ◌^◌, ◌↔◌, ℕ, List, IsTrue, length, slice_index, if◌then◌else◌, ◌*◌, count_ones, bit_xor, ◌-◌};
@@ -15,9 +17,9 @@ const MOST_SETS: usize = 63;
 /// How often the sets of a family are crossed.
 #[derive(Clone, Copy, Debug, PartialEq, Eq)]
 pub struct Crossings {
-    /// How often each cycle crosses the sets, at least.
+    /// The least number of times that a cycle crosses the sets.
     pub least: u64,
-    /// How many of the sets an edge crosses, at most.
+    /// The largest number of sets that one edge crosses.
     pub most: u64,
 }
 
@@ -27,7 +29,7 @@ pub struct Crossings {
 ///
 /// # Errors
 ///
-/// Out of memory, of which it takes some for each node.
+/// Out of memory. It allocates memory for each node.
 pub fn family_crossings(alloc: Global, family: &NodeSets) -> Result<Option<Crossings>, Refused>
     ensures least { IfOk result
         (λ found. MatchOption found (AreTooMany family.now.nodes (sets_of (lists_of family.now.sets.now)))
@@ -88,7 +90,7 @@ pub struct Parts {
 ///
 /// # Errors
 ///
-/// Out of memory, of which it takes some for each node.
+/// Out of memory. It allocates memory for each node.
 pub fn parts_of(alloc: Global, family: &NodeSets) -> Result<Option<Parts>, Refused>
     requires { length family.now.sets.now ≤ 63 }
     ensures parts { IfOk result (λ found. MatchOption found
@@ -149,7 +151,7 @@ fn has_membership(memberships: &[u64], nodes: &[u32], membership: u64) -> bool
 ///
 /// # Errors
 ///
-/// Out of memory, of which it takes some for each node.
+/// Out of memory. It allocates memory for each node.
 fn memberships_of(alloc: Global, family: &NodeSets) -> Result<Vec<u64>, Refused>
     requires { length family.now.sets.now ≤ 63 }
     ensures { IfOk result (λ memberships. AreMemberships family.now.nodes
@@ -162,7 +164,7 @@ fn memberships_of(alloc: Global, family: &NodeSets) -> Result<Vec<u64>, Refused>
     Ok(memberships)
 }
 
-/// Adds a bit at each of these nodes, which may be listed twice.
+/// Sets a bit for each of these nodes. A node may be listed twice.
 fn add_bit(memberships: &mut [u64], bit: u64, nodes: &[u32])
     requires nodes { All (λ node. node < length memberships.old) nodes.now }
     requires bit { bit < 2 ^ 63 }
@@ -181,7 +183,8 @@ fn add_bit(memberships: &mut [u64], bit: u64, nodes: &[u32])
 
 // ---- how many sets of a family have one of two parts and not the other
 
-/// The crossings between nodes, by rows: in how many bits their memberships differ.
+/// How many sets an edge between any two of these nodes crosses, by rows: in how many bits their
+/// memberships differ.
 ///
 /// # Errors
 ///
@@ -214,7 +217,7 @@ fn crossings_between(
 
 // ---- the least length of a cycle through at most 14 nodes, which are the parts of a family
 
-/// The least length of a cycle of few nodes.
+/// The length of a shortest cycle through all of a few nodes.
 ///
 /// # Errors
 ///
@@ -234,10 +237,10 @@ pub fn least_cycle(alloc: Global, between: &CostSquare) -> Result<u64, Refused>
 
 // ---- the least lengths of paths through sets of nodes, by dynamic programming
 
-/// The number if there is no path.
+/// The number that stands for no path.
 const NO_PATH: u64 = 1_152_921_504_606_846_976;
 
-/// The least of a number and of the sums of two lists, from a place of each on.
+/// The least among a number and the sums of two lists, entry by entry from a place of each on.
 fn least_sum(
     start: u64,
     costs: &[u32],
@@ -261,8 +264,8 @@ fn least_sum(
     least
 }
 
-/// The least length of the paths from a node through all others of a set to node 1, or `NO_PATH`
-/// if the node isn't in the set. `other` is the node's number less 2.
+/// The length of a shortest path from a node through all others of a set to node 1, or `NO_PATH` if
+/// the node isn't in the set. `other` is the node's number minus 2.
 fn best_path(between: &CostSquare, paths: &[u64], set: usize, other: usize) -> u64
     requires set { set < 2 ^ (between.now.nodes - 1) }
     requires other { other < between.now.nodes - 1 }
@@ -294,7 +297,7 @@ fn power(exponent: usize) -> usize
     1 << exponent
 }
 
-/// The best paths of all sets of the nodes from 2 on.
+/// The lengths of shortest paths through each set of the nodes from 2 on.
 ///
 /// # Errors
 ///
@@ -321,8 +324,7 @@ fn best_paths(alloc: Global, between: &CostSquare) -> Result<Vec<u64>, Refused>
 
 // ---- the sets of one family, as a file lists them, with the number of nodes
 
-/// Sets of the nodes from 1 to `nodes`, of which there is one at least. A set may have a node
-/// twice.
+/// Sets of the nodes from 1 to `nodes`, with at least one node. A set may list a node twice.
 #[derive(Clone, Copy)]
 pub struct NodeSets<'a> {
     /// How many nodes there are.

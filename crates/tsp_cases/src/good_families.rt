@@ -1,7 +1,9 @@
-//! Judges the families of a certificate for tours: finds the first bad one, or how often cycles
-//! cross each. `mark_nodes`, which finds a node that a set has twice, is for routes too.
+//! Judges COMB_SECTION of a certificate for tours: finds the first bad family, which the report
+//! names, or how often cycles cross each. Lone sets and combs have known numbers; other families
+//! are counted out by `family.rt`. `mark_nodes`, which finds a node that a set has twice, serves
+//! routes, too.
 
-ghost use Rattle.tsp_cases.specs.Prelude.{All, Any, ℕ, IsTrue, [], length, true, IfOk, IfSome, Bool, false, IsNode};
+ghost use Rattle.tsp_cases.specs.Prelude.{All, Any, ℕ, IsTrue, [], length, true, IfOk, IfSome, false, IsNode};
 ghost use Rattle.std.specs.Prelude.{◌≡◌, ◌≤◌, ◌<◌, ◌-◌, ◌+◌, ◌^◌, ◌↔◌};
 ghost use Rattle.tsp_cases.specs.Families.{IsTooth, comb_of, IsLoneSet, least_crossings_of, IsGoodComb, IsToothCount, HasEachOnce};
 ghost use Rattle.tsp_cases.specs.Crossings.{has, AreSetsOf, lists_of};
@@ -25,7 +27,7 @@ use tsp_theory::Costs;
 ///
 /// # Errors
 ///
-/// Out of memory, of which it takes some for each node and for each family.
+/// Out of memory. It allocates memory for each node and for each family.
 pub fn judge_families<'a, C: Costs>(
     alloc: Global,
     tree: &BranchingCertificate<'a, C>,
@@ -56,8 +58,7 @@ pub fn judge_families<'a, C: Costs>(
     }))
 }
 
-/// The numbers of the family that sets are, the handle first; `None` if they are none, or one
-/// has a node twice.
+/// The crossings of a family with these sets, the handle first; `None` if the family isn't good.
 ///
 /// # Errors
 ///
@@ -86,8 +87,8 @@ fn crossings_of(
     other_crossings(alloc, family)
 }
 
-/// The numbers of a lone set or a comb with this many sets: a cycle crosses a lone set twice at
-/// least, and the handle and the k teeth of a comb 3k + 1 times.
+/// The crossings of a lone set or a comb with this many sets: every cycle crosses a lone set at
+/// least twice, and the handle and the k teeth of a comb at least 3k + 1 times.
 fn known_crossings(sets: usize) -> Crossings
     requires { sets < 2 ^ 32 }
     ensures least { result.least ≡ least_crossings_of (sets - 1) }
@@ -98,10 +99,10 @@ fn known_crossings(sets: usize) -> Crossings
     Crossings { least, most: 3 }
 }
 
-/// Whether sets, the handle first, are a lone set or a comb, each with its nodes once.
+/// Whether the sets, the handle first, are a lone set or a comb, without a node twice in a set.
 ///
-/// The nodes of the handle get a mark in `handles`, and those of the teeth one in `used`. No node
-/// has that mark before.
+/// The nodes of the handle get the mark in `handles`, and those of the teeth get it in `used`. No
+/// node has this mark before.
 fn is_comb(handles: &mut [u32], used: &mut [u32], mark: u32, sets: &[Vec<u32>]) -> bool
     requires handle_places { HavePlaces handles.old sets.now }
     requires tooth_places { HavePlaces used.old sets.now }
@@ -129,8 +130,7 @@ fn is_comb(handles: &mut [u32], used: &mut [u32], mark: u32, sets: &[Vec<u32>]) 
     are_teeth(handles, used, mark, teeth)
 }
 
-/// Whether nodes, which are those with the mark, are a lone set: there is one, and they leave one
-/// out.
+/// Whether the nodes with the mark are a lone set: at least one node, but not all.
 fn is_lone_set(handles: &[u32], mark: u32, nodes: &[u32]) -> bool
     ensures { (n : ℕ) → length handles.now ≡ n + 1 → All (IsNode n) nodes.now
         → ((x : ℕ) → is_marked handles.now mark x ≡ has nodes.now x)
@@ -146,8 +146,8 @@ fn is_tooth_count(count: usize) -> bool
     count >= 3 && count % 2 == 1
 }
 
-/// Whether sets are teeth of the handle whose nodes have the mark, and all their nodes different
-/// and without the mark. They get it.
+/// Whether the sets are disjoint teeth of the handle, whose nodes have the mark in `handles`. Their
+/// own nodes get the mark in `used`, which none of them may have before.
 fn are_teeth(handles: &[u32], used: &mut [u32], mark: u32, teeth: &[Vec<u32>]) -> bool
     requires handle_places { HavePlaces handles.now teeth.now }
     requires tooth_places { HavePlaces used.old teeth.now }
@@ -168,7 +168,8 @@ fn are_teeth(handles: &[u32], used: &mut [u32], mark: u32, teeth: &[Vec<u32>]) -
     true
 }
 
-/// Whether nodes are a tooth of the handle whose nodes have the mark.
+/// Whether the nodes are a tooth of the handle, whose nodes have the mark: some inside it, some
+/// outside.
 fn is_tooth(handles: &[u32], mark: u32, nodes: &[u32]) -> bool
     requires { All (λ node. node < length handles.now) nodes.now }
     ensures { (n : ℕ) → All (IsNode n) nodes.now
@@ -179,12 +180,12 @@ fn is_tooth(handles: &[u32], mark: u32, nodes: &[u32]) -> bool
 
 // ---- the crossings of families that are neither a lone set nor a comb
 
-/// The numbers of sets that are neither a lone set nor a comb. `None` if one has a node twice,
-/// if there are more than 63, or if their nodes make more than 14 parts or one alone.
+/// The crossings of sets that are neither a lone set nor a comb. `None` if a set has a node twice,
+/// if there are more than 63 sets, or if they make more than 14 parts or only one.
 ///
 /// # Errors
 ///
-/// Out of memory, of which it takes some for each node.
+/// Out of memory. It allocates memory for each node.
 fn other_crossings(alloc: Global, family: &NodeSets) -> Result<Option<Crossings>, Refused>
     ensures found { (IsGoodComb family.now.nodes (lists_of family.now.sets.now) → ⊥)
         → IfOk result (AreFamilyNumbers family.now.nodes (lists_of family.now.sets.now)) }
@@ -199,7 +200,7 @@ fn other_crossings(alloc: Global, family: &NodeSets) -> Result<Option<Crossings>
         return Ok(None);
     };
     most_costs_are_unique();
-    // If no two nodes cross a set, all are in one part.
+    // If no edge crosses a set, all nodes are in one part.
     if own.most == 0 {
         return Ok(None);
     }
@@ -210,7 +211,7 @@ fn other_crossings(alloc: Global, family: &NodeSets) -> Result<Option<Crossings>
 ///
 /// # Errors
 ///
-/// Out of memory, of which it takes some for each node.
+/// Out of memory. It allocates memory for each node.
 fn have_each_once(alloc: Global, family: &NodeSets) -> Result<bool, Refused>
     ensures { IfOk result (λ once. IsTrue once ↔ All HasEachOnce (lists_of family.now.sets.now)) }
 {
@@ -226,8 +227,8 @@ fn have_each_once(alloc: Global, family: &NodeSets) -> Result<bool, Refused>
 
 // ---- marks by node, by which a node that comes twice in sets is found
 
-/// Marks the nodes of a set. `false` if one has the mark or appears twice: the nodes before it
-/// are marked then.
+/// Marks the nodes of a set. `false` if one of them has the mark already or appears twice; the
+/// nodes before it are then marked.
 pub fn mark_nodes(marks: &mut [u32], mark: u32, nodes: &[u32]) -> bool
     requires { All (λ node. node < length marks.old) nodes.now }
     ensures new { IsTrue result ↔ AreNew (is_marked marks.old mark) nodes.now }
@@ -245,7 +246,7 @@ pub fn mark_nodes(marks: &mut [u32], mark: u32, nodes: &[u32]) -> bool
     true
 }
 
-/// Whether a node has the mark, or whether one hasn't.
+/// Whether one of the nodes has the mark, or if `wanted` is false, whether one hasn't got it.
 fn has_node(marks: &[u32], mark: u32, nodes: &[u32], wanted: bool) -> bool
     requires { All (λ node. node < length marks.now) nodes.now }
     ensures { IsTrue result ↔ Any (λ node. is_marked marks.now mark node ≡ wanted) nodes.now }
@@ -259,8 +260,8 @@ fn has_node(marks: &[u32], mark: u32, nodes: &[u32], wanted: bool) -> bool
     false
 }
 
-/// Whether some node, from 1 on, hasn't the mark. It looks at one place more than there are nodes
-/// with the mark, at most.
+/// Whether some node hasn't got the mark. It looks at no more than one node beyond the number of
+/// marked ones.
 fn leaves_one_out(marks: &[u32], mark: u32) -> bool
     ensures { IsTrue result ↔ ((node : ℕ) × (1 ≤ node) × (node < length marks.now)
         × (is_marked marks.now mark node ≡ false)) }

@@ -1,5 +1,6 @@
-//! What the judges of this crate return, on families, cases, leaves and one leaf, and
-//! `CheckedTree`, a tree of cases without a bad branch.
+//! What the judges of families, branches and leaves return: what is good, or the number of the
+//! first that is bad, which becomes a reason in the report. Also `CheckedTree`, a tree of cases
+//! whose branches were all found good.
 
 ghost use Rattle.tsp_cases.specs.Prelude.{All, ℕ, [], true, length, are_whole, steps_of, IsScale};
 ghost use Rattle.std.specs.Prelude.{◌≡◌, ◌<◌, ◌-◌, ◌^◌, ◌∷◌};
@@ -31,7 +32,7 @@ pub enum JudgedCases<'a> {
     Twice(usize),
 }
 
-/// The judgement on the leaves of a tree.
+/// What the leaves of a tree give.
 #[derive(Drop)]
 pub enum JudgedLeaves {
     /// The least bound of a leaf: no solution that keeps the given decisions is shorter. `None`
@@ -47,16 +48,16 @@ pub enum JudgedLeaf {
     /// Its numbers are good, and this is its bound. `None` if it has none: then no solution
     /// keeps its decisions.
     Found(Option<i128>),
-    /// It has a number that isn't good.
+    /// One of its numbers isn't good.
     Bad,
 }
 
 // ---- the steps of a tree of cases in which no case decides a pair twice, with its scale
 
-/// Cases over given decisions: one whole tree of branches on pairs of nodes, in which no case
-/// decides a pair twice, and a scale for the numbers of its leaves.
+/// The cases of one whole tree of branches on pairs of nodes, over given decisions, in which no
+/// case decides a pair twice; and a scale for the numbers of its leaves.
 ///
-/// [`judge_cases`](crate::judge_cases) makes such a value.
+/// [`judge_cases`](crate::judge_cases) makes this value.
 #[derive(Drop)]
 pub struct CheckedTree<'a> {
     pub nodes: u32,

@@ -1,6 +1,7 @@
 //! What the leaves of a certificate for tours share: `LeafContext`, which doesn't change;
 //! `Scratch`, which each leaf overwrites; and `KeptRows`, rows of weights that a leaf only updates,
-//! since they depend on its multipliers and decisions but not on its potentials.
+//! because they depend on its multipliers and decisions and not on its potentials. Keeping rows is
+//! for speed: a leaf whose rows aren't kept has the same bound.
 
 ghost use Rattle.tsp_cases.specs.Prelude.{Vec, w64, int_wrap, All, ℕ, ℤ, length, slice_index_or, IfOk, neg_ℤ, false, IsNode, IsFromTo, IsSymmetric, least_at};
 ghost use Rattle.std.specs.Prelude.{◌≡◌, ◌≤◌, ◌<◌, ◌+◌, ◌-◌, ◌≢◌, ◌+ℤ◌, ◌*ℤ◌};
@@ -18,24 +19,24 @@ use std::alloc::Global;
 use tsp_io::{Refused, filled, push, with_capacity};
 use tsp_theory::{Costs, add_at};
 
-/// The most nodes of which rows are kept, in 32 MB.
+/// Rows are kept for at most this many nodes. They take 32 MB.
 const MOST_KEPT: u32 = 2_000;
 
-/// A row of weights for each node, without potentials: the costs at the scale, what the sets that
-/// both nodes are in add, and, if pairs have no direction, the numbers of decided pairs.
+/// A row of weights for each node, without potentials: the costs at the scale, what sets that
+/// contain both nodes add, and, if pairs have no direction, the numbers of decided pairs.
 ///
 /// Most leaves change only potentials, so they share these rows. A decision is marked once, at its
-/// branch, and unmarked when its case ends. There are no rows if boxes are expected to be faster,
-/// if there are more than 2,000 nodes, or if there is no memory for them.
+/// branch, and unmarked when its case ends. No rows are kept if boxes are expected to be faster, if
+/// there are more than 2,000 nodes, or if there is no memory for them.
 #[derive(Drop)]
 pub struct KeptRows {
     /// A row for each node, or none at all.
     pub rows: Vec<Vec<i64>>,
-    /// By node what the multipliers of its sets take off its potential.
+    /// For each node, how much the multipliers of its sets lower its potential.
     pub ends: Vec<i64>,
-    /// The multipliers that the rows and ends were brought to.
+    /// The multipliers that `rows` and `ends` are up to date with.
     pub multipliers: Vec<i64>,
-    /// Memory for how far the multipliers of the next leaf are from these.
+    /// Scratch space for the differences to the multipliers of the next leaf.
     pub differences: Vec<i64>,
 }
 
@@ -48,11 +49,12 @@ impl KeptRows {
     ghost use Rattle.tsp_cases.specs.states.OpenCases.{IsDecision, IsNextStack, marks_in, stack_of};
     ghost use Rattle.tsp_cases.specs.states.Kept.{HoldsRows, AreTwoNodes, added_between};
 
-    /// The rows if all multipliers are 0, under the given decisions, if they are to be kept.
+    /// The rows for multipliers that are all 0 and the given decisions, if rows are to be kept.
     ///
     /// # Errors
     ///
-    /// Out of memory, if there is none for a number of each comb and each node.
+    /// Out of memory for the numbers of combs and nodes. Without memory for the rows, none are
+    /// kept.
     pub(crate) fn new<C: Costs>(
         alloc: Global,
         context: &LeafContext<C>,
@@ -93,7 +95,7 @@ impl KeptRows {
         }
     }
 
-    /// Marks a decision, if pairs have no direction: adds its number between both nodes.
+    /// Marks a decision by adding its number between its nodes, if pairs have no direction.
     pub fn mark(&mut self, directed: bool, decision: Decision)
         requires { (n : ℕ) × (family_count : ℕ) × (scale : ℤ) × (families : List (List (List ℕ))) × (cost : ℕ → ℕ → ℤ)
             × (case : List Decision) × HoldsRows n family_count scale families cost (marks_in directed case) self.old
@@ -108,7 +110,7 @@ impl KeptRows {
         self.add_between(decision.pair, number_of(decision));
     }
 
-    /// Takes the mark of a decision back.
+    /// Removes the mark of a decision.
     fn unmark(&mut self, decision: Decision)
         requires { (n : ℕ) × (family_count : ℕ) × (scale : ℤ) × (families : List (List (List ℕ))) × (cost : ℕ → ℕ → ℤ)
             × (case : List Decision) × HoldsRows n family_count scale families cost (marks_in false (decision ∷ case)) self.old
@@ -122,7 +124,8 @@ impl KeptRows {
 
     /// Undoes the marks of decisions that the next open case doesn't have.
     ///
-    /// These are the ones above the last taken pair of the stack; that pair is marked as avoided.
+    /// These are the decisions above the last taken pair on the stack. That pair is then marked as
+    /// avoided.
     pub fn leave(&mut self, directed: bool, stack: &[Decision])
         requires { (n : ℕ) × (family_count : ℕ) × (scale : ℤ) × (families : List (List (List ℕ))) × (cost : ℕ → ℕ → ℤ)
             × (given : List Decision)
@@ -153,7 +156,7 @@ impl KeptRows {
         }
     }
 
-    /// Adds a number to the rows of two nodes, in each at the place of the other node.
+    /// Adds a number to the weight between two nodes, in the rows of both.
     fn add_between(&mut self, pair: (u32, u32), number: i64)
         requires { (n : ℕ) × (family_count : ℕ) × (scale : ℤ) × (families : List (List (List ℕ))) × (cost : ℕ → ℕ → ℤ)
             × (marks : ℕ → ℕ → ℤ) × HoldsRows n family_count scale families cost marks self.old × AreTwoNodes n pair }
@@ -169,7 +172,7 @@ impl KeptRows {
         add_in_row(&mut self.rows, second, first, number);
     }
 
-    /// Updates the rows to the multipliers of another leaf.
+    /// Brings the rows up to date with the multipliers of another leaf.
     pub fn bring_to(&mut self, multipliers: &Multipliers, by_node: &[Vec<SetPlace>])
         requires kept { (n : ℕ) × (scale : ℤ) × (cost : ℕ → ℕ → ℤ) × (marks : ℕ → ℕ → ℤ)
             × HoldsRows n (length multipliers.now.numbers.now) scale (lent_in multipliers.now.families.now) cost marks self.old
@@ -198,8 +201,8 @@ impl KeptRows {
     }
 }
 
-/// The rows of all nodes without combs; none if they aren't to be kept, there are too many
-/// nodes, or no memory is left.
+/// The rows of all nodes without combs; empty if they aren't to be kept, if there are too many
+/// nodes, or if there is too little memory.
 fn rows_if_any<C: Costs>(alloc: Global, context: &LeafContext<C>, are_kept: bool) -> Vec<Vec<i64>>
     ensures { AreRowsIfAny (C.nodes context.now.costs.now) (C.at context.now.costs.now)
         (λ i x. context.now.cases.now.scale *ℤ C.at context.now.costs.now i x) result.items }
@@ -231,7 +234,7 @@ fn rows_of<C: Costs>(alloc: Global, context: &LeafContext<C>) -> Result<Vec<Vec<
     Ok(rows)
 }
 
-/// The costs from a node to each at the scale, each at the place of its node.
+/// The costs from a node to every node, times the scale, each at the place of its node.
 ///
 /// # Errors
 ///
@@ -247,7 +250,7 @@ fn row_of<C: Costs>(alloc: Global, context: &LeafContext<C>, from: u32) -> Resul
     Ok(row)
 }
 
-/// Writes how much each number has grown.
+/// Writes by how much each multiplier has grown.
 fn write_differences(differences: &mut [i64], old: &Multipliers, new: &Multipliers)
     requires differences { length differences.old ≡ length new.now.numbers.now }
     requires old { length old.now.numbers.now ≡ length new.now.numbers.now }
@@ -259,7 +262,8 @@ fn write_differences(differences: &mut [i64], old: &Multipliers, new: &Multiplie
     }
 }
 
-/// Adds to each row, at each node of the sets of its node, the number of the set's family twice.
+/// Adds to the row of each node, at every node that shares a set with it, twice the number of the
+/// set's family.
 fn add_to_rows(rows: &mut [Vec<i64>], by_node: &[Vec<SetPlace>], multiplied: &MultipliedFamilies)
     requires table { length rows.old < length by_node.now }
     requires places { All (λ list. All (IsPlaceIn (lent_in multiplied.now.families.now)) list.items) by_node.now }
@@ -301,8 +305,8 @@ fn add_to_place(row: &mut Vec<i64>, place: u32, number: i64)
 
 // ---- the memory that a pass over the leaves for tours writes over
 
-/// The rows that are kept at the multipliers of the leaf before, and memory for the numbers of a
-/// leaf and for two rows of its weights.
+/// The rows as the leaf before left them, and scratch space for the numbers of a leaf and two rows
+/// of its weights.
 #[derive(Drop)]
 pub struct Scratch {
     /// The number of each node.
@@ -324,9 +328,9 @@ impl Scratch {
     ghost use Rattle.tsp_cases.specs.states.Kept.{HoldsRows};
     ghost use Rattle.tsp_cases.specs.states.Kept.{IsScratch};
 
-    /// Memory for the leaves of a certificate, with kept rows if `are_kept`.
+    /// Scratch space for the leaves of a certificate, with kept rows if `are_kept`.
     ///
-    /// Without rows all the same if there are too many nodes, or too little memory.
+    /// It has no rows in any case if there are too many nodes or too little memory.
     ///
     /// # Errors
     ///
@@ -358,8 +362,8 @@ impl Scratch {
 
 /// What all leaves of a certificate for tours have in common.
 ///
-/// If pairs have no direction, costs are symmetric, and the bound of a leaf is that of a least
-/// 1-tree. If they have one, it is the sum of the least arcs from each node.
+/// If pairs have no direction, the costs are symmetric, and the bound of a leaf is that of a least
+/// 1-tree. If they have a direction, it is the sum of the least arcs from each node.
 #[derive(Drop)]
 pub struct LeafContext<'a, C: Costs> {
     pub costs: &'a C,

@@ -1,5 +1,6 @@
-//! Laws: no cycle that keeps the decisions is shorter than the bound of a leaf, or of a tree of
-//! cases.
+//! The theorems on branching: each cycle is at a leaf, crosses families as often as their numbers
+//! say, and is no shorter than the bound of a leaf or of a tree of cases. docs/proof.md
+//! ("Families", "Cases", "Arcs") has the arguments under these names.
 
 ghost use Rattle.std.specs.Prelude.{ℕ, ℤ, List, [], ◌∷◌, ◌≤ℤ◌, Bool, true, false};
 ghost use Rattle.tsp_cases.specs.CaseTrees.{CaseTreesBoundCycles, CaseTreesBoundTours, NoBoundNoTour, CaseTreeBoundsAreUnique, LeafBoundsBoundCycles, UncombedBoundsAreAdjustedBounds, RowLeafBoundsBoundCycles, LinksAreAllowed, NoLinkNoCycle, SumsAreBelowCycles};
@@ -16,7 +17,7 @@ use tsp_theory::{
 /// The bound of potentials and decisions is at most the length of every cycle that keeps the
 /// decisions.
 ///
-/// No code calls it. It shows a reader that any number on the decided pairs gives a bound.
+/// No code calls it. It is here for readers: any number on the decided pairs gives a bound.
 pub fn decided_bounds_bound_cycles()
     ensures { DecidedBoundsBoundCycles }
 {
@@ -25,7 +26,7 @@ pub fn decided_bounds_bound_cycles()
 
 /// The bound of potentials and of numbers on fixed pairs is at most the length of every tour.
 ///
-/// No code calls it. It shows a reader that any multipliers of fixed edges give a bound.
+/// No code calls it. It is here for readers: any multipliers of fixed edges give a bound.
 pub fn fixed_bounds_bound_tours()
     ensures { FixedBoundsBoundTours }
 {
@@ -65,8 +66,8 @@ pub fn leaf_bounds_bound_cycles()
     cycles_cross_families();
 }
 
-/// Each link of a cycle is allowed by the decisions that the cycle keeps; so if no link from
-/// some node is allowed, no cycle keeps them.
+/// The decisions that a cycle keeps allow each of its links. So if some node has no allowed link,
+/// no cycle keeps the decisions.
 pub fn links_are_allowed()
     ensures links { LinksAreAllowed }
     ensures none { NoLinkNoCycle }
@@ -76,8 +77,8 @@ pub fn links_are_allowed()
     cycles_have_no_loops();
 }
 
-/// The least weights of the allowed links from all nodes sum to no more than a cycle weighs that
-/// keeps the decisions.
+/// The least weights of the allowed links, summed over all nodes, are no more than the weight of
+/// any cycle that keeps the decisions.
 pub fn sums_are_below_cycles()
     ensures { SumsAreBelowCycles }
 {
@@ -87,8 +88,8 @@ pub fn sums_are_below_cycles()
     links_are_allowed();
 }
 
-/// The bound of a leaf by rows is at most the length of every cycle that keeps its decisions,
-/// whichever costs.
+/// The bound of a leaf by rows is at most the length of every cycle that keeps its decisions, for
+/// any costs.
 pub fn row_leaf_bounds_bound_cycles()
     ensures { RowLeafBoundsBoundCycles }
 {
@@ -101,23 +102,23 @@ pub fn row_leaf_bounds_bound_cycles()
 
 /// Each cycle that keeps the given decisions keeps those of a leaf.
 ///
-/// No code calls it. It shows a reader that the leaves of a tree of cases miss no cycle.
+/// No code calls it. It is here for readers: the leaves of a tree of cases miss no cycle.
 pub fn cycles_keep_leaves()
     ensures { CyclesKeepLeaves }
 {}
 
-/// A bound that is at most the length of every cycle of each leaf's case is at most the length of
-/// every cycle that keeps the given decisions.
+/// If a bound is at most the length of every cycle in the case of each leaf, it is at most the
+/// length of every cycle that keeps the given decisions.
 pub fn cases_bound_cycles()
     ensures { CasesBoundCycles }
 {}
 
-/// If no cycle keeps the decisions of a leaf, whichever leaf, none keeps the given ones.
+/// If no cycle keeps the decisions of any leaf, no cycle keeps the given ones.
 pub fn cases_have_no_cycle()
     ensures { CasesHaveNoCycle }
 {}
 
-/// How a bound of all cycles but those of the open cases goes from step to step.
+/// How a bound on all cycles outside the open cases goes on from step to step.
 pub fn steps_leave_cases()
     ensures start { (directed : Bool) (n : ℕ) (cost : ℕ → ℕ → ℤ) (given : List Decision) (bound : ℤ)
         → BoundsButOpen directed n cost given bound (given ∷ []) }
@@ -136,10 +137,10 @@ pub fn steps_leave_cases()
         → BoundsButOpen directed n cost given bound [] → BoundsCase directed n cost bound given }
 {}
 
-/// A stack of decisions has the open cases: the given one at first, after a branch two in the place
-/// of the first, and after a leaf all but the first.
+/// A stack of decisions stands for the open cases: the given one at first, after a branch two in
+/// place of the first, and after a leaf all but the first.
 ///
-/// No code calls it. It shows a reader that one stack of decisions is enough for all open cases.
+/// No code calls it. It is here for readers: one stack of decisions is enough for all open cases.
 pub fn stacks_hold_cases()
     ensures start { StacksBegin }
     ensures branch { StacksBranch }
@@ -147,8 +148,8 @@ pub fn stacks_hold_cases()
 {}
 
 /// The bound of a certificate is at most the length of every cycle that keeps the given decisions,
-/// and of every tour if the fixed pairs are given. If no leaf has a bound there is no such
-/// cycle or tour.
+/// and of every tour if the fixed pairs are given. If no leaf has a bound, there is no such cycle
+/// or tour.
 pub fn case_trees_bound_cycles()
     ensures cycles { CaseTreesBoundCycles }
     ensures tours { CaseTreesBoundTours }
@@ -166,7 +167,7 @@ pub fn case_tree_bounds_are_unique()
     ensures { CaseTreeBoundsAreUnique }
 {}
 
-/// A family has one pair of numbers.
+/// The two numbers of a family, its crossings, are unique.
 pub fn numbers_are_unique()
     ensures { NumbersAreUnique }
 {
@@ -174,7 +175,7 @@ pub fn numbers_are_unique()
     most_costs_are_unique();
 }
 
-/// The sets of families tell what two nodes cross, and give the weights of a leaf.
+/// Code that goes by the sets of families finds what an edge crosses, and the weights of a leaf.
 pub fn sets_tell_combs()
     ensures combs { SetsTellCombs }
     ensures leaves { SetsGiveLeaves }
@@ -182,13 +183,14 @@ pub fn sets_tell_combs()
 
 /// Every cycle crosses sets at least as often as the best cyclic order of their parts.
 ///
-/// No code calls it. It is for a reader: half of [`parts_tell_cycles`], and the half that a bound
+/// No code calls it. It is here for readers: this is the half of [`parts_tell_cycles`] that a bound
 /// needs.
 pub fn parts_bound_cycles()
     ensures { PartsBoundCycles }
 {}
 
-/// And some cycle crosses them no more often.
+/// Every cycle crosses sets at least as often as the best cyclic order of their parts, and some
+/// cycle crosses them no more often.
 pub fn parts_tell_cycles()
     ensures { PartsTellCycles }
 {}
@@ -196,29 +198,30 @@ pub fn parts_tell_cycles()
 /// Every cycle crosses sets at least as often as the best cyclic order of any parts whose nodes are
 /// in the same sets.
 ///
-/// No code calls it. It shows a reader that finer parts than those of the sets give a bound too.
+/// No code calls it. It is here for readers: parts finer than those of the sets give a bound, too.
 pub fn divisions_bound_cycles()
     ensures { DivisionsBoundCycles }
 {}
 
-/// There is one least length.
+/// The least length of a cycle is unique.
 pub fn least_lengths_are_unique()
     ensures { LeastLengthsAreUnique }
 {}
 
-/// There is one greatest cost.
+/// The greatest cost is unique.
 pub fn most_costs_are_unique()
     ensures { MostCostsAreUnique }
 {}
 
-/// Nodes of which no two are in the same sets are no more than the parts.
+/// If no two of some nodes are in the same sets, there are at least as many parts as nodes.
 pub fn unlike_nodes_need_parts()
     ensures { UnlikeNodesNeedParts }
 {}
 
 /// Two nodes have one membership exactly if they are in the same sets.
 ///
-/// No code calls it. It shows a reader that the numbers by which code finds parts tell parts apart.
+/// No code calls it. It is here for readers: the numbers by which code finds parts do tell parts
+/// apart.
 pub fn memberships_tell_sets()
     ensures { MembershipsTellSets }
 {}

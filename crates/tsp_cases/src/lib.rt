@@ -4,7 +4,7 @@
 //! How often a cycle crosses a family is found by a dynamic programme over the parts that its sets
 //! make (`family`). [`judge_families`] finds the first family that isn't good, [`judge_cases`] the
 //! first branch that is bad or comes twice, and `judge_leaves` passes over the leaves, for any
-//! judge of a leaf. The bound of a leaf is the task of tsp_branch and tsp_routing.
+//! judge of a leaf. The bound of a leaf is up to tsp_branch and tsp_routing.
 //!
 //! ```text
 //! let crossings = family_crossings(alloc, &family)?;

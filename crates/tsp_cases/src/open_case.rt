@@ -1,8 +1,9 @@
-//! A decision on a pair (`Decision`), and the decisions of the case that is open while a pass goes
-//! over the steps of a tree (`OpenCase`), as a stack and by node.
+//! The case that is open while a pass goes over the steps of a tree: the decisions above it, as a
+//! stack and by node (`OpenCase`). `next` goes from a leaf to the case after it, in the order that
+//! BRANCH_SECTION lists them in (`specs/Cases.antt`).
 
 ghost use Rattle.std.specs.Global.{Vec};
-ghost use Rattle.std.specs.Prelude.{◌≡◌, ◌≤◌, ◌<◌, ◌+◌, ◌-◌, ◌^◌, ℕ, [], length, slice_index_or, IfOk};
+ghost use Rattle.std.specs.Prelude.{◌≡◌, ◌≤◌, ◌<◌, ◌+◌, ◌-◌, ℕ, [], length, slice_index_or, IfOk};
 ghost use Rattle.tsp_cases.specs.Cases.{is_same};
 ghost use Rattle.tsp_cases.specs.declared.decision.Decision.{Decision};
 ghost use Rattle.tsp_cases.specs.states.OpenCases.{HaveOneMore, HaveOneLess};
@@ -23,18 +24,18 @@ pub struct OpenCase<'a> {
 }
 
 impl<'a> OpenCase<'a> {
-    ghost use Rattle.std.specs.Prelude.{◌≡◌, ◌≤◌, ◌<◌, ◌+◌, ◌-◌, ◌^◌, ◌++◌, ℕ, [], ◌∷◌, true, length, IfOk};
+    ghost use Rattle.std.specs.Prelude.{◌≡◌, ◌≤◌, ◌<◌, ◌+◌, ◌-◌, ◌++◌, ℕ, [], ◌∷◌, true, length, IfOk};
     ghost use Rattle.std.specs.List.{All, filter};
     ghost use Rattle.tsp_cases.specs.declared.decision.Decision.{Decision};
     ghost use Rattle.tsp_cases.specs.states.OpenCases.{IsDecision, IsNextStack, stack_of};
     ghost use Rattle.tsp_cases.specs.states.OpenCases.{IsOpenCase, bears_on, decisions_in};
     ghost use Rattle.tsp_cases.specs.ListedCases.{is_decided};
 
-    /// The case of the given decisions alone.
+    /// The case with the given decisions and no others.
     ///
     /// # Errors
     ///
-    /// Out of memory, of which it takes some for each node and each given decision.
+    /// Out of memory. It allocates memory for each node and each given decision.
     pub fn new(
         alloc: Global,
         nodes: u32,
@@ -60,7 +61,7 @@ impl<'a> OpenCase<'a> {
         })
     }
 
-    /// Goes on to the case of these decisions that takes a pair too.
+    /// Goes on to the first case of a branch: these decisions, and the pair taken.
     ///
     /// # Errors
     ///
@@ -80,7 +81,7 @@ impl<'a> OpenCase<'a> {
         Ok(())
     }
 
-    /// The decisions that bear on the row of a node, the last one last.
+    /// The decisions that affect the row of a node, the last one last.
     pub fn at(&self, node: u32) -> &[Decision]
         requires { node < length self.now.by_node.lists.items }
         ensures { (n : ℕ) → IsOpenCase n self.now → node ≤ n
@@ -89,7 +90,7 @@ impl<'a> OpenCase<'a> {
         self.by_node.lists[node as usize].as_slice()
     }
 
-    /// Whether the pair is decided, of two nodes that the case has.
+    /// Whether the case decides this pair of its nodes.
     pub(crate) fn decides(&self, pair: (u32, u32)) -> bool
         requires { (n : ℕ) × IsOpenCase n self.now × (pair.0 ≤ n) }
         ensures { result ≡ is_decided self.now.by_node.directed (decisions_in self.now) pair }
@@ -103,10 +104,10 @@ impl<'a> OpenCase<'a> {
         false
     }
 
-    /// Goes on from a leaf to the next case: `false` if that was the last one.
+    /// Goes on from a leaf to the next case. `false` if that was the last one.
     ///
-    /// The decisions above the last taken pair are dropped, and that pair is now avoided. If no
-    /// pair is taken, no case is left, and the stack is emptied.
+    /// The decisions above the last taken pair are dropped, and this pair is avoided from now on.
+    /// If no pair is taken, no case is left, and the stack is emptied.
     ///
     /// # Errors
     ///
@@ -135,8 +136,8 @@ impl<'a> OpenCase<'a> {
     }
 }
 
-/// Whether two pairs are the same. Directed pairs are so in the same order of their nodes alone,
-/// others in either.
+/// Whether two pairs are the same: in the same order of nodes if pairs are directed, in either
+/// order if they aren't.
 fn is_same(directed: bool, pair: (u32, u32), other: (u32, u32)) -> bool
     ensures { result ≡ is_same directed pair other }
 {
@@ -149,11 +150,11 @@ fn is_same(directed: bool, pair: (u32, u32), other: (u32, u32)) -> bool
 
 // ---- the decisions of a case, listed at the nodes whose rows they change
 
-/// For each node the decisions that bear on its row, and all that take their pair, the last one
-/// last.
+/// For each node, the decisions that affect its row, and all decisions that take a pair, the last
+/// one last.
 ///
-/// A decision bears on the row of its first node, and if pairs have no direction on that of its
-/// second one too.
+/// A decision affects the row of its first node and, if pairs have no direction, also that of its
+/// second node.
 #[derive(Drop)]
 pub struct NodeDecisions {
     pub directed: bool,
@@ -162,16 +163,16 @@ pub struct NodeDecisions {
 }
 
 impl NodeDecisions {
-    ghost use Rattle.std.specs.Prelude.{◌≡◌, ◌<◌, ◌-◌, ◌^◌, ℕ, List, [], ◌∷◌, IfOk, length};
+    ghost use Rattle.std.specs.Prelude.{◌≡◌, ◌<◌, ◌-◌, ℕ, List, [], ◌∷◌, IfOk, length};
     ghost use Rattle.tsp_cases.specs.declared.decision.Decision.{Decision};
     ghost use Rattle.tsp_cases.specs.states.OpenCases.{IsOnPlaces};
     ghost use Rattle.tsp_cases.specs.states.OpenCases.{AreByNode};
 
-    /// No decisions on pairs of these nodes.
+    /// Empty lists for these nodes.
     ///
     /// # Errors
     ///
-    /// Out of memory, of which it takes some for each node.
+    /// Out of memory. It allocates memory for each node.
     pub(crate) fn new(alloc: Global, nodes: u32, directed: bool) -> Result<NodeDecisions, Refused>
         ensures none { IfOk result (λ made. AreByNode nodes made []) }
         ensures directed { IfOk result (λ made. made.directed ≡ directed) }
@@ -244,11 +245,11 @@ fn unlist_at(lists: &mut Vec<Vec<Decision>>, node: u32)
 
 // ---- an empty list for each node
 
-/// An empty list for each node, and one for 0.
+/// An empty list for each node, and one for the unused index 0.
 ///
 /// # Errors
 ///
-/// Out of memory, of which it takes some for each node.
+/// Out of memory. It allocates memory for each node.
 pub(crate) fn empty_lists<T: Drop>(alloc: Global, nodes: u32) -> Result<Vec<Vec<T>>, Refused>
     ensures many { IfOk result (λ lists. length lists.items ≡ nodes + 1) }
     ensures empty { IfOk result (λ lists. (x : ℕ) (default : Vec T) → x ≤ nodes

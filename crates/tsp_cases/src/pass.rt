@@ -1,5 +1,7 @@
-//! One pass over the steps of a tree of cases: each leaf is judged by a `LeafJudge`, one for tours
-//! in tsp_branch and one for routes in tsp_routing. Also the limits of a leaf's numbers, for tours.
+//! One pass over BRANCH_SECTION that judges each leaf by a `LeafJudge`: tsp_branch has one for
+//! tours, tsp_routing one for routes. The result is the least bound or the first bad leaf
+//! (`AreJudgedBy` in `specs/JudgedLeaves.antt`). Also what makes the numbers of a leaf for tours
+//! good, which docs/format.md lists as limits.
 
 ghost use Rattle.tsp_cases.specs.Prelude.{All, [], length, IfOk, ℕ, ℤ, Bool, List, Option, true, IsTrue, pos, neg_ℤ, take, drop, IsNode, are_whole, IsFromTo, steps_of};
 ghost use Rattle.std.specs.Prelude.{◌≡◌, ◌+◌, ◌<◌, ◌^◌, ◌∷◌, ◌++◌, ◌↔◌};
@@ -23,12 +25,12 @@ use tsp_io::{Refused, filled};
 
 /// Judges the leaves of a tree, in order: the least bound, or the first bad leaf.
 ///
-/// A leaf is bad if one of its indexes is past the `count` numbers that it has, or if its numbers
-/// aren't good. The first bad leaf is counted from 1. `memory` starts out at the given decisions.
+/// A leaf is bad if one of its indexes is past the `count` numbers, or if its numbers aren't good.
+/// The first bad leaf is counted from 1. `memory` begins in the state for the given decisions.
 ///
 /// # Errors
 ///
-/// Out of memory, of which it takes some for each place, each number, and each decision of a case.
+/// Out of memory. It allocates memory for each place, each number, and each decision of a case.
 pub fn judge_leaves<J: LeafJudge>(
     alloc: Global,
     judge: &J,
@@ -72,7 +74,7 @@ pub fn judge_leaves<J: LeafJudge>(
     Ok(JudgedLeaves::Bound(lowest))
 }
 
-/// Judges a leaf, whose numbers are those of the leaf before plus its `changes`.
+/// Judges a leaf. Its numbers are those of the leaf before it, plus its `changes`.
 ///
 /// # Errors
 ///
@@ -107,12 +109,13 @@ fn judge_leaf<J: LeafJudge>(
 
 // ---- the trait of a judge of the leaves of a tree of cases
 
-/// Judges the leaves of a tree of cases, as [`judge_leaves`](crate::judge_leaves) comes to them.
+/// A judge of the leaves of a tree of cases, which [`judge_leaves`](crate::judge_leaves) calls for
+/// one leaf after the other.
 ///
-/// A leaf has a number for each node, and then one for each family. A case has its decisions with
-/// the last one first.
+/// A leaf has a number for each node, followed by one for each family. The decisions of a case are
+/// listed with the last one first.
 pub trait LeafJudge {
-    /// The memory that is kept from leaf to leaf, and written over.
+    /// What the judge keeps from leaf to leaf, and overwrites.
     type Memory;
 
     ghost nodes: { Self → ℕ };
@@ -142,8 +145,8 @@ pub trait LeafJudge {
         requires memory { (case : List Decision) × holds self.now memory.old case }
         ensures { (case : List Decision) → holds self.now memory.old case → holds self.now memory.new (decision ∷ case) };
 
-    /// Leaves a leaf for the next open case, as the stack of decisions does: those after the last
-    /// taken pair are dropped, and that pair is avoided.
+    /// Leaves a leaf for the next open case, as the stack of decisions does: the decisions after
+    /// the last taken pair are dropped, and this pair is avoided.
     fn leave(&self, memory: &mut Self::Memory, stack: &[Decision])
         requires { (given : List Decision) × holds self.now memory.old (stack_of stack.now ++ given)
             × All (IsDecision (places self.now)) (stack_of stack.now ++ given) }
@@ -178,9 +181,9 @@ pub trait LeafJudge {
 
 // ---- the steps of one whole tree of cases, with the decisions of all cases
 
-/// The steps of one whole tree, and the decisions of all its cases. A branch has two different
-/// numbers from 1 to `places`: for tours two nodes, for routes n + k, which is family k, and a
-/// limit.
+/// The steps of one whole tree, and the decisions that hold in all its cases. A branch has two
+/// different numbers from 1 to `places`: two nodes for tours, and for routes n + k, which stands
+/// for family k, and a limit.
 #[derive(Drop)]
 pub struct WholeTree<'a> {
     pub places: u32,
@@ -197,8 +200,8 @@ pub struct WholeTree<'a> {
 
 // ---- the numbers of a leaf
 
-/// Adds differences to the numbers at their indexes, which count from 1; `false` if an index is out
-/// of range.
+/// Adds differences to the numbers at their indexes, counted from 1. `false` if an index is out of
+/// range.
 pub fn add_differences(numbers: &mut [i128], changes: &[(u32, i64)]) -> bool
     requires few { length changes.now < 2 ^ 32 }
     requires sizes { All (IsFromTo (neg_ℤ (pos (2 ^ 64))) (pos (2 ^ 64))) numbers.old }
@@ -216,7 +219,7 @@ pub fn add_differences(numbers: &mut [i128], changes: &[(u32, i64)]) -> bool
     true
 }
 
-/// Copies numbers that are all from a least to a most one; `false` if one isn't.
+/// Copies numbers if all of them are from `least` to `most`. `false` if one isn't.
 pub fn copy_within(numbers: &[i128], least: i64, most: i64, copy: &mut [i64]) -> bool
     requires { length copy.old ≡ length numbers.now }
     ensures inside { IsTrue result ↔ All (IsFromTo least most) numbers.now }
@@ -250,15 +253,16 @@ pub fn lower(lowest: Option<i128>, own: Option<i128>) -> Option<i128>
 
 // ---- whether the potentials and multipliers of a leaf for tours are within their limits
 
-/// How often two nodes cross the sets of all families at most, each as often as its multiplier
-/// says.
+/// The limit on how often one edge crosses the sets of all families, each crossing counted by its
+/// multiplier.
 const MOST_CROSSED: i64 = 900_000_000_000_000_000;
 
 /// Copies the numbers of a leaf if they are good, and returns whether they are.
 ///
-/// `numbers` has the potentials of the nodes, then the multipliers of the families. They are good
-/// if no potential is above 10^15 in size, no multiplier is negative, and the multipliers sum to at
-/// most 9 * 10^17, each times the most sets of its family that two nodes cross.
+/// `numbers` contains the potentials of the nodes, then the multipliers of the families. They are
+/// good if no potential is above 10^15 in size, no multiplier is negative, and the multipliers,
+/// each times the largest number of its family's sets that one edge crosses, sum to at most 9 *
+/// 10^17.
 pub fn judge_numbers(
     numbers: &[i128],
     families: &Families,
@@ -288,8 +292,8 @@ pub fn judge_numbers(
     sum_with(true, &copied) <= i128::from(MOST_CROSSED)
 }
 
-/// The most that two nodes cross of families, or the least that a cycle does, each times its
-/// multiplier.
+/// A sum over the families: the multiplier of each, times the most of its sets that one edge
+/// crosses, or the least number of times that a cycle crosses them.
 pub fn sum_with(is_most: bool, multipliers: &Multipliers) -> i128
     ensures { result ≡ sum_with is_most multipliers.now.families.now.crossed.items multipliers.now.numbers.now }
 {
@@ -301,7 +305,7 @@ pub fn sum_with(is_most: bool, multipliers: &Multipliers) -> i128
     sum
 }
 
-/// The most that two nodes cross of a family, or the least that a cycle does.
+/// The most sets that one edge crosses, or the least number of times that a cycle crosses them.
 fn most_or_least(is_most: bool, own: Crossings) -> u64
     ensures { result ≡ most_or_least is_most own }
 {

@@ -1,7 +1,8 @@
-//! The sets of a certificate by node: the places of the sets that have a node, what they add to its
-//! row, and its potential less their multipliers.
+//! The sets of a certificate by node: which sets have it, what they add to its row of weights, and
+//! its potential less their multipliers. Sums may leave 64 bits on the way and come back, so they
+//! are taken in their remainders.
 
-ghost use Rattle.tsp_cases.specs.Prelude.{w64, int_wrap, All, ℕ, [], length, IfOk, pos, neg_ℤ, IsNode, IsFromTo, IsScale, entry, sum_int_by, least_at, IsMoved};
+ghost use Rattle.tsp_cases.specs.Prelude.{w64, int_wrap, All, ℕ, length, IfOk, pos, neg_ℤ, IsNode, IsFromTo, IsScale, entry, sum_int_by, least_at, IsMoved};
 ghost use Rattle.std.specs.Prelude.{◌<◌, ◌-◌, ◌^◌, ◌≡◌, ◌+◌, ◌+ℤ◌, ◌≤◌, ◌*ℤ◌};
 ghost use Rattle.tsp_format.specs.Limits.{most_weight};
 ghost use Rattle.tsp_cases.specs.Crossings.{lists_of};
@@ -14,9 +15,9 @@ use std::alloc::Global;
 use tsp_io::{Refused, push};
 use tsp_theory::add_at;
 
-/// Adds a number at each node of a list: nothing has to be done for 0.
+/// Adds a number at each node of a list. For 0 there is nothing to do.
 ///
-/// On the way to a sum that fits 64 bits sums may not, so they are taken in their remainders.
+/// Sums wrap around, because those on the way to a sum that fits 64 bits may not fit.
 fn add_to_nodes(row: &mut [i64], nodes: &[u32], number: i64)
     requires { All (λ node. node < length row.old) nodes.now }
     ensures { (x : ℕ) → IsMoved (added number nodes.now x) (least_at row.old x) (least_at row.new x) }
@@ -33,7 +34,7 @@ fn add_to_nodes(row: &mut [i64], nodes: &[u32], number: i64)
 ///
 /// # Errors
 ///
-/// Out of memory, of which it takes some for each node and for each node of a set.
+/// Out of memory. It allocates memory for each node and for each node of a set.
 pub fn sets_by_node(alloc: Global, families: &Families) -> Result<Vec<Vec<SetPlace>>, Refused>
     ensures { IfOk result (λ lists. IsSetTable families.now.nodes (lent_in families.now) lists.items) }
 {
@@ -77,7 +78,7 @@ fn place_set(lists: &mut Vec<Vec<SetPlace>>, place: SetPlace, nodes: &[u32]) -> 
 
 // ---- the place of a set in a certificate
 
-/// The place of a set: the number of its family, and its own in the family, both from 0 on.
+/// The place of a set: the index of its family, and its own index in the family, both from 0.
 #[derive(Clone, Copy)]
 pub struct SetPlace {
     pub family: u32,
@@ -86,7 +87,8 @@ pub struct SetPlace {
 
 // ---- what the sets of a node add to its row
 
-/// Adds to a row what shared sets add: twice the number of the family, at each node of the set.
+/// Adds to the row of a node what shared sets add: at each node of each of its sets, twice the
+/// number of the set's family.
 pub fn add_sets(row: &mut [i64], places: &[SetPlace], multiplied: &MultipliedFamilies)
     requires places { All (IsPlaceIn (lent_in multiplied.now.families.now)) places.now }
     requires row { length row.old ≡ multiplied.now.families.now.nodes + 1 }
@@ -99,7 +101,7 @@ pub fn add_sets(row: &mut [i64], places: &[SetPlace], multiplied: &MultipliedFam
     }
 }
 
-/// Adds the same as `add_sets` to a row of a list of rows.
+/// What `add_sets` does, for a row in a list of rows.
 pub(crate) fn add_to_row(row: &mut Vec<i64>, places: &[SetPlace], multiplied: &MultipliedFamilies)
     requires places { All (IsPlaceIn (lent_in multiplied.now.families.now)) places.now }
     requires row { length row.old.items ≡ multiplied.now.families.now.nodes + 1 }
@@ -121,7 +123,7 @@ fn add_to_sets(row: &mut [i64], sets: &[Vec<u32>], number: i64)
     }
 }
 
-/// What is left in 64 bits of a sum.
+/// The sum, wrapped to 64 bits.
 #[inline]
 pub fn sum_left(a: i64, b: i64) -> i64
     ensures { result ≡ int_wrap w64 (a +ℤ b) }
@@ -131,7 +133,7 @@ pub fn sum_left(a: i64, b: i64) -> i64
 
 // ---- rows of costs, as counts of 1 / SCALE, with numbers added
 
-/// Makes the costs of a row counts of 1 / scale. The place 0 stays as it is.
+/// Multiplies the costs of a row by the scale. Place 0 stays as it is.
 ///
 /// # Requires
 ///
@@ -147,12 +149,12 @@ pub fn scale_row(row: &mut [i64], scale: i64)
     }
 }
 
-/// Adds a number to each of a row, and at each place the other row's. Each sum is wrapped to 64
-/// bits.
+/// Adds to each entry of a row a number, and the entry of another row at that place. Sums wrap
+/// around in 64 bits.
 ///
 /// # Requires
 ///
-/// Rows of one length.
+/// Rows of the same length.
 pub fn shift_row(row: &mut [i64], moved: &[i64], number: i64)
     requires { length moved.now ≡ length row.old }
     ensures { (x : ℕ) → x < length row.old → least_at row.new x
@@ -163,11 +165,11 @@ pub fn shift_row(row: &mut [i64], moved: &[i64], number: i64)
     }
 }
 
-/// Writes what is left in 64 bits of the sums of two rows' numbers and one number.
+/// Writes the sums of two rows' entries and one number, wrapped to 64 bits.
 ///
 /// # Requires
 ///
-/// Rows of one length.
+/// Rows of the same length.
 pub fn fill_shifted(row: &mut [i64], kept: &[i64], moved: &[i64], number: i64)
     requires kept { length kept.now ≡ length row.old }
     requires moved { length moved.now ≡ length row.old }
@@ -181,7 +183,7 @@ pub fn fill_shifted(row: &mut [i64], kept: &[i64], moved: &[i64], number: i64)
 
 // ---- the potential of each node less the multipliers of its sets
 
-/// Writes at the place of each node what is left in 64 bits of its potential and another number.
+/// Writes, for each node, the sum of its potential and another number, wrapped to 64 bits.
 pub fn fill_moved(row: &mut [i64], potentials: &[i64], ends: &[i64])
     requires room { length row.old ≡ length potentials.now + 1 }
     requires ends { length ends.now ≡ length potentials.now + 1 }
@@ -193,7 +195,7 @@ pub fn fill_moved(row: &mut [i64], potentials: &[i64], ends: &[i64])
     }
 }
 
-/// Subtracts from each node's entry the numbers of the families of its sets.
+/// Subtracts from the entry of each node the numbers of the families of all sets that contain it.
 pub fn take_multipliers(row: &mut [i64], multiplied: &MultipliedFamilies)
     requires { length row.old ≡ multiplied.now.families.now.nodes + 1 }
     ensures { (x : ℕ) → IsMoved (neg_ℤ (multipliers_at multiplied.now.numbers.now (lent_in multiplied.now.families.now) x))

@@ -1,5 +1,6 @@
-//! Judges the branches of a tree of cases, before any leaf: the first bad one, else the first on a
-//! pair that is decided already.
+//! Judges the branches of a tree of cases before any leaf: finds the first that isn't on two nodes,
+//! else the first on a pair that is decided already. The report names its number, as
+//! `AreCasesJudged` in `specs/JudgedTrees.antt` counts it.
 
 ghost use Rattle.tsp_cases.specs.Prelude.{All, IfOk, true, false, length, are_whole, steps_of, IsScale, IsSymmetric};
 ghost use Rattle.std.specs.Prelude.{◌≡◌, ◌≤◌, ◌<◌, ◌^◌};
@@ -19,12 +20,13 @@ use tsp_theory::Costs;
 
 /// The cases of a tree, or its first bad branch.
 ///
-/// That is the first branch that isn't on two nodes, or, if all are, the first on a pair that is
-/// decided above it or given. Branches count from 1.
+/// A branch is bad if it isn't on two nodes. If none is, the first branch on a pair that is given,
+/// or decided above it, is returned. Branches count from 1.
 ///
 /// # Errors
 ///
-/// Out of memory, of which it takes some for each node, each decision of a case and each given one.
+/// Out of memory. It allocates memory for each node, each decision of a case and each given
+/// decision.
 pub fn judge_cases<'a, C: Costs>(
     alloc: Global,
     tree: &BranchingCertificate<'a, C>,
@@ -48,9 +50,9 @@ pub fn judge_cases<'a, C: Costs>(
     }))
 }
 
-/// The first branch on a pair that is decided above it or given, counted from 1. `None` if each
-/// case decides a pair at most once. Directed pairs are the same in the same order of their nodes
-/// alone, others in either.
+/// The first branch on a pair that is given, or decided above it, counted from 1. `None` if every
+/// case decides a pair at most once. Two pairs are the same in the same order of nodes if pairs are
+/// directed, and in either order if they aren't.
 ///
 /// # Errors
 ///
@@ -107,9 +109,9 @@ pub fn first_bad_branch(steps: &[TreeStep], least: u32, most: u32) -> Option<usi
 
 /// A tree of cases and the costs that it is for.
 ///
-/// There are three or more nodes, and if pairs have no direction the costs are the same in both.
-/// Sets and decisions are of these nodes, and so are the branches that begin at a node. No pair is
-/// given twice, and the steps are one whole tree.
+/// There are three or more nodes, and the costs are symmetric if pairs have no direction. Sets,
+/// decisions and branches that begin at a node are of these nodes. No pair is given twice, and the
+/// steps are one whole tree.
 #[derive(Drop)]
 pub struct BranchingCertificate<'a, C: Costs> {
     pub costs: &'a C,
@@ -117,10 +119,10 @@ pub struct BranchingCertificate<'a, C: Costs> {
     pub directed: bool,
     /// Potentials and multipliers are counts of 1 / scale.
     pub scale: i64,
-    /// The families, each as its sets: of a comb the handle, then the teeth. A lone set is a handle
-    /// without teeth.
+    /// The families, each as its sets: for a comb the handle, then the teeth. A lone set is a
+    /// handle without teeth.
     pub families: &'a [Vec<Vec<u32>>],
-    /// The decisions of all cases.
+    /// The decisions that hold in all cases.
     pub given: &'a [Decision],
     /// The branches and leaves.
     pub steps: &'a [TreeStep],

@@ -46,7 +46,7 @@ use Rattle.tsp_cli.specs.RunEnd.{is_one_line}
 use Rattle.tsp_cli.specs.declared.job.JobFault.{JobFault}
 use Rattle.tsp_cli.specs.declared.job.JobFault.TheVariants.{Refused, OutOfMemory}
 use Rattle.tsp_cli.specs.declared.job.Verb.{Verb}
-use Rattle.tsp_cli.specs.declared.job.Verb.TheVariants.{Show, Convert, Check, Compare, Bound}
+use Rattle.tsp_cli.specs.declared.job.Verb.TheVariants.{Show, Convert, Check, Compare, Bound, Solution}
 
 -- from the definition of a command to the premise of the next call that adds to it
 pub free : {E : Type 0} (app : App) (o : Result Command E) → IfOk o (IsCommandOf app) → IfOk o (λ made. has_globals made ≡ false)
@@ -163,29 +163,35 @@ stops s names enabled (word ∷ rest) w p clean stop =
 abbrev program : App
 program = built tsp
 
--- the subcommand that answers to the word is one of the five
-pick : (p : Text × List Text) (name : Text) (rows : List Row) (a b c d e f : Bool) → bytes_eq p.0 (codes "help") ≡ false
+-- the subcommand that answers to the word is one of the six
+pick : (p : Text × List Text) (name : Text) (rows : List Row) (a b c d e f g : Bool) → bytes_eq p.0 (codes "help") ≡ false
     → bytes_eq (codes "show") p.0 ≡ a → bytes_eq (codes "convert") p.0 ≡ b → bytes_eq (codes "check") p.0 ≡ c
-    → bytes_eq (codes "compare") p.0 ≡ d → bytes_eq (codes "bound") p.0 ≡ e
-    → bytes_eq (codes "help") p.0 ≡ f → entered program (Some p) ≡ Some (name, rows) → (verb : Verb) × (name ≡ word_of verb)
-pick p name rows true b c d e f differs is_a is_b is_c is_d is_e is_f found =
-    let one = rw is_a at found in (Show, ap (λ (o : Option (Text × List Row)). (unwrap_or o (name, rows)).0) (sym one))
-pick p name rows false true c d e f differs is_a is_b is_c is_d is_e is_f found =
-    let one = rw (is_a, is_b) at found in (Convert, ap (λ (o : Option (Text × List Row)). (unwrap_or o (name, rows)).0) (sym one))
-pick p name rows false false true d e f differs is_a is_b is_c is_d is_e is_f found =
-    let one = rw (is_a, is_b, is_c) at found in (Check, ap (λ (o : Option (Text × List Row)). (unwrap_or o (name, rows)).0) (sym one))
-pick p name rows false false false true e f differs is_a is_b is_c is_d is_e is_f found =
+    → bytes_eq (codes "compare") p.0 ≡ d → bytes_eq (codes "bound") p.0 ≡ e → bytes_eq (codes "solution") p.0 ≡ f
+    → bytes_eq (codes "help") p.0 ≡ g → entered program (Some p) ≡ Some (name, rows) → (verb : Verb) × (name ≡ word_of verb)
+pick p name rows true b c d e f g differs is_a is_b is_c is_d is_e is_f is_g found =
+    let one = rw is_a at found in
+    (Show, ap (λ (o : Option (Text × List Row)). (unwrap_or o (name, rows)).0) (sym one))
+pick p name rows false true c d e f g differs is_a is_b is_c is_d is_e is_f is_g found =
+    let one = rw (is_a, is_b) at found in
+    (Convert, ap (λ (o : Option (Text × List Row)). (unwrap_or o (name, rows)).0) (sym one))
+pick p name rows false false true d e f g differs is_a is_b is_c is_d is_e is_f is_g found =
+    let one = rw (is_a, is_b, is_c) at found in
+    (Check, ap (λ (o : Option (Text × List Row)). (unwrap_or o (name, rows)).0) (sym one))
+pick p name rows false false false true e f g differs is_a is_b is_c is_d is_e is_f is_g found =
     let one = rw (is_a, is_b, is_c, is_d) at found in
     (Compare, ap (λ (o : Option (Text × List Row)). (unwrap_or o (name, rows)).0) (sym one))
-pick p name rows false false false false true f differs is_a is_b is_c is_d is_e is_f found =
+pick p name rows false false false false true f g differs is_a is_b is_c is_d is_e is_f is_g found =
     let one = rw (is_a, is_b, is_c, is_d, is_e) at found in
     (Bound, ap (λ (o : Option (Text × List Row)). (unwrap_or o (name, rows)).0) (sym one))
-pick p name rows false false false false false true differs is_a is_b is_c is_d is_e is_f found =
-    let help : codes "help" ≡ p.0 = (bytes_eq-Decides _ _).0 is_f in
+pick p name rows false false false false false true g differs is_a is_b is_c is_d is_e is_f is_g found =
+    let one = rw (is_a, is_b, is_c, is_d, is_e, is_f) at found in
+    (Solution, ap (λ (o : Option (Text × List Row)). (unwrap_or o (name, rows)).0) (sym one))
+pick p name rows false false false false false false true differs is_a is_b is_c is_d is_e is_f is_g found =
+    let help : codes "help" ≡ p.0 = (bytes_eq-Decides _ _).0 is_g in
     let same : bytes_eq p.0 (codes "help") ≡ true = (bytes_eq-Decides _ _).1 (sym help) in
     absurd (true≢false (sym same ∙ differs))
-pick p name rows false false false false false false differs is_a is_b is_c is_d is_e is_f found =
-    let none = rw (is_a, is_b, is_c, is_d, is_e, is_f) at found in
+pick p name rows false false false false false false false differs is_a is_b is_c is_d is_e is_f is_g found =
+    let none = rw (is_a, is_b, is_c, is_d, is_e, is_f, is_g) at found in
     absurd (true≢false (ap (λ (o : Option (Text × List Row)). is_some o) (sym none)))
 
 -- the subcommand that a parse without a fault enters has the word of a verb
@@ -199,7 +205,7 @@ named words name rows clean found = go (stop_after program.top.rules (names_of p
     go None is none = cc
     go (Some p) is some =
         let differs = stops program.top (names_of program) refl words (walk_from nothing_held) p (first_none _ _ clean) is in
-        pick p name rows _ _ _ _ _ _ differs refl refl refl refl refl refl some
+        pick p name rows _ _ _ _ _ _ _ differs refl refl refl refl refl refl refl some
 
 -- a subcommand's name and rows, from both
 pub both : {Z : Type 0} (o : Option (Box SubCommand Z)) (name : Text) (rows : List Row)

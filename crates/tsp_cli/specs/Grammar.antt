@@ -14,7 +14,7 @@ use Rattle.tsp_cli.specs.declared.job.Job.{Job}
 use Rattle.tsp_cli.specs.declared.job.JobFault.{JobFault}
 use Rattle.tsp_cli.specs.declared.job.JobFault.TheVariants.{Refused, OutOfMemory}
 use Rattle.tsp_cli.specs.declared.job.Verb.{Verb}
-use Rattle.tsp_cli.specs.declared.job.Verb.TheVariants.{Show, Convert, Check, Compare, Bound}
+use Rattle.tsp_cli.specs.declared.job.Verb.TheVariants.{Show, Convert, Check, Compare, Bound, Solution}
 
 -- ---- the commands, arguments and options of the program `tsp`
 
@@ -25,6 +25,10 @@ path id = record (new_rule id) { required = true }
 -- one path at least, and as many more as there are words; help names them differently from one path
 abbrev pub several_paths : Text → Rule
 several_paths id = record (path id) { action = Some Append; value_names = 1 }
+
+-- a path that may be there, given as a word alone
+abbrev pub optional_path : Text → Rule
+optional_path id = new_rule id
 
 -- an option with a value: the two words `--long VALUE`, or the one `--long=VALUE`
 abbrev pub option : Text → Text → Rule
@@ -95,14 +99,27 @@ bound_certified = with_rule (with_rule bound_files of_potentials) of_branches
 abbrev pub bound : App
 bound = with_rule (with_rule bound_certified strict) explain
 
+-- solution [T] [--of F]
+abbrev pub solution_files : App
+solution_files = with_rule (with_rule (new_app (codes "solution")) (optional_path (codes "T"))) (option (codes "F") (codes "of"))
+
+-- solution [T] [--of F] [--form NAME] [--first 0|1] [--depot D]
+abbrev pub solution_hints : App
+solution_hints = with_rule (with_rule (with_rule solution_files (option (codes "NAME") (codes "form")))
+    (option (codes "0|1") (codes "first"))) (option (codes "D") (codes "depot"))
+
+-- solution [T] [--of F] [--form NAME] [--first 0|1] [--depot D] [--forms] [--explain]
+abbrev pub solution_verb : App
+solution_verb = with_rule (with_rule solution_hints (flag (codes "A") (codes "forms"))) explain
+
 -- the program, whose words don't begin with its own name, and which knows its version, at each verb too
 abbrev pub start : App
 start = on_top (λ top. record top { no_binary_name = true; has_version = true; propagate_version = true }) (new_app (codes "tsp"))
 
--- and its five subcommands, at one level
+-- and its six subcommands, at one level
 abbrev pub tsp : App
-tsp = with_subcommand (with_subcommand (with_subcommand (with_subcommand (with_subcommand start show.top) convert.top) check.top)
-    compare.top) bound.top
+tsp = with_subcommand (with_subcommand (with_subcommand (with_subcommand (with_subcommand (with_subcommand start show.top)
+    convert.top) check.top) compare.top) bound.top) solution_verb.top
 
 -- some argument of the command counts in its subcommands too
 abbrev pub has_globals : Command → Bool
@@ -121,6 +138,7 @@ word_of Convert = codes "convert"
 word_of Check = codes "check"
 word_of Compare = codes "compare"
 word_of Bound = codes "bound"
+word_of Solution = codes "solution"
 
 -- the verb has this word, or no verb has
 abbrev pub IsVerbOf : Text → Option Verb → Type 0
@@ -135,14 +153,16 @@ text_in = option_map string_bytes
 abbrev pub values_of : Text → List Row → List Text
 values_of id rows = unwrap_or (all_of id rows) []
 
--- the job has the values of F, T, L, P, B and N, where they were found, and all of S; it is strict where U was given,
--- and explained where E was
+-- the job has the values of F, T, L, P, B, N, NAME, 0|1 and D, where they were found, and all of S; it is strict where U
+-- was given, lists the forms where A was, and is explained where E was
 abbrev pub HasValues : List Row → Job → Type 0
 HasValues rows job = (text_in job.file ≡ first_of (codes "F") rows)
     × (text_in job.solution ≡ first_of (codes "T") rows)
     × (map string_bytes job.solutions.items ≡ values_of (codes "S") rows)
     × (text_in job.layout ≡ first_of (codes "L") rows) × (text_in job.potentials ≡ first_of (codes "P") rows)
     × (text_in job.branches ≡ first_of (codes "B") rows) × (text_in job.length ≡ first_of (codes "N") rows)
+    × (text_in job.form ≡ first_of (codes "NAME") rows) × (text_in job.first ≡ first_of (codes "0|1") rows)
+    × (text_in job.depot ≡ first_of (codes "D") rows) × (IsTrue job.forms ↔ (first_of (codes "A") rows ≡ Some (codes "true")))
     × (IsTrue job.strict ↔ (first_of (codes "U") rows ≡ Some (codes "true")))
     × (IsTrue job.explain ↔ (first_of (codes "E") rows ≡ Some (codes "true")))
 

@@ -2,6 +2,7 @@
 pub mod Examples
 pub mod Grammar
 pub mod Tasks
+pub mod Solutions
 pub mod states
 pub mod RunEnd
 pub mod ProgramRun

@@ -1,6 +1,6 @@
 -- A run of the program `tsp`, from the words of its command line to its exit status, and a run of `tsp compare` from
 -- its paths.
-use Rattle.std.specs.Prelude.{◌≡◌, ℕ, false, List, [], Option, Result, map, slice_index_or, ◌≢◌, ◌⊎◌, ◌||◌, Bool, ◌∷◌, codes, drop, Ok, Err, OnOk, true}
+use Rattle.std.specs.Prelude.{◌≡◌, ℕ, false, List, [], Option, Some, Result, map, slice_index_or, ◌≢◌, ◌⊎◌, ◌||◌, Bool, ◌∷◌, codes, drop, Ok, Err, OnOk, true}
 use Rattle.std.specs.Str.{bytes_eq}
 use Rattle.std.specs.String.{string_bytes}
 use Rattle.std.specs.declared.io.Error.{Error}
@@ -24,8 +24,11 @@ use Rattle.clap.specs.declared.error.kind.ErrorKind.TheVariants as kinds
 use Rattle.tsp_cli.specs.Grammar.{GivesJob, IsOtherRefusal}
 use Rattle.tsp_cli.specs.RunEnd.{status_of_run_end, TellsAll, Prints, PrintsSome, version_text}
 use Rattle.tsp_cli.specs.Tasks.{IsInputPathAt, GivesTask}
+use Rattle.tsp_cli.specs.Solutions.{GivesSolution, IsSolved}
+use Rattle.tsp_cli.specs.declared.job.TaskFault.{TaskFault}
+use Rattle.tsp_cli.specs.declared.job.Verb.TheVariants as verbs
 use Rattle.tsp_cli.specs.declared.ends.RunEnd.{RunEnd}
-use Rattle.tsp_cli.specs.declared.ends.RunEnd.TheVariants.{NoJob, Printed, NoTask, Ended}
+use Rattle.tsp_cli.specs.declared.ends.RunEnd.TheVariants.{NoJob, Printed, NoTask, Ended, Solved}
 use Rattle.tsp_cli.specs.declared.ends.RunEnd.TheVariants as run_ends
 use Rattle.tsp_cli.specs.declared.job.InputPath.{InputPath}
 use Rattle.tsp_cli.specs.declared.job.Job.{Job}
@@ -69,13 +72,19 @@ abbrev pub IsDoneAs : {F : Type 0} → (F → Option (List ℕ)) → (F → List
 IsDoneAs {F = F} remaining gives opens task sink answer = (old new : FileTask (Watched F)) × AreFresh opens task old
     × IsDone remaining old new sink answer × AreReadOn gives old new
 
+-- the job asks for no task, and for no solution that is to be written anew
+abbrev pub GivesNone : Job → TaskFault → Type 0
+GivesNone job fault = ((job.verb ≢ Some verbs.Solution) × GivesTask job (Err fault))
+    ⊎ ((job.verb ≡ Some verbs.Solution) × GivesSolution job (Err fault))
+
 -- How a run with this job ends: it asks for no task, and then nothing is written; or the task was done on its opened
--- files; or the solutions were compared.
+-- files; or the solutions were compared; or a solution was written anew.
 abbrev pub EndsWith : {F : Type 0} → (F → Option (List ℕ)) → (F → List ℕ → Result ℕ Error → List ℕ → F → Type 0)
     → (InputPath → F → Type 0) → Job → Sink → RunEnd → Type 0
 EndsWith remaining gives opens job sink (NoJob fault) = ⊥
 EndsWith remaining gives opens job sink (Printed printed) = ⊥
-EndsWith remaining gives opens job sink (NoTask fault) = GivesTask job (Err fault) × IsUnwritten sink
+EndsWith remaining gives opens job sink (NoTask fault) = GivesNone job fault × IsUnwritten sink
+EndsWith remaining gives opens job sink (Solved answer) = IsSolved job sink answer
 EndsWith remaining gives opens job sink (Ended answer) = (task : FileTask InputPath) × GivesTask job (Ok (tasks.Files task))
     × IsDoneAs remaining gives opens task sink answer
 EndsWith remaining gives opens job sink (run_ends.Compared answer) = (comparison : Comparison InputPath) × GivesTask job
@@ -129,6 +138,9 @@ EndsProgram remaining gives opens on_terminal build words sink explained (run_en
     × GivesJob (drop 1 words)
     (Ok job)
     × EndsWith remaining gives opens job sink (run_ends.Compared answer) × (explained ≡ (job.explain || on_terminal))
+EndsProgram remaining gives opens on_terminal build words sink explained (Solved answer) = (job : Job)
+    × GivesJob (drop 1 words) (Ok job)
+    × EndsWith remaining gives opens job sink (Solved answer) × (explained ≡ (job.explain || on_terminal))
 
 -- the end where the words can't be read: out of memory, or a word is no text, which is reported as refused words are
 abbrev pub HasNoWords : ErrorKind → Bool → RunEnd → Type 0
@@ -138,6 +150,7 @@ HasNoWords kind explained (Printed printed) = ⊥
 HasNoWords kind explained (NoTask fault) = ⊥
 HasNoWords kind explained (Ended answer) = ⊥
 HasNoWords kind explained (run_ends.Compared answer) = ⊥
+HasNoWords kind explained (Solved answer) = ⊥
 
 -- the exit status is that of the run's end; its line is written, if writing succeeded, and an explanation where one is
 -- asked for

@@ -8,12 +8,17 @@ use Rattle.tsp_io.specs.declared.piece.WriteFault.TheVariants.{OutOfMemory}
 use Rattle.tsp_judge.specs.RunStatus.{run_fault_text, status_of}
 use Rattle.tsp_judge.specs.TaskRun.{is_yes_outcome}
 use Rattle.tsp_judge.specs.declared.run_status.RunFault.TheVariants.{Write}
+use Rattle.tsp_judge.specs.declared.run_status.RunFault.TheVariants as run_faults
+use Rattle.tsp_solution.specs.FaultTexts.{solution_run_fault_text}
+use Rattle.tsp_solution.specs.declared.fault.SolutionFault.TheVariants as solution_faults
+use Rattle.tsp_solution.specs.declared.run.SolutionRunFault.{SolutionRunFault}
+use Rattle.tsp_solution.specs.declared.run.SolutionRunFault.TheVariants as solution_ends
 use Rattle.tsp_cli.specs.declared.ends.ErrorLine.{ErrorLine}
 use Rattle.tsp_cli.specs.declared.ends.ErrorLine.TheVariants as error_lines
 use Rattle.tsp_cli.specs.declared.ends.RunEnd.{RunEnd}
-use Rattle.tsp_cli.specs.declared.ends.RunEnd.TheVariants.{NoJob, Printed, NoTask, Ended, Compared}
+use Rattle.tsp_cli.specs.declared.ends.RunEnd.TheVariants.{NoJob, Printed, NoTask, Ended, Compared, Solved}
 use Rattle.tsp_cli.specs.declared.job.JobFault.TheVariants as job_faults
-use Rattle.tsp_cli.specs.declared.job.TaskFault.TheVariants.{UnknownLayout, MissingPath, TwoCertificates, NoCertificate, NotALength, InputTwice, LineEndInPath}
+use Rattle.tsp_cli.specs.declared.job.TaskFault.TheVariants.{UnknownLayout, MissingPath, TwoCertificates, NoCertificate, NotALength, InputTwice, LineEndInPath, UnknownForm, NotAFirst, NotADepot}
 use Rattle.tsp_cli.specs.declared.running.Version.{Version}
 
 -- the line of the version, with the name of the build
@@ -41,6 +46,14 @@ MayTell true old new = (text : List ℕ) × Appends old new text
 
 -- ---- the exit status of a run's end, and the line that it writes to standard error
 
+-- a solution: 0 written; 2 a fault at a word, or else the status of the fault
+abbrev pub status_of_solved : Result (Unit {0}) SolutionRunFault → ℕ
+status_of_solved (Ok done) = 0
+status_of_solved (Err (solution_ends.File file (solution_faults.Place line word fault))) = 2
+status_of_solved (Err (solution_ends.File file (solution_faults.File fault))) = status_of (Err (run_faults.File file fault))
+status_of_solved (Err (solution_ends.File file solution_faults.OutOfMemory)) = 3
+status_of_solved (Err (solution_ends.Write fault)) = status_of (Err (Write fault))
+
 -- words: 3 out of memory, 4 refused; a version or help: 0 printed, else the status of the fault; a task: the status of
 -- its result; a comparison: the largest status of its solutions
 abbrev pub status_of_run_end : RunEnd → ℕ
@@ -53,6 +66,7 @@ status_of_run_end (Ended (Ok outcome)) = status_of (Ok (is_yes_outcome outcome))
 status_of_run_end (Ended (Err fault)) = status_of (Err fault)
 status_of_run_end (Compared (Ok compared)) = compared.status
 status_of_run_end (Compared (Err fault)) = status_of (Err fault)
+status_of_run_end (Solved answer) = status_of_solved answer
 
 -- the line of a run's end; a result has none, nor has a printed text, since those are on standard output
 abbrev pub IsLineOf : RunEnd → Option ErrorLine → Type 0
@@ -65,6 +79,8 @@ IsLineOf (Ended (Ok answer)) line = line ≡ None
 IsLineOf (Ended (Err fault)) line = line ≡ Some (error_lines.Fault fault)
 IsLineOf (Compared (Ok compared)) line = line ≡ None
 IsLineOf (Compared (Err fault)) line = line ≡ Some (error_lines.Fault fault)
+IsLineOf (Solved (Ok done)) line = line ≡ None
+IsLineOf (Solved (Err fault)) line = line ≡ Some (error_lines.Unsolved fault)
 IsLineOf (NoJob (job_faults.Refused refusal)) _ = ⊥
 
 -- a line of this program, with its end
@@ -82,7 +98,11 @@ line_text (error_lines.NoTask NoCertificate) = ended (codes "neither potentials 
 line_text (error_lines.NoTask NotALength) = ended (codes "not a length")
 line_text (error_lines.NoTask InputTwice) = ended (codes "standard input twice")
 line_text (error_lines.NoTask LineEndInPath) = ended (codes "line end in a path")
+line_text (error_lines.NoTask UnknownForm) = ended (codes "unknown form")
+line_text (error_lines.NoTask NotAFirst) = ended (codes "first is neither 0 nor 1")
+line_text (error_lines.NoTask NotADepot) = ended (codes "not a depot")
 line_text (error_lines.Fault fault) = ended (run_fault_text fault)
+line_text (error_lines.Unsolved fault) = ended (solution_run_fault_text fault)
 
 -- no byte of the text ends a line
 abbrev pub is_one_line : List ℕ → Bool

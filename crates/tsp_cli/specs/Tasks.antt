@@ -23,7 +23,7 @@ use Rattle.tsp_report.specs.declared.task.Comparison.{Comparison}
 use Rattle.tsp_report.specs.declared.task.Task.{Task}
 use Rattle.tsp_report.specs.declared.task.Task.TheVariants as tasks
 use Rattle.tsp_cli.specs.declared.job.TaskFault.{TaskFault}
-use Rattle.tsp_cli.specs.declared.job.TaskFault.TheVariants.{UnknownLayout, MissingPath, TwoCertificates, NoCertificate, NotALength, InputTwice, LineEndInPath}
+use Rattle.tsp_cli.specs.declared.job.TaskFault.TheVariants.{UnknownLayout, MissingPath, TwoCertificates, NoCertificate, NotALength, InputTwice, LineEndInPath, UnknownForm, NotAFirst, NotADepot}
 
 -- a path and what it names: standard input for `-`, else the file with this path
 abbrev pub IsInputPathAt : Text → InputPath → Type 0
@@ -133,13 +133,14 @@ TakesCertificate job = ((job.verb ≡ Some verbs.Check) × (job.file ≢ None) �
     ⊎ (((job.verb ≡ Some verbs.Compare) × (job.file ≢ None) × (job.solutions.items ≢ []))
     ⊎ ((job.verb ≡ Some verbs.Bound) × (job.file ≢ None)))
 
--- The task, or why there is none; here several of its files may be standard input. Where several faults apply, the
+-- The task, or why there is none; the verb `solution` asks for none of these. Here several of its files may be standard input. Where several faults apply, the
 -- first is named: a path that is missing, a word that is no layout, one that is no length, two certificates, none, and a
 -- path with a line end.
 abbrev pub NamesTask : Job → Result (Task InputPath) TaskFault → Type 0
 NamesTask job (Ok task) = IsTask job task
 NamesTask job (Err MissingPath) = (job.verb ≢ None) × ((job.file ≡ None)
-    ⊎ ((job.verb ≡ Some verbs.Check) × (job.solution ≡ None)) ⊎ ((job.verb ≡ Some verbs.Compare) × (job.solutions.items ≡ [])))
+    ⊎ ((job.verb ≡ Some verbs.Check) × (job.solution ≡ None)) ⊎ ((job.verb ≡ Some verbs.Compare) × (job.solutions.items ≡ []))
+    ⊎ (job.verb ≡ Some verbs.Solution))
 NamesTask job (Err UnknownLayout) = (job.verb ≡ Some verbs.Convert) × (job.file ≢ None) × IsNoLayout job.layout
 NamesTask job (Err NotALength) = (job.verb ≡ Some verbs.Check) × (job.file ≢ None) × (job.solution ≢ None)
     × IsNoLength job.length
@@ -148,6 +149,9 @@ NamesTask job (Err NoCertificate) = (job.verb ≡ Some verbs.Bound) × (job.file
 NamesTask job (Err LineEndInPath) = (job.verb ≡ Some verbs.Compare) × (job.file ≢ None) × (job.solutions.items ≢ [])
     × (NamesBoth job → ⊥) × (any_line_end job.solutions.items ≡ true)
 NamesTask job (Err InputTwice) = ⊥
+NamesTask job (Err UnknownForm) = ⊥
+NamesTask job (Err NotAFirst) = ⊥
+NamesTask job (Err NotADepot) = ⊥
 
 -- ---- what one verb asks for; `at` is the file of its instance
 
@@ -227,3 +231,6 @@ GivesTask job (Err TwoCertificates) = NamesTask job (Err TwoCertificates)
 GivesTask job (Err NoCertificate) = NamesTask job (Err NoCertificate)
 GivesTask job (Err MissingPath) = NamesTask job (Err MissingPath)
 GivesTask job (Err LineEndInPath) = NamesTask job (Err LineEndInPath)
+GivesTask job (Err UnknownForm) = ⊥
+GivesTask job (Err NotAFirst) = ⊥
+GivesTask job (Err NotADepot) = ⊥

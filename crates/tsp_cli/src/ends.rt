@@ -3,7 +3,7 @@
 ghost use Rattle.std.specs.Prelude.{◌≡◌, ◌++◌, ◌∷◌, [], OnOk};
 ghost use Rattle.std.specs.Io.KnownBytes.{Appends};
 ghost use Rattle.tsp_judge.specs.RunStatus.{run_fault_text, status_of};
-ghost use Rattle.tsp_cli.specs.RunEnd.{IsLineOf, Tells, status_of_run_end};
+ghost use Rattle.tsp_cli.specs.RunEnd.{IsLineOf, Tells, status_of_run_end, status_of_solved};
 
 use crate::job::{JobFault, TaskFault};
 use arrayvec::ArrayString;
@@ -13,6 +13,7 @@ use std::io::{self, Write};
 use tsp_judge::{
     Compared, Outcome, RunError, RunFault, Status, WriteFault, is_yes_outcome, status_of,
 };
+use tsp_solution::{SolutionFault, SolutionRunFault};
 
 /// How many bytes of a fault's line are written at once.
 const MOST_TEXT: usize = 256;
@@ -30,6 +31,8 @@ pub enum RunEnd {
     Ended(Result<Outcome, RunError>),
     /// Solutions were compared, or that ended with a fault.
     Compared(Result<Compared, RunError>),
+    /// A solution was written anew, or the forms were listed; or that ended with a fault.
+    Solved(Result<(), SolutionRunFault>),
 }
 
 /// The line that goes to standard error at the end of a run.
@@ -43,6 +46,8 @@ pub enum ErrorLine<'a> {
     NoTask(TaskFault),
     /// Why a task gave no answer.
     Fault(RunFault),
+    /// Why a solution wasn't written.
+    Unsolved(SolutionRunFault),
 }
 
 impl Display for ErrorLine<'_> {
@@ -65,7 +70,14 @@ impl Display for ErrorLine<'_> {
             ErrorLine::NoTask(TaskFault::NotALength) => f.write_str("not a length\n"),
             ErrorLine::NoTask(TaskFault::InputTwice) => f.write_str("standard input twice\n"),
             ErrorLine::NoTask(TaskFault::LineEndInPath) => f.write_str("line end in a path\n"),
+            ErrorLine::NoTask(TaskFault::UnknownForm) => f.write_str("unknown form\n"),
+            ErrorLine::NoTask(TaskFault::NotAFirst) => f.write_str("first is neither 0 nor 1\n"),
+            ErrorLine::NoTask(TaskFault::NotADepot) => f.write_str("not a depot\n"),
             ErrorLine::Fault(fault) => {
+                f.write(fault)?;
+                f.write_str("\n")
+            }
+            ErrorLine::Unsolved(fault) => {
                 f.write(fault)?;
                 f.write_str("\n")
             }
@@ -85,6 +97,38 @@ pub fn status_of_run_end(run_end: &RunEnd) -> u8
         RunEnd::Ended(Ok(outcome)) => status_of(&Ok(is_yes_outcome(outcome))),
         RunEnd::Compared(Ok(compared)) => compared.status,
         RunEnd::Ended(Err(error)) | RunEnd::Compared(Err(error)) => status_of(&Err(error.fault())),
+        RunEnd::Solved(solved) => status_of_solved(solved),
+    }
+}
+
+/// The exit status of a run that writes a solution anew.
+fn status_of_solved(solved: &Result<(), SolutionRunFault>) -> u8
+    ensures { result ≡ status_of_solved solved.now }
+{
+    match solved {
+        Ok(()) => Status::Yes as u8,
+        Err(
+            SolutionRunFault::File {
+                file: _,
+                fault: SolutionFault::Place { .. },
+            },
+        ) => Status::NotJudged as u8,
+        Err(
+            SolutionRunFault::File {
+                file,
+                fault: SolutionFault::File(fault),
+            },
+        ) => status_of(&Err(RunFault::File {
+            file: *file,
+            fault: *fault,
+        })),
+        Err(
+            SolutionRunFault::File {
+                file: _,
+                fault: SolutionFault::OutOfMemory,
+            },
+        ) => Status::OutOfMemory as u8,
+        Err(SolutionRunFault::Write(fault)) => status_of(&Err(RunFault::Write(*fault))),
     }
 }
 
@@ -96,7 +140,11 @@ pub fn line_of(run_end: &RunEnd) -> Option<ErrorLine<'_>>
         RunEnd::NoJob(JobFault::Refused(refusal)) => Some(ErrorLine::Refusal(refusal)),
         RunEnd::NoJob(JobFault::OutOfMemory) => Some(ErrorLine::OutOfMemory),
         RunEnd::NoTask(fault) => Some(ErrorLine::NoTask(*fault)),
-        RunEnd::Printed(Ok(())) | RunEnd::Ended(Ok(_)) | RunEnd::Compared(Ok(_)) => None,
+        RunEnd::Printed(Ok(()))
+        | RunEnd::Ended(Ok(_))
+        | RunEnd::Compared(Ok(_))
+        | RunEnd::Solved(Ok(())) => None,
+        RunEnd::Solved(Err(fault)) => Some(ErrorLine::Unsolved(*fault)),
         RunEnd::Printed(Err(fault)) => Some(ErrorLine::Fault(RunFault::Write(*fault))),
         RunEnd::Ended(Err(error)) | RunEnd::Compared(Err(error)) => Some(ErrorLine::Fault(
             error.fault(),

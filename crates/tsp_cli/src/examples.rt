@@ -21,6 +21,9 @@ ghost use Rattle.tsp_judge.specs.declared.compared.Compared.{Compared};
 ghost use Rattle.tsp_judge.specs.declared.run_status.RunFault.TheVariants as run_faults;
 ghost use Rattle.tsp_judge.specs.declared.task_run.Outcome.{Outcome};
 ghost use Rattle.tsp_judge.specs.declared.task_run.Outcome.TheVariants as outcomes;
+ghost use Rattle.tsp_solution.specs.declared.fault.FormFault.TheVariants as form_faults;
+ghost use Rattle.tsp_solution.specs.declared.fault.SolutionFault.TheVariants as solution_faults;
+ghost use Rattle.tsp_solution.specs.declared.run.SolutionRunFault.TheVariants as solution_ends;
 ghost use Rattle.clap.specs.Words.{fault_of};
 ghost use Rattle.clap.specs.declared.error.Error.{Error};
 ghost use Rattle.clap.specs.declared.error.kind.ErrorKind.TheVariants as kinds;
@@ -44,6 +47,7 @@ pub fn examples_of_verbs()
     ensures check { word_of verbs.Check ≡ codes "check" }
     ensures compare { word_of verbs.Compare ≡ codes "compare" }
     ensures bound { word_of verbs.Bound ≡ codes "bound" }
+    ensures solution { word_of verbs.Solution ≡ codes "solution" }
 {}
 
 /// A whole line of each verb, with each of its options.
@@ -95,6 +99,14 @@ pub fn examples_of_lines()
         ∷ codes "b" ∷ codes "--branches" ∷ codes "d" ∷ codes "c" ∷ []) ≡ Some (codes "d") }
     ensures bound { IsWholeLine (codes "bound")
         (codes "bound" ∷ codes "a" ∷ codes "--branches" ∷ codes "c" ∷ []) }
+    ensures written_anew { IsWholeLine (codes "solution") (codes "solution" ∷ codes "a" ∷ codes "--of" ∷ codes "b" ∷ []) }
+    ensures solved { found_value (codes "T") (codes "solution" ∷ codes "a" ∷ codes "--of" ∷ codes "b" ∷ []) ≡ Some (codes "a") }
+    ensures instance_of_a_solution { found_value (codes "F")
+        (codes "solution" ∷ codes "a" ∷ codes "--of" ∷ codes "b" ∷ []) ≡ Some (codes "b") }
+    ensures form { found_value (codes "NAME") (codes "solution" ∷ codes "a" ∷ codes "--form" ∷ codes "json" ∷ []) ≡ Some (codes "json") }
+    ensures first { found_value (codes "0|1") (codes "solution" ∷ codes "a" ∷ codes "--first" ∷ codes "0" ∷ []) ≡ Some (codes "0") }
+    ensures depot { found_value (codes "D") (codes "solution" ∷ codes "a" ∷ codes "--depot" ∷ codes "3" ∷ []) ≡ Some (codes "3") }
+    ensures forms { IsWholeLine (codes "solution") (codes "solution" ∷ codes "--forms" ∷ []) }
     ensures no_file { fault_of tsp (codes "show" ∷ []) ≢ [] }
     ensures no_solution { fault_of tsp (codes "check" ∷ codes "a" ∷ []) ≢ [] }
     ensures two_solutions { fault_of tsp
@@ -203,6 +215,13 @@ pub fn examples_of_statuses()
     ensures compared { (compared : Compared) → status_of_run_end (run_ends.Compared (Ok compared)) ≡ compared.status }
     ensures not_compared { status_of_run_end (run_ends.Compared (Err run_faults.WrongKind)) ≡ 2 }
     ensures memory_while_compared { status_of_run_end (run_ends.Compared (Err run_faults.OutOfMemory)) ≡ 3 }
+    ensures solved { status_of_run_end (run_ends.Solved (Ok tt)) ≡ 0 }
+    ensures fault_at_a_word { status_of_run_end (run_ends.Solved (Err (solution_ends.File 1
+        (solution_faults.Place 2 3 form_faults.NotANode)))) ≡ 2 }
+    ensures no_memory_to_solve { status_of_run_end (run_ends.Solved (Err (solution_ends.File 1 solution_faults.OutOfMemory))) ≡ 3 }
+    ensures missing_solution { status_of_run_end (run_ends.Solved (Err (solution_ends.File 1
+        (solution_faults.File read_faults.Device)))) ≡ 5 }
+    ensures unknown_form { status_of_run_end (run_ends.NoTask task_faults.UnknownForm) ≡ 4 }
     ensures line { ended (codes "missing path") ≡ Some (codes "missing path\n") }
 {}
 
@@ -218,6 +237,10 @@ pub fn examples_of_printed_lines()
     ensures no_length { line_text (error_lines.NoTask task_faults.NotALength) ≡ Some (codes "not a length\n") }
     ensures line_end { line_text (error_lines.NoTask task_faults.LineEndInPath) ≡ Some (codes "line end in a path\n") }
     ensures input_twice { line_text (error_lines.NoTask task_faults.InputTwice) ≡ Some (codes "standard input twice\n") }
+    ensures unknown_form { line_text (error_lines.NoTask task_faults.UnknownForm) ≡ Some (codes "unknown form\n") }
+    ensures no_first { line_text (error_lines.NoTask task_faults.NotAFirst) ≡ Some (codes "first is neither 0 nor 1\n") }
+    ensures no_depot { line_text (error_lines.NoTask task_faults.NotADepot) ≡ Some (codes "not a depot\n") }
+    ensures unsolved { line_text (error_lines.Unsolved (solution_ends.Write write_faults.Device)) ≡ Some (codes "output: device\n") }
     ensures version { version_text (codes "a build") ≡ codes "tsp 1.1.0 (a build)\n" }
     ensures file { line_text (error_lines.Fault (run_faults.File 2 read_faults.TooLong))
         ≡ ended (codes "file " ++ (decimal 2 ++ codes ": too long")) }

@@ -32,6 +32,9 @@ pub(crate) fn fault_explanation(alloc: Global, fault: TaskFault) -> Vec<u8> {
         TaskFault::NoCertificate => push_lines(&mut text, NO_CERTIFICATE),
         TaskFault::NotALength => push_lines(&mut text, LENGTHS),
         TaskFault::LineEndInPath => push_lines(&mut text, LINE_ENDS),
+        TaskFault::UnknownForm => push_lines(&mut text, FORMS),
+        TaskFault::NotAFirst => push_lines(&mut text, FIRST),
+        TaskFault::NotADepot => push_lines(&mut text, DEPOTS),
     };
     text
 }
@@ -43,24 +46,36 @@ const LAYOUTS: &str =
 
 /// What certifies a bound.
 const CERTIFICATES: &str =
-    "A check takes one certificate: a file of potentials, or a tree of cases. Run it once with each.";
+    "A check takes one certificate: potentials, or a tree of cases. Run it once with each.";
 
 /// What standard input is.
 const INPUT: &str =
-    "A path - is standard input, which can be one file of a call. The file with that name is ./-";
+    "The path - stands for standard input, for at most one file. For a file named -, write ./-";
 
 /// What a bound needs.
 const NO_CERTIFICATE: &str =
-    "A bound needs a certificate: --potentials with a file of potentials, or --branches with a tree of cases.";
+    "A bound needs a certificate: --potentials with a file of potentials, or --branches\n\
+    with a tree of cases.";
 
 /// What the path of a solution is for.
 const LINE_ENDS: &str =
-    "A line of a comparison ends with the path of its solution, so no path has two lines. Rename the file.";
+    "Each line of a comparison ends with a path, so a path can't contain a line end.\n\
+    Rename the file.";
+
+/// Which forms there are.
+const FORMS: &str = "tsp solution --forms prints the names of all forms.";
+
+/// What the first number is.
+const FIRST: &str =
+    "Write --first 0 if nodes count from 0 or routes list customers, and --first 1 if nodes count from 1.";
+
+/// What a depot is.
+const DEPOTS: &str = "A depot is a node, which is a whole number from 1 to 100,000.";
 
 /// What a length is.
-const LENGTHS: &str =
-    "A length is a whole number that fits 64 bits, as 426 or 12.0. One below 0 is written --length=-34.\n\
-    Lengths of TSPLIB are whole. A cost in real numbers, as 524.61, can't be compared with them.";
+const LENGTHS: &str = "A length is a whole number that fits into 64 bits, such as 426 or 12.0.\n\
+    Write one below 0 with an equals sign: --length=-34.\n\
+    TSPLIB's lengths are whole, so a real cost such as 524.61 can't be compared with them.";
 
 /// A task, of files that `files` opens, and how its end is reported.
 #[derive(Drop)]
@@ -111,14 +126,12 @@ pub(crate) fn explanation<F: Read + Drop, O: Open<F>>(
             let fault = run_error.fault();
             let again = match fault {
                 RunFault::File { file, fault: _ } => task_run.again(file),
-                RunFault::WrongKind
-                | RunFault::Write(_)
-                | RunFault::OutOfMemory
-                | RunFault::Relayout(_) => None,
+                RunFault::WrongKind => task_run.again(1),
+                RunFault::Write(_) | RunFault::OutOfMemory | RunFault::Relayout(_) => None,
             };
             explain_fault(alloc, &mut text, &names, again, error, fault)
         }
-        RunEnd::NoJob(_) | RunEnd::Printed(_) | RunEnd::NoTask(_) => Ok(()),
+        RunEnd::NoJob(_) | RunEnd::Printed(_) | RunEnd::NoTask(_) | RunEnd::Solved(_) => Ok(()),
     };
     text
 }

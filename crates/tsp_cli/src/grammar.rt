@@ -1,9 +1,9 @@
-//! The command line as `clap` knows it: five subcommands, what each takes, and the texts of help.
+//! The command line as `clap` knows it: six subcommands, what each takes, and the texts of help.
 //! Also the version, of which `VERSION_NUMBER` in `src/lib.rt` of tsp_c is a copy.
 
 ghost use Rattle.std.specs.Prelude.{◌≡◌, IfOk, false};
 ghost use Rattle.clap.specs.Words.{App, Rule, new_app, rule_of, with_rule, with_subcommand};
-ghost use Rattle.tsp_cli.specs.Grammar.{IsCommandOf, has_globals, path, several_paths, option, flag, explain, strict, show, convert, check_files, check_certified, check, compare_files, compare_certified, compare, bound_files, bound_certified, bound, start, tsp};
+ghost use Rattle.tsp_cli.specs.Grammar.{IsCommandOf, has_globals, path, several_paths, optional_path, option, flag, explain, strict, show, convert, check_files, check_certified, check, compare_files, compare_certified, compare, bound_files, bound_certified, bound, solution_files, solution_hints, solution_verb, start, tsp};
 
 use clap::{Arg, ArgAction, Command};
 use std::alloc::{AllocError, Global};
@@ -16,18 +16,18 @@ const ABOUT: &str = "Reads, writes and judges TSPLIB 95 files";
 
 /// The end of the program's help.
 const NOTES: &str = "\
-With no words at all, a file on standard input is shown.
-A path - is standard input, which can be one file of a call.
+Without arguments, tsp shows the file on standard input.
+The path - stands for standard input, for at most one file.
 
 Exit status:
   0  yes, or done
-  1  no, or the matrix can't take the layout
-  2  a file has a fault, or the first is of the wrong kind
+  1  no, or the matrix can't be written in the layout
+  2  a file has a fault, or the first file is of the wrong kind
   3  out of memory
-  4  the words are refused, or ask for help by --help
-  5  a file can't be read, or standard output not written
+  4  the command line is refused, or asks for --help
+  5  a file can't be read, or the output can't be written
 
-With --explain, lines after a fault or no say where it is and what to do.
+With --explain, more lines say where a fault or a no is, and what to do.
 
 Examples:
   tsp show a.tsp
@@ -36,46 +36,48 @@ Examples:
   tsp check a.tsp a.tour --branches a.branches
   tsp check a.tsp a.tour --length 426
   tsp compare a.tsp a.tour b.tour --potentials a.potentials
-  tsp bound a.tsp --potentials a.potentials";
+  tsp bound a.tsp --potentials a.potentials
+  tsp solution a.sol --of a.vrp > a.tour";
 
 /// What the options of the certificates are.
-const POTENTIALS: &str = "The path of the potentials: TYPE POTENTIALS";
+const POTENTIALS: &str = "Compute a bound from this file of TYPE POTENTIALS";
 
-const BRANCHES: &str = "The path of a tree of cases: TYPE BRANCHES";
+const BRANCHES: &str = "Compute a bound from this file of TYPE BRANCHES";
 
 /// The end of the help of `show`.
 const SHOW_NOTES: &str = "\
-Prints the file's name, its TYPE, the number of its nodes, and what else
-it contains, each on a line of its own.
+Prints the file's name, its TYPE, its number of nodes, and what else it
+contains, each on a line of its own.
 
-Exit status: 0 done, 2 a fault of the file, 3 out of memory, 5 a device.
+Exit status: 0 done, 2 a fault in the file, 3 out of memory, 5 a failed
+read or write.
 
 Example:
   tsp show a.tsp";
 
 /// The end of the help of `convert`.
 const CONVERT_NOTES: &str = "\
-Prints the file's canonical text. A layout is a word of TSPLIB 95:
+Prints the file's canonical text. These are the layouts of TSPLIB 95:
   FULL_MATRIX
   UPPER_ROW  UPPER_DIAG_ROW  LOWER_ROW  LOWER_DIAG_ROW
   UPPER_COL  UPPER_DIAG_COL  LOWER_COL  LOWER_DIAG_COL
 
-Exit status: 0 done, 1 the matrix can't take the layout, 2 a fault of the
-file, 3 out of memory, 4 no such layout, 5 a device.
+Exit status: 0 done, 1 the matrix can't be written in the layout, 2 a fault
+in the file, 3 out of memory, 4 no such layout, 5 a failed read or write.
 
 Example:
   tsp convert a.tsp --layout UPPER_ROW > b.tsp";
 
 /// The end of the help of `check`.
 const CHECK_NOTES: &str = "\
-Prints yes with the length, or no with the first reason. With potentials or
-branches there is a bound too: no tour is shorter than that. With a length
-that is claimed, a solution of another length is rejected; one below 0 is
-written --length=-34. With --strict, an instance with an unknown keyword, or
-with a field that it doesn't use, is rejected, after all other reasons.
+Prints yes with the length, or no with the first reason. With --potentials or
+--branches it also prints a bound: no tour is shorter. Write a length below 0
+with an equals sign: --length=-34. With --strict, an instance with an unknown
+keyword, or with a field that it doesn't use, is rejected if no other reason
+applies.
 
-Exit status: 0 yes, 1 no, 2 a fault of a file or the wrong kind,
-3 out of memory, 4 both potentials and branches or no length, 5 a device.
+Exit status: 0 yes, 1 no, 2 a fault in a file or the wrong kind,
+3 out of memory, 4 two certificates or not a length, 5 a failed read or write.
 
 Examples:
   tsp check a.tsp a.tour
@@ -87,13 +89,15 @@ Examples:
 /// The end of the help of `compare`.
 const COMPARE_NOTES: &str = "\
 Reads the instance and the certificate once, then each solution in turn, and
-prints a line for each: its length and path, or why it is rejected or isn't
-read. With potentials or branches there is a bound too, and a line says
-optimal or the gap to it. With --strict, an instance with an unknown keyword,
-or with a field that it doesn't use, is rejected, and no solution is read.
+prints a line for each: its length and path, or why it is rejected or can't be
+read. With --potentials or --branches it also prints a bound, and each line
+says optimal or gives the gap. With --strict, an instance with an unknown
+keyword, or with a field that it doesn't use, is rejected, and no solution is
+read.
 
-Exit status: the largest of 0 all accepted, 1 a no, 2 a fault of a file or
-the wrong kind, 5 a device. 3 out of memory, 4 both potentials and branches.
+Exit status: the largest of 0 all accepted, 1 a no, 2 a fault in a file or
+the wrong kind, 5 a failed read or write; or 3 out of memory, 4 two
+certificates.
 
 Examples:
   tsp compare a.tsp a.tour b.tour
@@ -105,16 +109,32 @@ const BOUND_NOTES: &str = "\
 Prints yes with the bound, or no with the first reason against the instance
 or the certificate. No tour of the instance is shorter than the bound. With
 --strict, an instance with an unknown keyword, or with a field that it doesn't
-use, is rejected, after all other reasons.
+use, is rejected if no other reason applies.
 
-Exit status: 0 yes, 1 no, 2 a fault of a file or the wrong kind,
-3 out of memory, 4 not one of potentials and branches, 5 a device.
+Exit status: 0 yes, 1 no, 2 a fault in a file or the wrong kind,
+3 out of memory, 4 not exactly one certificate, 5 a failed read or write.
 
 Examples:
   tsp bound a.tsp --potentials a.potentials
   tsp bound a.tsp --branches a.branches";
 
-/// The program's command with its five subcommands. Its words are those after the program's own
+/// The end of the help of `solution`.
+const SOLUTION_NOTES: &str = "\
+Reads a solution that another program wrote, and prints it as a file of TYPE
+TOUR. A length that it claims is kept in a COMMENT. The form is found by what
+the file contains; tsp solution --forms prints all forms. With --of, the
+instance says where the depot is, and whether routes list customers or nodes.
+The result isn't judged here: pass it to tsp check.
+
+Exit status: 0 done, 2 a fault of a file, 3 out of memory, 4 no such form,
+numbering or depot, 5 a device.
+
+Examples:
+  tsp solution a.sol --of a.vrp > a.tour
+  tsp solution routes.json --form json --first 0 > a.tour
+  tsp solution a.sol --of a.vrp | tsp check a.vrp -";
+
+/// The program's command with its six subcommands. Its words are those after the program's own
 /// name.
 pub(crate) fn tsp<'a>(alloc: Global) -> Result<Command<'a>, AllocError>
     ensures { IfOk result (IsCommandOf tsp) }
@@ -123,7 +143,8 @@ pub(crate) fn tsp<'a>(alloc: Global) -> Result<Command<'a>, AllocError>
     let two = then_command(one, convert(alloc));
     let three = then_command(two, check(alloc));
     let four = then_command(three, compare(alloc));
-    then_command(four, bound(alloc))
+    let five = then_command(four, bound(alloc));
+    then_command(five, solution(alloc))
 }
 
 /// The program's command without its subcommands.
@@ -141,8 +162,8 @@ fn top<'a>(alloc: Global) -> Result<Command<'a>, AllocError>
 fn show<'a>(alloc: Global) -> Result<Command<'a>, AllocError>
     ensures { IfOk result (IsCommandOf show) }
 {
-    let bare = command(alloc, "show", "Says what a file contains", SHOW_NOTES);
-    let one = then(Ok(bare), path(alloc, "F", "The path of a TSPLIB 95 file"));
+    let bare = command(alloc, "show", "Prints what a file contains", SHOW_NOTES);
+    let one = then(Ok(bare), path(alloc, "F", "A TSPLIB 95 file"));
     then(one, explain(alloc))
 }
 
@@ -150,10 +171,10 @@ fn show<'a>(alloc: Global) -> Result<Command<'a>, AllocError>
 fn convert<'a>(alloc: Global) -> Result<Command<'a>, AllocError>
     ensures { IfOk result (IsCommandOf convert) }
 {
-    let about = "Writes a file anew, on request with its matrix in another layout";
+    let about = "Writes a file in normal form, or its matrix in another layout";
     let bare = command(alloc, "convert", about, CONVERT_NOTES);
-    let one = then(Ok(bare), path(alloc, "F", "The path of a TSPLIB 95 file"));
-    let layout = option(alloc, "L", "layout", "The layout that the matrix gets");
+    let one = then(Ok(bare), path(alloc, "F", "A TSPLIB 95 file"));
+    let layout = option(alloc, "L", "layout", "Write the matrix in this layout");
     let two = then(one, layout);
     then(two, explain(alloc))
 }
@@ -163,12 +184,7 @@ fn check<'a>(alloc: Global) -> Result<Command<'a>, AllocError>
     ensures { IfOk result (IsCommandOf check) }
 {
     let one = check_certified(alloc);
-    let length = option(
-        alloc,
-        "N",
-        "length",
-        "The length that the solution has to have",
-    );
+    let length = option(alloc, "N", "length", "Reject a solution of another length");
     let two = then(one, length);
     let three = then(two, strict(alloc));
     then(three, explain(alloc))
@@ -187,11 +203,11 @@ fn check_certified<'a>(alloc: Global) -> Result<Command<'a>, AllocError>
 fn check_files<'a>(alloc: Global) -> Result<Command<'a>, AllocError>
     ensures { IfOk result (IsCommandOf check_files) }
 {
-    let about = "Judges a tour or routes, and with a certificate bounds every tour";
+    let about = "Judges a tour or routes, and computes a bound from a certificate";
     let bare = command(alloc, "check", about, CHECK_NOTES);
-    let instance = "The path of the instance: TYPE TSP, ATSP or CVRP";
+    let instance = "The instance, of TYPE TSP, ATSP or CVRP";
     let one = then(Ok(bare), path(alloc, "F", instance));
-    then(one, path(alloc, "T", "The path of the solution: TYPE TOUR"))
+    then(one, path(alloc, "T", "The solution, of TYPE TOUR"))
 }
 
 /// `compare F T.. [--potentials P] [--branches B] [--strict] [--explain]`.
@@ -215,14 +231,11 @@ fn compare_certified<'a>(alloc: Global) -> Result<Command<'a>, AllocError>
 fn compare_files<'a>(alloc: Global) -> Result<Command<'a>, AllocError>
     ensures { IfOk result (IsCommandOf compare_files) }
 {
-    let about = "Judges many solutions of one instance, a line for each";
+    let about = "Judges many solutions of one instance, and prints a line for each";
     let bare = command(alloc, "compare", about, COMPARE_NOTES);
-    let instance = "The path of the instance: TYPE TSP, ATSP or CVRP";
+    let instance = "The instance, of TYPE TSP, ATSP or CVRP";
     let one = then(Ok(bare), path(alloc, "F", instance));
-    then(
-        one,
-        paths(alloc, "S", "The paths of the solutions: TYPE TOUR"),
-    )
+    then(one, paths(alloc, "S", "The solutions, of TYPE TOUR"))
 }
 
 /// `bound F [--potentials P] [--branches B] [--strict] [--explain]`.
@@ -246,10 +259,49 @@ fn bound_certified<'a>(alloc: Global) -> Result<Command<'a>, AllocError>
 fn bound_files<'a>(alloc: Global) -> Result<Command<'a>, AllocError>
     ensures { IfOk result (IsCommandOf bound_files) }
 {
-    let about = "Bounds every tour of an instance by a certificate, without a tour";
+    let about = "Computes a bound from a certificate, without a solution";
     let bare = command(alloc, "bound", about, BOUND_NOTES);
-    let instance = "The path of the instance: TYPE TSP or ATSP";
+    let instance = "The instance, of TYPE TSP, ATSP or CVRP";
     then(Ok(bare), path(alloc, "F", instance))
+}
+
+/// `solution [T] [--of F] [--form NAME] [--first 0|1] [--depot D] [--forms] [--explain]`.
+fn solution<'a>(alloc: Global) -> Result<Command<'a>, AllocError>
+    ensures { IfOk result (IsCommandOf solution_verb) }
+{
+    let forms = flag(
+        alloc,
+        "A",
+        "forms",
+        "Print all forms, and what tells them apart",
+    );
+    let one = then(solution_hints(alloc), forms);
+    then(one, explain(alloc))
+}
+
+/// `solution [T] [--of F] [--form NAME] [--first 0|1] [--depot D]`.
+fn solution_hints<'a>(alloc: Global) -> Result<Command<'a>, AllocError>
+    ensures { IfOk result (IsCommandOf solution_hints) }
+{
+    let form = option(alloc, "NAME", "form", "The name of the form");
+    let one = then(solution_files(alloc), form);
+    let about = "0 if nodes count from 0 or routes list customers, 1 if nodes count from 1";
+    let two = then(one, option(alloc, "0|1", "first", about));
+    then(
+        two,
+        option(alloc, "D", "depot", "The depot, if it isn't node 1"),
+    )
+}
+
+/// `solution [T] [--of F]`, which has the files.
+fn solution_files<'a>(alloc: Global) -> Result<Command<'a>, AllocError>
+    ensures { IfOk result (IsCommandOf solution_files) }
+{
+    let about = "Writes another program's solution as a file of TYPE TOUR";
+    let bare = command(alloc, "solution", about, SOLUTION_NOTES);
+    let solution = optional_path(alloc, "T", "The path of the solution, in any form");
+    let one = then(Ok(bare), solution);
+    then(one, option(alloc, "F", "of", "The path of its instance"))
 }
 
 /// A command without arguments, with the texts of its help.
@@ -294,6 +346,14 @@ fn path<'a>(alloc: Global, id: &'a str, help: &'a str) -> Arg<'a>
     ensures local { result.global ≡ false }
 {
     Arg::new(alloc, id).required(true).help(help)
+}
+
+/// A path that the words may contain.
+fn optional_path<'a>(alloc: Global, id: &'a str, help: &'a str) -> Arg<'a>
+    ensures rule { rule_of result ≡ optional_path id.now }
+    ensures local { result.global ≡ false }
+{
+    Arg::new(alloc, id).help(help)
 }
 
 /// Paths, of which the words have to contain one at least. Help calls each `T`, as it does the path
@@ -348,6 +408,6 @@ fn strict<'a>(alloc: Global) -> Arg<'a>
         alloc,
         "U",
         "strict",
-        "Reject an instance with a line that isn't judged, after all other reasons",
+        "Reject an instance with an unknown keyword or an unused field",
     )
 }

@@ -2,11 +2,11 @@
 //! job into a task on files. Each step may fail: `JobFault`, `TaskFault`.
 
 ghost use Rattle.std.specs.IoError.{error_kind};
-ghost use Rattle.std.specs.Prelude.{◌≡◌, ◌≢◌, ◌↔◌, IfOk, IsTrue, Some, codes, map, option_map, ◌≤◌};
+ghost use Rattle.std.specs.Prelude.{◌≡◌, ◌≢◌, ◌↔◌, IfOk, IsTrue, None, Some, codes, map, option_map, ◌≤◌};
 ghost use Rattle.std.specs.String.{string_bytes};
 ghost use Rattle.tsp_report.specs.Tasks.{files_of_task, numbered};
 ghost use Rattle.clap.specs.Words.{first_of, found_of, kind_of, rows_of};
-ghost use Rattle.tsp_cli.specs.Grammar.{GivesJob, IsFaultOf, IsOtherRefusal, IsVerbOf, HasValues, text_in, values_of};
+ghost use Rattle.tsp_cli.specs.Grammar.{GivesJob, IsFaultOf, IsJobOf, IsOtherRefusal, IsVerbOf, HasValues, text_in, values_of};
 ghost use Rattle.tsp_cli.specs.Tasks.{GivesInputPath, GivesLayout, GivesClaim, GivesCertificate, IsInputPathAt, any_line_end, has_line_end, NamesTask, NamesCheck, NamesComparison, NamesBound, GivesTask, input_at, inputs_at, inputs_of_task};
 
 use crate::grammar;
@@ -31,6 +31,8 @@ pub enum Verb {
     Compare,
     /// Bound all tours or routes of an instance, without a solution.
     Bound,
+    /// Write a solution of another program as a file of TYPE TOUR.
+    Solution,
 }
 
 impl Verb {
@@ -44,6 +46,7 @@ impl Verb {
             "check" => Some(Verb::Check),
             "compare" => Some(Verb::Compare),
             "bound" => Some(Verb::Bound),
+            "solution" => Some(Verb::Solution),
             _ => None,
         }
     }
@@ -56,7 +59,7 @@ pub struct Job {
     pub verb: Option<Verb>,
     /// The path of the file, or of the instance.
     pub file: Option<String>,
-    /// The path of the solution that is checked.
+    /// The path of the solution that is checked, or written anew.
     pub solution: Option<String>,
     /// The paths of the solutions that are compared, in the order given.
     pub solutions: Vec<String>,
@@ -68,6 +71,14 @@ pub struct Job {
     pub branches: Option<String>,
     /// The word of the length that is claimed.
     pub length: Option<String>,
+    /// The name of the form of a solution.
+    pub form: Option<String>,
+    /// The word of the number with which nodes begin to count.
+    pub first: Option<String>,
+    /// The word of the depot.
+    pub depot: Option<String>,
+    /// Whether the forms of solutions are listed.
+    pub forms: bool,
     /// Whether lines of the instance that aren't judged are a reason.
     pub strict: bool,
     /// Whether a fault, or the line `no`, is to be explained.
@@ -97,8 +108,9 @@ impl JobFault {
 /// Reads the words of a command line, those after the program's own name: `show F`,
 /// `convert F [--layout L]`, `check F T [--potentials P] [--branches B] [--length N] [--strict]`,
 /// `compare F T.. [--potentials P] [--branches B] [--strict]`,
-/// `bound F [--potentials P] [--branches B] [--strict]`, each with `--explain` or without, or no
-/// words at all.
+/// `bound F [--potentials P] [--branches B] [--strict]`,
+/// `solution [T] [--of F] [--form NAME] [--first 0|1] [--depot D] [--forms]`, each with `--explain`
+/// or without, or no words at all.
 ///
 /// # Errors
 ///
@@ -114,22 +126,33 @@ pub fn job_of(alloc: Global, words: &[&str]) -> Result<Job, JobFault>
         Err(refusal) => return Err(JobFault::of(refusal)),
     };
     let Some((name, found)) = matches.subcommand() else {
-        return Ok(Job {
-            verb: None,
-            file: None,
-            solution: None,
-            solutions: Vec::new(alloc),
-            layout: None,
-            potentials: None,
-            branches: None,
-            length: None,
-            strict: false,
-            explain: false,
-        });
+        return Ok(no_job(alloc));
     };
     match job_with(alloc, Verb::of_word(name), found) {
         Ok(job) => Ok(job),
         Err(AllocError) => Err(JobFault::OutOfMemory),
+    }
+}
+
+/// The job of no words, which has no verb and no values.
+fn no_job(alloc: Global) -> Job
+    ensures { IsJobOf None result }
+{
+    Job {
+        verb: None,
+        file: None,
+        solution: None,
+        solutions: Vec::new(alloc),
+        layout: None,
+        potentials: None,
+        branches: None,
+        length: None,
+        form: None,
+        first: None,
+        depot: None,
+        forms: false,
+        strict: false,
+        explain: false,
     }
 }
 
@@ -172,6 +195,10 @@ fn job_with(alloc: Global, verb: Option<Verb>, found: &ArgMatches<'_>) -> Result
         potentials: value(alloc, found, "P")?,
         branches: value(alloc, found, "B")?,
         length: value(alloc, found, "N")?,
+        form: value(alloc, found, "NAME")?,
+        first: value(alloc, found, "0|1")?,
+        depot: value(alloc, found, "D")?,
+        forms: is_given(found, "A"),
         strict: is_given(found, "U"),
         explain: is_given(found, "E"),
     })
@@ -257,9 +284,15 @@ pub enum TaskFault {
     InputTwice,
     /// The path of a solution that is compared contains the end of a line.
     LineEndInPath,
+    /// No form of solutions has the name.
+    UnknownForm,
+    /// The word of the first number is neither 0 nor 1.
+    NotAFirst,
+    /// The word is no node that could be a depot.
+    NotADepot,
 }
 
-/// The task that a job asks for. A path `-` is standard input, which one file at most can be. With
+/// The task that a job asks for, whose verb isn't `solution`: `solution_task_of` is for that. A path `-` is standard input, which one file at most can be. With
 /// no verb, standard input is shown.
 ///
 /// # Errors
@@ -342,6 +375,7 @@ fn named_task(job: &Job) -> Result<Task<'_, InputPath<'_>>, TaskFault>
         Verb::Check => Ok(Task::Files(check_of(job, file)?)),
         Verb::Compare => Ok(Task::Compare(comparison_of(job, file)?)),
         Verb::Bound => Ok(Task::Files(bound_of(job, file)?)),
+        Verb::Solution => Err(TaskFault::MissingPath),
     }
 }
 
@@ -420,7 +454,7 @@ fn bound_of<'a>(job: &'a Job, instance: InputPath<'a>) -> Result<FileTask<InputP
 }
 
 /// The place of a path that has to be there.
-fn input_path_of(path: Option<&String>) -> Result<InputPath<'_>, TaskFault>
+pub(crate) fn input_path_of(path: Option<&String>) -> Result<InputPath<'_>, TaskFault>
     ensures { GivesInputPath (option_map (λ text. string_bytes text.now) path.entry) result }
 {
     match path {

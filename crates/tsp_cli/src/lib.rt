@@ -20,6 +20,7 @@ mod input;
 mod job;
 mod laws;
 mod running;
+mod solution_run;
 
 pub use ends::{ErrorLine, RunEnd, line_of, status_of_run_end, tell};
 pub use examples::{
@@ -32,5 +33,6 @@ pub use input::{InputFile, Open};
 pub use job::{InputPath, Job, JobFault, TaskFault, Verb, input_path_at, job_of, task_of, unread};
 pub use laws::{explained_on_a_terminal, faults_are_one_line};
 pub use running::{HostContext, run, tell_unread, tell_waiting};
+pub use solution_run::{SolutionTask, solution_task_of};
 pub use tsp_judge::{Outcome, Watched, WriteFault, perform};
 pub use tsp_report::FileTask;

@@ -3,17 +3,19 @@
 
 ghost use Rattle.std.specs.Io.KnownBytes.{Appends, Keeps};
 ghost use Rattle.std.specs.IoError.{error_kind};
-ghost use Rattle.std.specs.Prelude.{◌≡◌, ◌||◌, IfOk, OnOk, drop, map, ◌≤◌, ◌<◌, true, false, length};
+ghost use Rattle.std.specs.Prelude.{◌≡◌, ◌≢◌, ◌||◌, IfOk, OnOk, Some, drop, map, ◌≤◌, ◌<◌, true, false, length};
 ghost use Rattle.std.specs.String.{string_bytes};
 ghost use Rattle.tsp_io.specs.states.Watched.{sink_of};
 ghost use Rattle.tsp_cli.specs.ProgramRun.{IsComparedAs, AreOpened, IsFresh, EndsProgram, EndsRefused, EndsWith, HasNoWords, IsDoneAs, Runs, RunsComparison, RunsJob, RunsFileTask, begins_with_help, AreFresh};
+ghost use Rattle.tsp_cli.specs.declared.job.Verb.TheVariants as verbs;
 ghost use Rattle.tsp_cli.specs.RunEnd.{Prints, PrintsSome, version_text, status_of_run_end, Tells, TellsAfter, TellsAll, waiting_line};
 
 use crate::ends::{RunEnd, status_of_run_end, tell};
 use crate::explained::{Followed, TaskRun, end_count, explanation, fault_explanation};
 use crate::grammar::VERSION;
 use crate::input::Open;
-use crate::job::{InputPath, Job, JobFault, TaskFault, job_of, task_of, unread};
+use crate::job::{InputPath, Job, JobFault, TaskFault, Verb, job_of, task_of, unread};
+use crate::solution_run::run_solution;
 use clap::Error as Refusal;
 use clap::error::ErrorKind;
 use std::alloc::{AllocError, Global};
@@ -135,6 +137,9 @@ fn run_job<F: Gives + Drop, O: Open<F>, W: Write, E: Write>(
         (job.now.explain || host_context.on_terminal) (E.contents errors.old) (E.contents errors.new) result }
 {
     let explain = is_explained(job, host_context);
+    if asks_solution(job) {
+        return run_solution(alloc, job, files, out, errors, explain);
+    }
     let task = match task_of(job) {
         Ok(task) => task,
         Err(fault) => {
@@ -156,6 +161,17 @@ fn run_job<F: Gives + Drop, O: Open<F>, W: Write, E: Write>(
     }
 }
 
+/// Whether the job is to write a solution anew.
+fn asks_solution(job: &Job) -> bool
+    ensures yes { result ≡ true → job.now.verb ≡ Some verbs.Solution }
+    ensures no { result ≡ false → job.now.verb ≢ Some verbs.Solution }
+{
+    match job.verb {
+        Some(Verb::Solution) => true,
+        _ => false,
+    }
+}
+
 /// Whether the job's end is explained.
 fn is_explained(job: &Job, host_context: HostContext) -> bool
     ensures { result ≡ (job.now.explain || host_context.on_terminal) }
@@ -164,7 +180,7 @@ fn is_explained(job: &Job, host_context: HostContext) -> bool
 }
 
 /// Tells why a job asks for nothing, and explains it if that is wanted.
-fn tell_fault_of_job<E: Write>(
+pub(crate) fn tell_fault_of_job<E: Write>(
     alloc: Global,
     fault: TaskFault,
     errors: &mut E,
@@ -237,7 +253,7 @@ fn tell_end<F: Read + Drop, O: Open<F>, E: Write>(
 }
 
 /// Writes a text.
-fn append<E: Write>(errors: &mut E, text: Vec<u8>) -> io::Result<()>
+pub(crate) fn append<E: Write>(errors: &mut E, text: Vec<u8>) -> io::Result<()>
     ensures { OnOk result (Appends (E.contents errors.old) (E.contents errors.new) text.items) }
 {
     let reported = errors.write_all(&text);
@@ -289,7 +305,7 @@ fn opened_to_compare<'a, F: Read + Drop, O: Open<F>>(
 }
 
 /// The file at a place, opened, and nothing read yet.
-fn fresh<F: Read + Drop, O: Open<F>>(place: InputPath<'_>, files: &O) -> Watched<F>
+pub(crate) fn fresh<F: Read + Drop, O: Open<F>>(place: InputPath<'_>, files: &O) -> Watched<F>
     ensures { IsFresh (O.opens files.now) place.entry result }
 {
     Watched::new(files.open(place))

@@ -1,4 +1,5 @@
--- EUC_2D where both differences are whole numbers of steps, which are 512ths: the sum of squares fits 64 bits.
+-- The shortcut of src/metric.rt for EUC_2D: if both differences are whole numbers of 512ths, the sum of their squares
+-- fits 64 bits and decides the rounding.
 use Rattle.tsp_cost.proofs.Prelude.{◌≡◌, ℕ, ◌+◌, ◌*◌, ◌-◌, ◌<◌, ◌≤◌, ◌^◌, ℤ, pos, negsuc, ◌*ℤ◌, ◌-ℤ◌, unsigned_abs, FitsSigned, to_z, of_z, w64, sym, ap, ◌∙◌, Option, None, Some, rules, arith, IfSome, to_z-of_z, unsigned_abs-mul, Point}
 use Rattle.tsp_number.specs.Decimal.{unit}
 use Rattle.tsp_number.specs.Distances.{squared, dx, dy, square_apart, euc_2d_of, IsEuc2d, IsNearestRoot, IsDistance}

@@ -1,4 +1,4 @@
--- The files of lemmas of this crate. Crates above may import them.
+-- Lemmas on the costs that the code looks up or computes, and on the one problem of an instance.
 mod Prelude
 pub mod CoarseRoots
 pub mod Ways

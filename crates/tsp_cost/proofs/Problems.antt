@@ -1,4 +1,4 @@
--- A valid instance is one problem, whose costs are those that the code looks up.
+-- A valid instance is one problem, and its costs are those that the code looks up: the law in src/laws.rt.
 use Rattle.tsp_cost.proofs.Prelude.{◌≡◌, ◌≢◌, ℕ, true, false, List, [], Option, None, Some, refl, sym, ap, ◌∙◌, length, subst, ◌+◌, ◌-◌, ◌<◌, eqb, ltb-false, Bool, ◌∷◌, map, inl, inr, arith, unwrap_or, ℤ, ◌⊎◌, pos, unsigned_abs, is_some, IsSome, slice_index, slice_index_or, nat_lt, nat_le, if◌then◌else◌, Point, IsNode, nodes_to, is_listed, cells, lists, cost_of_listed, cost_of_cell, cost_unlisted, triangle_even, unlisted_has_no_place, laid_at, own_costs, distance, point_of, cost_by, cost, listed_cost, ListsWeights, origin, layout_of, UnlistedHaveNoPlace, Fields, nodes_of, RoutingProblem, demand_of, Problem}
 use Rattle.std.proofs.lemmas.Bool.{false≢true, leb-false}
 use Rattle.std.proofs.lemmas.Bool.Decides.{eqb_tells}

@@ -1,4 +1,4 @@
--- Sums of costs along a list of nodes, and distances that grow as points move apart.
+-- For src/points.rt: costs summed along a list of nodes in blocks, and when all points of a region are too far away.
 use Rattle.tsp_cost.proofs.Prelude.{◌≤◌, ◌≤ℤ◌, ℕ, ℤ, Bool, true, false, refl, arith, ◌≡◌, suc, ◌+◌, ◌-◌, ◌*◌, ◌<◌, List, [], ◌++◌, take, drop, length, sym, ap, subst, ◌∙◌, to_z, of_z, drop-cons, take-append-drop, append_assoc, ints, w64, pos, IsTrue, neg_ℤ, ◌+ℤ◌, slice_index_or, Point, distance, length_of, links_to}
 use Rattle.std.proofs.Math.IntN.{+ℤ_assoc, +ℤ_idr}
 use Rattle.std.specs.Bool.{OnTrue}

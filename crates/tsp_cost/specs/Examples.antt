@@ -1,4 +1,4 @@
--- Small instances with fixed pairs.
+-- Small instances with fixed pairs, for src/examples.rt.
 use Rattle.tsp_cost.specs.Prelude.{ℕ, List, Some, Fields, blank_fields}
 use Rattle.tsp_format.specs.declared.kinds.Kind.{Kind}
 

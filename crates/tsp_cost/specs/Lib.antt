@@ -1,4 +1,4 @@
--- The files of definitions of this crate. Crates above may import them.
+-- Definitions of the problem that an instance is (Problems), and of how the code keeps its costs (`states`).
 pub mod Prelude
 pub mod states
 pub mod Examples

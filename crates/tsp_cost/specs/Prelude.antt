@@ -1,4 +1,4 @@
--- What the definitions and contracts of this crate use most of other crates, passed on from one place.
+-- Names from other crates that definitions and contracts here use often, re-exported so that a file needs one import.
 pub use Rattle.std.specs.Prelude.{Bool, IfSome, IsSome, IsTrue, List, MatchOption, MatchResult, None, Option, Some, false, length, map, neg_ℤ, pos, slice_index, slice_index_or, true, unsigned_abs, unwrap_or, ℕ, ℤ, []}
 pub use Rattle.tsp_file.specs.Cost.{HoldsRouting, UnlistedHaveNoPlace, fixed_of, point_of}
 unfoldable pub use Rattle.tsp_file.specs.Cost.{cost, distance, listed_cost}

@@ -1,6 +1,6 @@
 -- Circles 1 and 3 of docs/trust.md.
 -- Which problem a valid instance is: of TYPE TSP or ATSP a travelling salesman problem, of TYPE CVRP a routing problem.
--- Each valid instance is one problem.
+-- It joins the fields of a file to the mathematics of tsp_theory, and each valid instance is exactly one problem.
 use Rattle.tsp_cost.specs.Prelude.{ℕ, false, [], map, Some, unwrap_or, ℤ, pos, Bool, true, List, Option, None, slice_index, length, Point, IsNode, nodes_to, is_listed, cells, cost, fixed_of, Fields, nodes_of, RoutingProblem, Problem, demand_of, IsPlan, IsTour}
 use Rattle.std.specs.Prelude.{◌≡◌, ◌≢◌, ◌⊎◌, if◌then◌else◌, ◌∷◌}
 use Rattle.tsp_format.specs.declared.kinds.Kind.{Kind}
@@ -67,15 +67,15 @@ problem_of f = record { nodes = nodes_of f; directed = is_directed f.kind; cost 
 abbrev pub IsTourOf : Fields → List ℕ → Type 0
 IsTourOf f nodes = IsTour (problem_of f) nodes
 
--- the depots of a routing problem; none of another file
+-- the depots of a routing problem; none for any other file
 abbrev pub depots_of : Fields → List ℕ
 depots_of f = unwrap_or f.depots []
 
--- its demands, node by node; none of another file
+-- its demands, node by node; none for any other file
 abbrev pub demands_of : Fields → List ℤ
 demands_of f = unwrap_or f.demands []
 
--- its capacity; 0 of another file
+-- its capacity; 0 for any other file
 abbrev pub capacity_of : Fields → ℤ
 capacity_of f = unwrap_or f.capacity (pos 0)
 
@@ -108,14 +108,14 @@ pub record IsProblem (instance : Fields) : Type 0 where
 abbrev pub HaveSameCosts : ℕ → (ℕ → ℕ → ℤ) → (ℕ → ℕ → ℤ) → Type 0
 HaveSameCosts n a b = (i j : ℕ) → IsNode n i → IsNode n j → a i j ≡ b i j
 
--- two travelling salesman problems are equal, but for costs that aren't between nodes
+-- two travelling salesman problems are equal, except for costs that aren't between nodes
 pub record AreSame (a b : Problem) : Type 0 where
   pub nodes : a.nodes ≡ b.nodes
   pub directed : a.directed ≡ b.directed
   pub costs : HaveSameCosts a.nodes a.cost b.cost
   pub fixed : a.fixed ≡ b.fixed
 
--- two routing problems are equal, but for costs and demands that aren't of nodes
+-- two routing problems are equal, except for costs and demands that don't belong to nodes
 pub record AreSameRouting (a b : RoutingProblem) : Type 0 where
   pub nodes : a.nodes ≡ b.nodes
   pub costs : HaveSameCosts a.nodes a.cost b.cost

@@ -1,5 +1,5 @@
-//! A law that states values of `IsTourOf`, worked out by hand: which cycles use the fixed pairs of
-//! a TSP, and which those of an ATSP.
+//! Which cycles use the fixed edges of a TSP and which those of an ATSP, worked out by hand: values
+//! of `IsTourOf` in `specs/Problems.antt`, a definition that the line `yes` rests on.
 
 ghost use Rattle.std.specs.Prelude.{[], ◌∷◌};
 ghost use Rattle.tsp_format.specs.declared.kinds.Kind.TheVariants as kinds;
@@ -7,7 +7,8 @@ ghost use Rattle.tsp_theory.specs.Examples.{three, four};
 ghost use Rattle.tsp_cost.specs.Problems.{IsTourOf};
 ghost use Rattle.tsp_cost.specs.Examples.{with_fixed};
 
-/// Which cycles use a fixed pair: under ATSP from its first to its second node, else either way.
+/// Which cycles use a fixed pair: for an ATSP those that go from its first node to its second,
+/// otherwise those that go either way.
 pub fn examples_of_tours()
     ensures arc { IsTourOf (with_fixed kinds.Atsp 3 ((2, 1) ∷ [])) (three 1 3 2) }
     ensures arc_in_reverse { ¬ IsTourOf (with_fixed kinds.Atsp 3 ((2, 1) ∷ [])) (three 1 2 3) }

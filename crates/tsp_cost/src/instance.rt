@@ -1,5 +1,7 @@
-//! Instances: files of TYPE TSP, ATSP or CVRP, with the costs between their nodes. `View` says
-//! where the costs come from, and `SymmetricView` does so if they have no direction.
+//! `Instance`: a file of TYPE TSP, ATSP or CVRP whose costs are known, where every judgement
+//! begins. Its views (`View`, `SymmetricView`) name the type that has the costs, points or a
+//! matrix, so that loops over them are compiled for it; the costs themselves are `cost` of
+//! `specs/Cost.antt` in tsp_file.
 
 ghost use Rattle.tsp_cost.specs.Prelude.{IsTrue, unwrap_or, MatchResult, pos, neg_ℤ, IsNode, cost, nodes_of};
 ghost use Rattle.std.specs.Prelude.{◌≡◌, ◌≤ℤ◌};
@@ -21,7 +23,7 @@ use tsp_theory::Costs;
 
 /// A valid file of TYPE TSP, ATSP or CVRP, with the costs between its nodes.
 ///
-/// How many nodes it has and where its costs come from is found once, when it is made.
+/// The number of its nodes and the source of its costs are determined once, when it is made.
 #[derive(Debug, Drop)]
 pub struct Instance {
     file: File,
@@ -76,7 +78,7 @@ impl Instance {
         })
     }
 
-    /// The file that this instance is.
+    /// The file behind this instance.
     pub fn file(&self) -> &File
         ensures value { result.now ≡ self.now }
         ensures instance { IsTrue (is_instance self.now.kind) }
@@ -84,7 +86,7 @@ impl Instance {
         &self.file
     }
 
-    /// The file that this instance was.
+    /// Gives up the instance, and returns its file.
     pub fn into_file(self) -> File
         ensures value { result ≡ self }
         ensures instance { IsTrue (is_instance result.kind) }
@@ -101,7 +103,7 @@ impl Instance {
         self.file.kind()
     }
 
-    /// The fixed pairs, each of two different nodes; none without FIXED_EDGES_SECTION.
+    /// The fixed pairs, each of two different nodes; empty without FIXED_EDGES_SECTION.
     pub fn fixed(&self) -> &[(u32, u32)]
         ensures value { result.now ≡ fixed_of self.now }
         ensures few { length result.now ≤ most_fixed }
@@ -113,7 +115,7 @@ impl Instance {
         }
     }
 
-    /// The depots, demands and capacity of an instance of TYPE CVRP; none of TYPE TSP or ATSP.
+    /// The depots, demands and capacity of an instance of TYPE CVRP; `None` for TYPE TSP or ATSP.
     pub fn routing(&self) -> Option<RoutingData<'_>>
         ensures { MatchOption result
             ((self.now.kind ≡ Some kinds.Tsp) ⊎ (self.now.kind ≡ Some kinds.Atsp))
@@ -129,8 +131,8 @@ impl Instance {
         })
     }
 
-    /// The type that has the costs: points if the weight type is a distance, whatever the
-    /// format; else a matrix for FULL_MATRIX and a triangle for every other layout.
+    /// The costs by the type that has them: points if the weight type is a distance, whatever the
+    /// format; otherwise a matrix for FULL_MATRIX, and a triangle for every other layout.
     #[inline]
     pub fn view(&self) -> View<'_>
         ensures { IsViewOf self.now result }
@@ -208,7 +210,8 @@ impl Costs for Instance {
         self.nodes
     }
 
-    // (with distances in the same loop, a pair of a matrix took four times as many instructions)
+    // (when the loop handled distances, too, a pair of a matrix took four times as many
+    // instructions)
     #[inline]
     fn cost(&self, i: u32, j: u32) -> i64 {
         match self.source {
@@ -230,7 +233,7 @@ impl Costs for Instance {
     }
 }
 
-/// The costs of an instance, if they are the same in both directions.
+/// The costs of an instance, if they are symmetric.
 ///
 /// Costs from a node to itself aren't compared. Distances and triangles need no comparison at all.
 ///
@@ -255,8 +258,7 @@ pub fn symmetric_view(inst: &Instance) -> Result<SymmetricView<'_>, (u32, u32)>
 
 /// The first pair of nodes, the smaller one first, by rows, whose two costs differ.
 ///
-/// Costs from a node to itself aren't compared. No pair is looked at under a distance or a
-/// triangle.
+/// Costs from a node to itself aren't compared. For distances and triangles, no pair is looked at.
 pub fn symmetric_fault(inst: &Instance) -> Option<(u32, u32)>
     ensures { FindsAsymmetric (unwrap_or inst.now.dimension 0) (cost inst.now) result }
 {
@@ -271,35 +273,35 @@ pub fn symmetric_fault(inst: &Instance) -> Option<(u32, u32)>
 /// The costs of an instance, by the type that has them.
 #[derive(Clone, Copy, Debug)]
 pub enum View<'a> {
-    /// The weight type is a distance, of points of the plane.
+    /// Distances of points in the plane.
     Plane(Points<'a, PlanePoint>),
-    /// The weight type is a distance, of points in space.
+    /// Distances of points in space.
     Space(Points<'a, Point>),
-    /// The weights are a full matrix.
+    /// A full matrix.
     Matrix(Matrix<'a>),
-    /// The weights are one half of a matrix.
+    /// One half of a matrix.
     Triangle(Triangle<'a>),
 }
 
-/// The costs of an instance, by the type that has them, if they are the same in both directions.
+/// The costs of an instance, by the type that has them, if they are symmetric.
 #[derive(Clone, Copy, Debug)]
 pub enum SymmetricView<'a> {
-    /// The weight type is a distance, of points of the plane.
+    /// Distances of points in the plane.
     Plane(Points<'a, PlanePoint>),
-    /// The weight type is a distance, of points in space.
+    /// Distances of points in space.
     Space(Points<'a, Point>),
-    /// The weights are a full matrix.
+    /// A full matrix.
     Matrix(EvenMatrix<'a>),
-    /// The weights are one half of a matrix.
+    /// One half of a matrix.
     Triangle(Triangle<'a>),
 }
 
 // ---- whether the costs of an instance are distances
 
-/// The metric or the layout of the costs of an instance.
+/// Where the costs of an instance come from.
 #[derive(Clone, Copy, Debug)]
 pub(crate) enum CostSource {
-    /// Distances of its points.
+    /// Distances of its points, by this metric.
     Distances(Metric),
     /// Weights that it lists in this layout.
     Weights(Layout),
@@ -310,7 +312,7 @@ pub(crate) enum CostSource {
 /// Why a file has no costs.
 #[derive(Clone, Copy, Debug, PartialEq, Eq, Error)]
 pub enum CostFault {
-    /// It holds tours, potentials, or a tree of cases.
+    /// It contains tours, potentials, or a tree of cases.
     #[error("NotInstance")]
     NotInstance,
 }

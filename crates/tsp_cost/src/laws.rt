@@ -1,4 +1,5 @@
-//! A law: each valid instance is one problem, with one cost from each node to each.
+//! One law: each valid instance is exactly one problem, with one cost from each node to each. With
+//! it the promise can speak of the problem of a file (`specs/Problems.antt`).
 
 ghost use Rattle.tsp_cost.specs.Prelude.{None, IsTrue, Fields, RoutingProblem, Problem};
 ghost use Rattle.std.specs.Prelude.{◌≡◌};

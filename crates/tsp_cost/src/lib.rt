@@ -1,7 +1,7 @@
 //! The costs between the nodes of an instance, and the lengths of tours.
 //!
-//! An [`Instance`] is a file with costs. A view of it says where they come from: a matrix, a
-//! triangle or points. It judges no tours. The names of tsp_theory are re-exported.
+//! An [`Instance`] is a file with costs, and its views say where they come from: a matrix, a
+//! triangle or points. No tour is judged here. The names of tsp_theory are re-exported.
 //!
 //! As example_check does it, with a file that was read:
 //!

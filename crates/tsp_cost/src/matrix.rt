@@ -1,5 +1,6 @@
-//! Costs that a file lists: a full matrix (`Matrix`, or `EvenMatrix` if it is symmetric), or one
-//! half of a matrix (`Triangle`).
+//! Costs that a file lists: a full matrix (`Matrix`, or `EvenMatrix` once it is known to be
+//! symmetric), or one half (`Triangle`). Also the search for the first pair that costs more one
+//! way, which a report names.
 
 ghost use Rattle.tsp_cost.specs.Prelude.{length, IsTrue, cells, is_listed, listed_cost, UnlistedHaveNoPlace};
 ghost use Rattle.std.specs.List.{All};
@@ -36,7 +37,7 @@ impl<'a> Matrix<'a> {
     ghost use Rattle.tsp_format.specs.Words.{IsFirstAsymmetric, FindsAsymmetric};
     ghost use Rattle.tsp_cost.specs.states.Views.{matrix_nodes, matrix_cost, even_nodes, even_cost};
 
-    /// The costs over this many nodes that these weights list.
+    /// The costs of this many nodes that these weights list.
     pub(crate) fn of(nodes: u32, weights: &'a [i64]) -> Matrix<'a>
         requires some { 1 ≤ nodes }
         requires most { nodes ≤ most_matrix_nodes }
@@ -49,7 +50,7 @@ impl<'a> Matrix<'a> {
         Matrix { nodes, weights }
     }
 
-    /// These costs as symmetric ones. Costs from a node to itself aren't compared.
+    /// These costs as symmetric ones, if they are. Costs from a node to itself aren't compared.
     ///
     /// # Errors
     ///
@@ -148,7 +149,7 @@ impl<'a> Triangle<'a> {
     ghost use Rattle.std.specs.Prelude.{ℕ};
     ghost use Rattle.tsp_cost.specs.states.Views.{triangle_nodes, triangle_cost};
 
-    /// The costs over this many nodes that these weights list in a layout.
+    /// The costs of this many nodes that these weights list in a layout.
     pub(crate) fn of(layout: Layout, nodes: u32, weights: &'a [i64]) -> Triangle<'a>
         requires half { layout ≢ FullMatrix }
         requires some { 1 ≤ nodes }
@@ -170,7 +171,7 @@ impl<'a> Triangle<'a> {
         }
     }
 
-    /// The one of (i, j) and (j, i) that the layout lists.
+    /// Whichever of (i, j) and (j, i) the layout lists.
     #[inline]
     fn cell(&self, i: u32, j: u32) -> (u32, u32)
         requires { i ≡ j → IsTrue self.now.diagonal }

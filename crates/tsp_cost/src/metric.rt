@@ -1,4 +1,6 @@
-//! The weight types that are distances, and the function of tsp_number for each.
+//! `Metric`: a weight type that is a distance, and the function of tsp_number for it. EUC_2D
+//! between points on a coarse grid has a shortcut through floats, whose result is checked in whole
+//! numbers, so it saves time and changes no distance.
 
 ghost use Rattle.tsp_cost.specs.Prelude.{IsTrue, pos, MatchOption, IfSome, unsigned_abs, squared, euc_2d_of, distance};
 ghost use Rattle.std.specs.Prelude.{◌≡◌, ◌↔◌, ◌≤ℤ◌, ◌<◌, ◌≤◌, ◌*◌, ◌^◌, ◌*ℤ◌, ◌-ℤ◌};
@@ -34,7 +36,7 @@ pub(crate) enum Metric {
 }
 
 impl Metric {
-    /// The distance that a weight type is; none if it is EXPLICIT.
+    /// The distance that a weight type stands for; `None` for EXPLICIT.
     pub(crate) fn of(kind: WeightKind) -> Option<Metric>
         ensures { MatchOption result (kind ≡ Explicit) (λ metric. weight_kind_of metric ≡ kind) }
     {
@@ -51,8 +53,8 @@ impl Metric {
         }
     }
 
-    /// The distance of two points.
-    // (without `inline` the call cost 65 instructions a pair)
+    /// The distance between two points.
+    // (without `inline` the call took 65 instructions for each pair)
     #[inline(always)]
     #[tactic(auto, unfolding(tsp_file::specs::Cost::distance))]
     pub(crate) fn between(self, a: Point, b: Point) -> i64
@@ -72,7 +74,7 @@ impl Metric {
         }
     }
 
-    /// The distance of two points that come one after the other on a tour.
+    /// The distance between two points that follow each other on a tour.
     #[inline(always)]
     #[tactic(auto, unfolding(tsp_file::specs::Cost::distance))]
     pub(crate) fn onward(self, a: Point, b: Point) -> i64
@@ -86,7 +88,7 @@ impl Metric {
         }
     }
 
-    /// Whether the distance of two points is at least `least`.
+    /// Whether the distance between two points is at least `least`.
     #[inline(always)]
     #[tactic(auto, unfolding(tsp_file::specs::Cost::distance))]
     pub(crate) fn is_at_least(self, a: Point, b: Point, least: i64) -> bool
@@ -110,10 +112,10 @@ impl Metric {
 /// The inverse of 5^9, modulo 2^64.
 const INVERSE: i64 = -8_194_354_213_138_031_507;
 
-/// The most steps of a way that is measured so.
+/// The longest way that is measured in steps.
 const MOST_STEPS: i64 = 0x4000_0000;
 
-/// How many steps a way is, if it is a whole number of them, and not too many.
+/// The length of a way in steps, if it is a whole number of them, and not too many.
 #[inline(always)]
 fn steps_of(way: i64) -> Option<i64>
     ensures { IfSome result (λ steps. (steps *ℤ pos 1953125 ≡ way) × (unsigned_abs steps ≤ 2 ^ 30)) }
@@ -125,7 +127,7 @@ fn steps_of(way: i64) -> Option<i64>
     Some(steps)
 }
 
-/// How many steps it is from one number to another, in the same cases.
+/// The way from one coordinate to another in steps, under the same conditions.
 #[inline(always)]
 fn steps_between(a: Decimal, b: Decimal) -> Option<i64>
     ensures { IfSome result (λ steps. (steps *ℤ pos 1953125 ≡ a -ℤ b) × (unsigned_abs steps ≤ 2 ^ 30)) }
@@ -133,7 +135,7 @@ fn steps_between(a: Decimal, b: Decimal) -> Option<i64>
     steps_of(a.nanos() - b.nanos())
 }
 
-/// The square of a number of steps.
+/// The square of a way in steps.
 #[inline(always)]
 fn square_of(steps: i64) -> u64
     requires { unsigned_abs steps ≤ 2 ^ 30 }
@@ -143,7 +145,7 @@ fn square_of(steps: i64) -> u64
     (steps * steps) as u64
 }
 
-/// Half the root of a whole number, estimated by floats. It may be wrong.
+/// Half the root of a whole number, estimated in floats. It may be wrong.
 #[inline(always)]
 fn half_root(square: u64) -> u64
     requires { square ≤ 2 ^ 45 }
@@ -154,7 +156,7 @@ fn half_root(square: u64) -> u64
     num::f64_to_bits_with_nan(near + 4_503_599_627_370_496.0) & 0x7fff_ffff
 }
 
-/// The root of a square of steps, in whole numbers, to the nearest, if the estimate is right.
+/// The root of a square of steps, rounded to whole units, if the estimate is right.
 #[inline(always)]
 fn nearest_root(square: u64) -> Option<u32>
     requires { square ≤ 2 ^ 61 }
@@ -171,7 +173,7 @@ fn nearest_root(square: u64) -> Option<u32>
     Some(root as u32)
 }
 
-/// The distance EUC_2D if each way is a whole number of steps, and not of too many.
+/// The distance EUC_2D if both ways are whole numbers of steps, and not too many.
 #[inline(always)]
 fn coarse_euc_2d(a: Point, b: Point) -> Option<u32>
     ensures { IfSome result (λ root. root ≡ euc_2d_of a b) }
@@ -183,8 +185,8 @@ fn coarse_euc_2d(a: Point, b: Point) -> Option<u32>
     nearest_root(square_of(dx) + square_of(dy))
 }
 
-/// The distance EUC_2D, by `coarse_euc_2d` if that has it.
-// (between whole coordinates by a third of the instructions less)
+/// The distance EUC_2D, from `coarse_euc_2d` if possible.
+// (this saves a third of the instructions between points with whole coordinates)
 #[inline(always)]
 fn quick_euc_2d(a: Point, b: Point) -> i64
     ensures distance { result ≡ pos (euc_2d_of a b) }
@@ -193,7 +195,7 @@ fn quick_euc_2d(a: Point, b: Point) -> i64
     quick_between(&a, &b)
 }
 
-/// The distance EUC_2D of points that are lent.
+/// The distance EUC_2D, for points behind references.
 #[inline(always)]
 fn quick_between(a: &Point, b: &Point) -> i64
     ensures distance { result ≡ pos (euc_2d_of a.now b.now) }

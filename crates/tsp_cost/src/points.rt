@@ -1,5 +1,6 @@
-//! Costs that are distances of points, of the plane or in space, by the metric of the weight type, and
-//! an order of nodes in which neighbours are near each other.
+//! Costs computed from the points of a file whenever they are asked for, and an order of the nodes
+//! in which neighbours in space are close together. Contracts pin the costs and say nothing of the
+//! order, so it can be improved freely: searches get faster or slower, and bounds stay the same.
 
 ghost use Rattle.tsp_cost.specs.Prelude.{ℕ, length, map, Point, distance, point_of};
 ghost use Rattle.std.specs.Prelude.{◌≡◌, ◌≤◌, ◌-◌, ◌<◌, ◌*◌, ◌^◌};
@@ -13,13 +14,12 @@ use tsp_io::{Refused, filled, push, with_capacity};
 use tsp_number::{Decimal, InSpace, PlanePoint, Point, distance_laws, monotone_laws};
 use tsp_theory::{Costs, Region, Site, Symmetric};
 
-/// How many points are looked up before the first of their distances.
+/// How many points are looked up before their distances are computed.
 const BLOCK: usize = 32;
 
-/// The costs of an instance whose weight type is a distance: that of the nodes' points.
+/// The costs of an instance whose weight type is a distance: the distances of its nodes' points.
 ///
-/// The points are those of the plane or those in space, each list in the memory that its points
-/// need.
+/// The points lie in the plane or in space, and take no more memory than they need.
 #[derive(Debug)]
 pub struct Points<'a, P> {
     pub(crate) metric: Metric,
@@ -36,7 +36,7 @@ impl<'a, P: InSpace> Points<'a, P> {
     ghost use Rattle.tsp_cost.specs.states.Views.{points_nodes, points_cost, points_place};
     ghost use Rattle.tsp_cost.specs.states.Metrics.{ArePlaces, IsSumOfCosts, IsWayThrough};
 
-    /// The costs by a distance, over points of which there is one for each node.
+    /// The distances of these points, one for each node.
     pub(crate) fn of(metric: Metric, points: &'a [P]) -> Points<'a, P>
         requires some { 1 ≤ length points.now }
         requires most { length points.now ≤ most_nodes }
@@ -57,7 +57,7 @@ impl<'a, P: InSpace> Points<'a, P> {
         self.points[node as usize - 1].in_space()
     }
 
-    /// Looks up the point of a node, and those of a few others behind it.
+    /// Looks up the point of a node, and after it those of a few other nodes.
     #[inline(always)]
     fn look_up(&self, from: u32, nodes: &[u32], places: &mut [Point; BLOCK + 1])
         requires from { IsNode (points_nodes self.now) from }
@@ -71,9 +71,9 @@ impl<'a, P: InSpace> Points<'a, P> {
         }
     }
 
-    /// The sum of the costs from a node through a few others, and the last of these. Their points
-    /// are written over those that are lent.
-    // (the processor waits for several points at once, if they are looked up first)
+    /// The sum of the costs from a node through a few others, and the last of these. `places` is
+    /// scratch space for their points.
+    // (if points are looked up first, the processor waits for several of them at once)
     #[inline(always)]
     fn through(&self, from: u32, nodes: &[u32], places: &mut [Point; BLOCK + 1]) -> (i64, u32)
         requires from { IsNode (points_nodes self.now) from }
@@ -94,7 +94,7 @@ impl<'a, P: InSpace> Points<'a, P> {
     }
 
     /// The length of a list of nodes, as [`Costs::length`] gives it.
-    // (in `length`, so that the compiler knows the metric if that does)
+    // (called from `length`, so that the compiler knows the metric if `length` does)
     #[inline(always)]
     fn along(&self, tour: &[u32]) -> i64
         requires range { All (IsNode (points_nodes self.now)) tour.now }
@@ -107,7 +107,7 @@ impl<'a, P: InSpace> Points<'a, P> {
         let mut from = *first;
         let mut rest = others;
         let mut length = 0;
-        // (once, and not for each block: to clear and to move it takes time)
+        // (once and not for each block, because clearing and moving it takes time)
         let mut places = [self.place(from); BLOCK + 1];
         'parts: while !rest.is_empty() {
             let (block, later) = rest.split_at(rest.len().min(BLOCK));
@@ -119,7 +119,7 @@ impl<'a, P: InSpace> Points<'a, P> {
         length + self.cost(from, *first)
     }
 
-    /// These costs under this metric, which is theirs.
+    /// The same costs, under their own metric, which the compiler then knows.
     #[inline(always)]
     pub(crate) fn with(&self, metric: Metric) -> Points<'a, P>
         requires { metric ≡ self.now.metric }
@@ -168,7 +168,7 @@ impl<P: InSpace> Costs for Points<'_, P> {
     }
 
     fn length(&self, tour: &[u32]) -> i64 {
-        // (a metric that is looked at for each pair took 16 instructions more)
+        // (choosing the metric for each pair took 16 more instructions)
         match self.metric {
             Metric::Euc2d => self.with(Metric::Euc2d).along(tour),
             _ => self.along(tour),
@@ -190,7 +190,7 @@ impl<P: InSpace> Costs for Points<'_, P> {
         self.metric.between(from.place, to.place)
     }
 
-    // (as a separate call it cost a tenth more instructions)
+    // (as a separate call it took a tenth more instructions)
     #[inline(always)]
     fn is_beyond(&self, from: &Site, region: &Region, least: i64) -> bool {
         self.is_beyond_by(self.metric, from, region, least)
@@ -203,10 +203,10 @@ impl<P: InSpace> Symmetric for Points<'_, P> {
 
 // ---- the costs of points of the plane under EUC_2D alone
 
-/// Points of the plane whose distance is EUC_2D.
+/// Points in the plane under EUC_2D.
 ///
-/// Nothing of theirs asks for the metric: a search that chose among all metrics for each box took a
-/// sixth more instructions.
+/// The metric is known here: a search that chose among all metrics for each box took a sixth more
+/// instructions.
 #[derive(Debug, Drop)]
 pub struct Euclidean<'a> {
     points: Points<'a, PlanePoint>,
@@ -262,7 +262,7 @@ impl Costs for Euclidean<'_> {
         Metric::Euc2d.between(from.place, to.place)
     }
 
-    // (as a separate call it cost a tenth more instructions)
+    // (as a separate call it took a tenth more instructions)
     #[inline(always)]
     fn is_beyond(&self, from: &Site, region: &Region, least: i64) -> bool {
         self.points.is_beyond_by(Metric::Euc2d, from, region, least)
@@ -311,9 +311,9 @@ struct Item {
     node: u32,
 }
 
-/// The nodes but the first, of which node i has the point i - 1, by the leaves of a tree: each of
-/// its boxes has two halves with the nodes on either side of a line across its longest side, by
-/// J. L. Bentley, 1975.
+/// All nodes except the first, in the order of the leaves of a tree of boxes. A line across the
+/// longest side of each box divides its nodes into two halves (J. L. Bentley, 1975). Node i has the
+/// point i - 1.
 ///
 /// # Errors
 ///
@@ -337,8 +337,8 @@ fn by_halves<P: InSpace>(alloc: Global, points: &[P]) -> Result<Vec<u32>, Refuse
     Ok(order)
 }
 
-/// Puts the nodes of the box `v` in their order. The box `v` has the halves `2 * v` and
-/// `2 * v + 1`; those from `order.len()` on are leaves, each with its place.
+/// Puts the nodes of the box `v` in order. Its halves are the boxes `2 * v` and `2 * v + 1`. Boxes
+/// from `order.len()` on are leaves, each with its place.
 fn arrange(items: &mut [Item], v: usize, order: &mut [u32])
     requires low { 1 ≤ v }
     requires high { v < 2 * length order.old }
@@ -362,8 +362,7 @@ fn arrange(items: &mut [Item], v: usize, order: &mut [u32])
     arrange(second, 2 * v + 1, order);
 }
 
-/// How many of the leaves of a box are in its first half, if they fill their last level from the
-/// first place on.
+/// How many leaves of a box are in its first half, if the last level is filled from the left.
 fn first_half(leaves: usize) -> usize
     requires { 2 ≤ leaves }
     ensures { result < leaves }
@@ -374,7 +373,8 @@ fn first_half(leaves: usize) -> usize
     half.wrapping_add(more.min(half)).min(leaves - 1)
 }
 
-/// Puts the nodes before the middle on one side of a line across the longest side of their box.
+/// Moves nodes so that those before the middle lie on one side of a line across the longest side of
+/// their box.
 fn part(items: &mut [Item], middle: usize)
     requires { middle < length items.old }
     ensures { length items.new ≡ length items.old }
@@ -392,7 +392,7 @@ fn part(items: &mut [Item], middle: usize)
     }
 }
 
-/// A region with all points.
+/// The smallest region around all points.
 fn region_of(items: &[Item]) -> Region
     requires { 1 ≤ length items.now }
 {
@@ -403,7 +403,7 @@ fn region_of(items: &[Item]) -> Region
     region
 }
 
-/// How far two numbers are apart, in counts of 10^-9.
+/// How far apart two coordinates are, in counts of 10^-9.
 fn gap(a: Decimal, b: Decimal) -> u64 {
     a.nanos().abs_diff(b.nanos())
 }

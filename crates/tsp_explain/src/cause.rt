@@ -31,17 +31,19 @@ pub(crate) fn cause(look: &Look, fault: ReadFault) -> Option<&'static str> {
 /// What the first bytes of a file say that is no text of TSPLIB 95.
 fn kind_of(head: &[u8]) -> Option<&'static str> {
     if head.starts_with(&[31, 139]) {
-        return Some("The file begins as gzip does. Unpack it first: gunzip < FILE.gz > FILE.");
+        return Some(
+            "The file seems to be compressed with gzip. Unpack it first: gunzip < FILE.gz > FILE.",
+        );
     }
     if head.starts_with(b"BZh") || head.starts_with(&[253, 55]) || head.starts_with(b"PK") {
-        return Some("The file begins as a compressed one does. Unpack it first.");
+        return Some("The file seems to be compressed. Unpack it first.");
     }
     if head.starts_with(&[255, 254]) || head.starts_with(&[254, 255]) {
-        return Some("The file begins as UTF-16 does. Convert it first: iconv -f UTF-16 -t UTF-8.");
+        return Some("The file seems to be in UTF-16. Convert it first: iconv -f UTF-16 -t UTF-8.");
     }
     if head.starts_with(&[239, 187, 191]) {
         return Some(
-            "The file begins with a byte order mark, the bytes 239 187 191. Take it off: tail -c +4 FILE.",
+            "The file begins with a byte order mark (239 187 191). Remove it: tail -c +4 FILE.",
         );
     }
     None
@@ -58,7 +60,7 @@ pub(crate) fn cause_of_first_byte(look: &Look, fault: ReadFault) -> Option<&'sta
             },
             Some(byte),
         ) if !is_usual(*byte) => {
-            Some("The file's first byte is no letter, digit or blank. Is it a text?")
+            Some("The file doesn't begin with a letter, a digit or a blank. Is it a text file?")
         }
         _ => None,
     }
@@ -79,7 +81,7 @@ fn is_usual(byte: u8) -> bool {
 /// Whether the file may be no text at all.
 fn cause_of_controls(look: &Look) -> Option<&'static str> {
     if look.has_controls {
-        Some("The file has control bytes, as a text hasn't. Is it another kind of file?")
+        Some("The file contains control bytes. Is it a text file?")
     } else {
         None
     }
@@ -88,9 +90,7 @@ fn cause_of_controls(look: &Look) -> Option<&'static str> {
 /// Whether the ends of lines may be the cause.
 fn cause_of_returns(look: &Look) -> Option<&'static str> {
     if look.has_returns && !look.has_controls {
-        Some(
-            "Lines of this file end in byte 13 alone. A line ends in byte 10: tr '\\r' '\\n' < FILE.",
-        )
+        Some("The lines of this file end in byte 13 instead of 10: tr '\\r' '\\n' < FILE.")
     } else {
         None
     }
@@ -105,23 +105,24 @@ fn cause_of_line(look: &Look, fault: LineFault) -> Option<&'static str> {
         }
         (LineFault::Number(NumberFault::OutOfRange), Some(Field::TourPart))
             if marked == b"0".as_slice() => {
-            Some("Nodes count from 1. Some programs count them from 0: add 1 to each node then.")
+            Some("Nodes count from 1. If the file counts them from 0, add 1 to each node.")
         }
         (LineFault::Outside, Some(Field::EdgeWeightTypeKey)) if marked.ends_with(b"GEO") => {
             Some(
-                "The script geo.py converts GEO: see the guide \"Certificates from solvers\", which is published with tsp.",
+                "The script geo.py turns it into a matrix: see the guide, \"Files of other programs\".",
             )
         }
         (LineFault::Surplus, _) if marked == b"EOF".as_slice() => {
-            Some("EOF is on a line of its own. The recipe tidy.awk writes it so.")
+            Some("EOF has to be on a line of its own. The recipe tidy.awk puts it there.")
         }
         (LineFault::Number(NumberFault::TooFine), Some(Field::NodeCoordPart)) => Some(
-            "Write the coordinates with 9 decimals, or multiply all of them by a power of 10.\n\
-             Both change the instance, so say so in a COMMENT. The script scale.py does it: --decimals 9, or --by 1000.",
+            "Round the coordinates to 9 decimals, or multiply all of them by a power of 10.\n\
+             The script scale.py does either: --decimals 9, or --by 1000.\n\
+             This changes the instance, so say so in a COMMENT.",
         ),
         (LineFault::Number(NumberFault::NotWhole), Some(Field::EdgeWeightPart)) => Some(
             "Round the weights, or multiply all of them by a power of 10.\n\
-             Both change the instance, so say so in a COMMENT.",
+             This changes the instance, so say so in a COMMENT.",
         ),
         _ => None,
     }
@@ -131,7 +132,7 @@ fn cause_of_line(look: &Look, fault: LineFault) -> Option<&'static str> {
 fn cause_of_end(look: &Look, fault: EndFault) -> Option<&'static str> {
     match fault {
         EndFault::Missing(_) if look.has_small_letters => Some(
-            "A line has this keyword in small letters. Keywords are in capital letters.",
+            "A line has this keyword in small letters. Write it in capitals.",
         ),
         EndFault::Missing(_)
         | EndFault::Incomplete(_)

@@ -58,8 +58,8 @@ fn push_sections(
     certificate: &File,
 ) -> Result<(), AllocError> {
     let potentials = match certificate.node_potentials() {
-        Some(_) => ", and the potentials are those of nodes.",
-        None => ", and the potentials are those of rows and columns.",
+        Some(_) => ", but the potentials are for nodes.",
+        None => ", but the potentials are for rows and columns.",
     };
     push_line(
         text,
@@ -121,8 +121,8 @@ fn push_family(text: &mut Vec<u8>, index: u32, certificate: &File) -> Result<(),
             text,
             &[
                 ("In family ", i64::from(index)),
-                (" set ", i64::from(set)),
-                (" has this node twice: ", i64::from(node)),
+                (", set ", i64::from(set)),
+                (" lists this node twice: ", i64::from(node)),
             ],
         );
     }
@@ -140,7 +140,7 @@ fn push_parts(
     say(
         text,
         &[
-            ("The number of sets of family ", i64::from(index)),
+            ("The number of sets in family ", i64::from(index)),
             (" is ", count),
         ],
     )?;
@@ -148,9 +148,9 @@ fn push_parts(
         return Ok(());
     }
     if have_all(sets, nodes) {
-        return push_lines(text, "Their nodes make one part.");
+        return push_lines(text, "Their nodes form a single part.");
     }
-    push_lines(text, "Their nodes make more than 14 parts.")
+    push_lines(text, "Their nodes form more than 14 parts.")
 }
 
 /// Whether each of these sets, in which no node is twice, has all nodes.

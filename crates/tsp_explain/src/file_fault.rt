@@ -336,11 +336,14 @@ fn push_rule(text: &mut Vec<u8>, fault: ReadFault, field: Option<Field>) -> Resu
             }
         }
         ReadFault::End(fault) => push_end_rule(text, fault),
-        ReadFault::OutOfMemory => push_lines(text, "There is no memory for what the file holds."),
-        ReadFault::Device => push_lines(text, "The file can't be opened, or a read of it failed."),
+        ReadFault::OutOfMemory => push_lines(
+            text,
+            "There isn't enough memory for the file's contents.",
+        ),
+        ReadFault::Device => push_lines(text, "The file can't be opened, or a read failed."),
         ReadFault::TooLong => push_lines(
             text,
-            "Only the first 1,073,741,824 bytes of a file count. They have no fault and no line EOF.",
+            "Only the first 1,073,741,824 bytes count. They have neither a fault nor a line EOF.",
         ),
     }
 }
@@ -421,11 +424,11 @@ fn layouts_with(weights: i64, nodes: i64) -> Option<&'static str> {
     let all = nodes.saturating_mul(nodes);
     let twice = weights.saturating_mul(2);
     if weights == all {
-        Some("FULL_MATRIX has as many.")
+        Some("FULL_MATRIX lists this many.")
     } else if twice == all.saturating_sub(nodes) {
-        Some("UPPER_ROW, LOWER_ROW, UPPER_COL and LOWER_COL have as many.")
+        Some("UPPER_ROW, LOWER_ROW, UPPER_COL and LOWER_COL list this many.")
     } else if twice == all.saturating_add(nodes) {
-        Some("UPPER_DIAG_ROW, LOWER_DIAG_ROW, UPPER_DIAG_COL and LOWER_DIAG_COL have as many.")
+        Some("UPPER_DIAG_ROW, LOWER_DIAG_ROW, UPPER_DIAG_COL and LOWER_DIAG_COL list this many.")
     } else {
         None
     }
@@ -449,7 +452,7 @@ fn push_groups(
         &[
             LinePart::Words("The section has "),
             LinePart::Number(count_of(groups)),
-            LinePart::Words(" whole groups, and DIMENSION is "),
+            LinePart::Words(" complete groups, but DIMENSION is "),
             LinePart::Number(nodes),
             LinePart::Words("."),
         ],

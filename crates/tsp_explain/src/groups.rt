@@ -119,7 +119,7 @@ pub(crate) fn push_uneven(
             LinePart::Words(field.word()),
             LinePart::Words(" has "),
             LinePart::Number(i64::try_from(shift.size).unwrap_or(i64::MAX)),
-            LinePart::Words(" words, and line "),
+            LinePart::Words(" words, but line "),
             LinePart::Number(i64::from(shift.line)),
             LinePart::Words(" has "),
             LinePart::Number(i64::from(shift.words)),

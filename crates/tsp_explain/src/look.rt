@@ -10,7 +10,7 @@ use arrayvec::ArrayVec;
 use std::io;
 use std::io::Read;
 use tsp_format::{
-    Field, Keyword, MOST_FILE_BYTES, MOST_NODES, Word, is_blank, is_keyword_byte, is_letter,
+    Field, Keyword, Kind, MOST_FILE_BYTES, MOST_NODES, Word, is_blank, is_keyword_byte, is_letter,
     is_spatial, value_of,
 };
 use tsp_number::parse_whole;
@@ -69,6 +69,8 @@ pub(crate) struct Look {
     pub(crate) has_count: bool,
     /// The value of DIMENSION, if such a line was seen.
     pub(crate) dimension: Option<i64>,
+    /// The value of TYPE, if such a line was seen.
+    pub(crate) kind: Option<Kind>,
     /// Whether a line says that each node has three coordinates.
     pub(crate) is_spatial: bool,
     /// How many words the sought section has.
@@ -137,6 +139,7 @@ impl Look {
             has_arrow: false,
             has_count: false,
             dimension: None,
+            kind: None,
             is_spatial: false,
             words: 0,
             has_small_letters: false,
@@ -229,8 +232,8 @@ impl Look {
         }
     }
 
-    /// Takes the line's keyword, and its value if that is the number of nodes, or the number of
-    /// coordinates of a node.
+    /// Takes the line's keyword, and its value if that is the TYPE, the number of nodes, or the
+    /// number of coordinates of a node.
     fn take_keyword(&mut self) {
         let (keyword, rest) = first_run(self.line.front.as_slice());
         self.open = self.field;
@@ -241,8 +244,12 @@ impl Look {
                 self.groups = groups_in(self.sought, field, self.is_spatial).unwrap_or(self.groups);
                 let (value, _) = first_run(after_colon(rest));
                 self.is_spatial = self.is_spatial || says_space(field, value);
-                if field == Field::DimensionKey {
-                    self.dimension = parse_whole(value, 1, i64::from(MOST_NODES)).ok();
+                match field {
+                    Field::TypeKey => self.kind = value_of(value),
+                    Field::DimensionKey => {
+                        self.dimension = parse_whole(value, 1, i64::from(MOST_NODES)).ok();
+                    }
+                    _ => {}
                 }
             }
             Keyword::EdgeDataFormat | Keyword::EdgeDataSection => self.field = None,

@@ -91,7 +91,7 @@ fn push_of_instance(
     let file = instance.file();
     match reason {
         Reason::TooFewNodes => say(text, &[("DIMENSION is ", nodes_of(file))]),
-        Reason::DepotCount => say(text, &[("The number of depots in it is ", depots_in(file))]),
+        Reason::DepotCount => say(text, &[("The number of depots is ", depots_in(file))]),
         Reason::NotSymmetric { i, j } => {
             push_cost(text, instance, i, j)?;
             push_cost(text, instance, j, i)
@@ -112,10 +112,7 @@ fn push_of_solution(
     match reason {
         Reason::NotASolution => push_type(text, solution),
         Reason::Dimension => push_dimensions(text, instance, "solution ", solution),
-        Reason::TourCount => say(
-            text,
-            &[("The number of tours in it is ", tours_in(solution))],
-        ),
+        Reason::TourCount => say(text, &[("The number of tours is ", tours_in(solution))]),
         Reason::TourLength => push_lengths(text, instance, solution),
         Reason::NodeOutOfRange { place } => push_node(text, place, instance, solution),
         Reason::RepeatedNode { place } => {
@@ -132,7 +129,7 @@ fn push_of_solution(
 
 /// Appends a node that is in no route, and which customer it was if the solution was converted.
 fn push_unserved(text: &mut Vec<u8>, node: u32, solution: &File) -> Result<(), AllocError> {
-    say(text, &[("No route has node ", i64::from(node))])?;
+    say(text, &[("No route contains node ", i64::from(node))])?;
     push_customer(text, node, solution)
 }
 
@@ -144,7 +141,7 @@ fn push_customer(text: &mut Vec<u8>, node: u32, solution: &File) -> Result<(), A
     say(
         text,
         &[(
-            "In the other program's file it is customer ",
+            "In the original file, this is customer ",
             i64::from(node).saturating_sub(1),
         )],
     )
@@ -234,7 +231,7 @@ pub(crate) fn push_dimensions(
         &[
             LinePart::Words("In the instance it is "),
             LinePart::Number(nodes_of(instance)),
-            LinePart::Words(", and in the "),
+            LinePart::Words(", but in the "),
             LinePart::Words(role),
             LinePart::Number(nodes_of(other)),
             LinePart::Words("."),
@@ -252,7 +249,7 @@ fn push_lengths(text: &mut Vec<u8>, instance: &File, solution: &File) -> Result<
         text,
         &[
             ("The tour has ", count_of(tour.len())),
-            (" nodes, and DIMENSION is ", nodes_of(instance)),
+            (" nodes, but DIMENSION is ", nodes_of(instance)),
         ],
     )?;
     push_of_length(text, tour, instance, solution)
@@ -272,7 +269,7 @@ fn push_of_length(
     if is_closed(tour, nodes) {
         return push_lines(
             text,
-            "Its first node is at its end again: leave it out there.",
+            "The first node is repeated at the end: leave it out there.",
         );
     }
     match first_repeated(tour) {
@@ -333,14 +330,17 @@ fn push_depot(
     };
     say(
         text,
-        &[("Place ", i64::from(place)), (" is node ", i64::from(node))],
+        &[
+            ("Place ", i64::from(place)),
+            (" has node ", i64::from(node)),
+        ],
     )?;
     let last = instance.dimension().unwrap_or(0);
     if node == 1 && first_place_of(tours, last).is_none() {
         push_of_node(
             text,
             node,
-            " is the depot. CVRPLIB counts customers from 1 without the depot: add 1 to each.",
+            " is the depot. CVRPLIB counts only the customers, from 1: add 1 to each.",
         )
     } else {
         push_of_node(text, node, " is the depot.")
@@ -361,8 +361,8 @@ fn push_node(
         text,
         &[
             ("Place ", i64::from(place)),
-            (" is node ", i64::from(node)),
-            (", and DIMENSION is ", nodes_of(instance)),
+            (" has node ", i64::from(node)),
+            (", but DIMENSION is ", nodes_of(instance)),
         ],
     )?;
     push_customer(text, node, solution)
@@ -381,7 +381,7 @@ fn push_repeated(text: &mut Vec<u8>, place: u32, solution: &File) -> Result<(), 
         text,
         &[
             ("Place ", i64::from(place)),
-            (" is node ", i64::from(node)),
+            (" has node ", i64::from(node)),
             (", which is also at place ", first),
         ],
     )?;
@@ -419,9 +419,9 @@ fn push_load(
         Some(load) => say(
             text,
             &[
-                ("The demands of route ", i64::from(route)),
-                (" sum to ", load),
-                (", and CAPACITY is ", capacity),
+                ("The demands in route ", i64::from(route)),
+                (" add up to ", load),
+                (", but CAPACITY is ", capacity),
             ],
         ),
     }

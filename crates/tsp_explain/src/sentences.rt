@@ -14,41 +14,42 @@ use tsp_text::LineFault;
 pub(crate) fn line_sentence(fault: LineFault) -> &'static str {
     match fault {
         LineFault::LongLine => {
-            "A line of words has at most 4,096 bytes, from its first that isn't blank to its end."
+            "A line that begins with a letter may have at most 4,096 bytes from there on."
         }
         LineFault::UnknownLine => {
             "The line begins with a word that is no keyword of TSPLIB 95, and no colon follows that word.\n\
-             With a colon the line would be kept, and not judged."
+             With a colon, the line would be kept, but not judged."
         }
         LineFault::Repeated => {
-            "An earlier line has this keyword or section. Only COMMENT may be in several lines."
+            "An earlier line has this keyword or section, which may not be repeated."
         }
-        LineFault::Outside => "This is a word of TSPLIB 95 that tsp doesn't read.",
+        LineFault::Outside => "This is part of TSPLIB 95, but tsp doesn't read it.",
         LineFault::BadValue => {
-            "The keyword has no value here, one that it doesn't take, or one of too many bytes."
+            "The value is missing, isn't one that this keyword takes, or is too long."
         }
         LineFault::SectionValue => {
-            "The line of a section has no value. What belongs to the section begins in the next line."
+            "The line that opens a section takes no value. Move the rest to the next line."
         }
         LineFault::SectionEarly => {
-            "The section needs a line DIMENSION before it, and there is none. Only TOUR_SECTION may come before DIMENSION."
+            "DIMENSION has to come before this section. Only TOUR_SECTION may come first."
         }
         LineFault::TooManyNodes => {
-            "A matrix of weights is read for at most 5,000 nodes, and DIMENSION is more."
+            "A matrix of weights may have at most 5,000 nodes, but DIMENSION is larger."
         }
-        LineFault::StrayNumber => "There is a number where no section is open.",
+        LineFault::StrayNumber => "This number is outside any section.",
         LineFault::Number(fault) => number_sentence(fault),
         LineFault::RepeatedNode => {
-            "An earlier group of the section has this node. Each node from 1 to DIMENSION has one group."
+            "An earlier group in this section has the same node. Each node from 1 to DIMENSION\n\
+             has one group."
         }
-        LineFault::SelfEdge => "Both nodes of this pair are the same one.",
-        LineFault::Surplus => "This is more than the file can have.",
+        LineFault::SelfEdge => "Both nodes of this pair are the same.",
+        LineFault::Surplus => "This is more than a file may contain.",
         LineFault::AfterEnd => {
-            "The list was ended by -1 before this word. After that only words -1 may come."
+            "A -1 before this word ended the list. Only further -1s may follow."
         }
         LineFault::LateSpace => {
-            "The line says that each node has three coordinates, after a NODE_COORD_SECTION with two of each.\n\
-             It has to come before that section."
+            "The line says that nodes have three coordinates, but NODE_COORD_SECTION above it\n\
+             has two for each. Move the line before that section."
         }
     }
 }
@@ -58,13 +59,13 @@ pub(crate) fn number_sentence(fault: NumberFault) -> &'static str {
     match fault {
         NumberFault::LongWord => "A number has at most 64 bytes.",
         NumberFault::BadNumber => {
-            "This isn't a number. A number is an optional sign, digits with at most one point,\n\
+            "This isn't a number. A number has an optional sign, digits with at most one point,\n\
              and optionally e or E with a whole exponent."
         }
         NumberFault::TooFine => {
-            "The number is too fine: it has more than 9 decimals that count."
+            "The number has more than 9 decimals, not counting zeros at its end."
         }
-        NumberFault::OutOfRange => "The number is out of its range.",
+        NumberFault::OutOfRange => "The number is out of range.",
         NumberFault::NotWhole => "A whole number is required here. 12.0 and 1.2e1 are whole too.",
     }
 }
@@ -72,16 +73,18 @@ pub(crate) fn number_sentence(fault: NumberFault) -> &'static str {
 /// What is wrong with the lines of a file together.
 pub(crate) fn end_sentence(fault: EndFault) -> &'static str {
     match fault {
-        EndFault::Missing(_) => "A line or a section is missing that the file has to have.",
-        EndFault::Incomplete(_) => "A section ends before it is whole.",
+        EndFault::Missing(_) => "A required line or section is missing.",
+        EndFault::Incomplete(_) => "A section ends before it is complete.",
         EndFault::WrongFormat => {
-            "EDGE_WEIGHT_FORMAT is FUNCTION, and the weights are EXPLICIT or listed: tsp reads listed weights alone.\n\
-             In a file of TYPE POTENTIALS: NODE_POTENTIAL_SECTION or FIXED_EDGE_POTENTIAL_SECTION, which are for a TSP,\n\
-             is in the same file as ROW_POTENTIAL_SECTION or COLUMN_POTENTIAL_SECTION, which are for an ATSP."
+            "EDGE_WEIGHT_FORMAT is FUNCTION, but the weights are EXPLICIT or listed. Name the\n\
+             layout of the list instead. Or a file of TYPE POTENTIALS mixes sections for a TSP\n\
+             (NODE_POTENTIAL_SECTION, FIXED_EDGE_POTENTIAL_SECTION) with sections for an ATSP\n\
+             (ROW_POTENTIAL_SECTION, COLUMN_POTENTIAL_SECTION)."
         }
         EndFault::WrongCount => {
-            "The number of weights isn't that of the layout. With n nodes FULL_MATRIX lists n * n,\n\
-             UPPER_ROW, LOWER_ROW, UPPER_COL and LOWER_COL list n * (n - 1) / 2, and those with DIAG n * (n + 1) / 2."
+            "The layout needs another number of weights. For n nodes, FULL_MATRIX lists n * n,\n\
+             UPPER_ROW, LOWER_ROW, UPPER_COL and LOWER_COL list n * (n - 1) / 2,\n\
+             and those with DIAG list n * (n + 1) / 2."
         }
     }
 }
@@ -92,17 +95,18 @@ pub fn relayout_sentence(fault: RelayoutFault) -> &'static str
 {
     match fault {
         RelayoutFault::NotExplicit => {
-            "Only weights that are listed can go into a layout: EDGE_WEIGHT_TYPE : EXPLICIT."
+            "Only listed weights have a layout: EDGE_WEIGHT_TYPE has to be EXPLICIT."
         }
         RelayoutFault::NotSymmetric { i: _, j: _ } => {
-            "The layout lists half of a matrix, and these two nodes have another weight each way.\n\
-             FULL_MATRIX can hold both."
+            "The layout lists half of a matrix, but these two nodes have two weights, one for\n\
+             each direction. FULL_MATRIX can hold both."
         }
         RelayoutFault::DiagonalLost { i: _ } => {
-            "The layout lists no diagonal, and the weight from this node to itself isn't 0.\n\
+            "The layout has no diagonal, but the weight from this node to itself isn't 0.\n\
              FULL_MATRIX and the layouts with DIAG can hold it."
         }
-        RelayoutFault::OutOfMemory => "There is no memory for the weights in the new layout.",
+        RelayoutFault::OutOfMemory =>
+            "There isn't enough memory for the weights in the new layout.",
     }
 }
 
@@ -112,9 +116,9 @@ pub fn write_sentence(fault: WriteFault) -> &'static str
 {
     match fault {
         WriteFault::Device => {
-            "Standard output can't be written. It has a prefix of the text, or nothing."
+            "Writing to standard output failed. It holds the beginning of the text, or nothing."
         }
-        WriteFault::OutOfMemory => "There is no memory for the text.",
+        WriteFault::OutOfMemory => "There isn't enough memory for the text.",
     }
 }
 
@@ -146,10 +150,13 @@ pub(crate) fn reason_sentence(reason: Reason) -> &'static str {
         Reason::NotBranches => NOT_BRANCHES,
         Reason::BranchesDimension => BRANCHES_DIMENSION,
         Reason::BadFamily { .. } => BAD_FAMILY,
+        Reason::BadMemory { .. } => BAD_MEMORY,
+        Reason::BadRow { .. } => BAD_ROW,
         Reason::BadBranch { .. } => BAD_BRANCH,
         Reason::BranchTwice { .. } => BRANCH_TWICE,
         Reason::BadLeaf { .. } => BAD_LEAF,
         Reason::TooManyLoads => TOO_MANY_LOADS,
+        Reason::TooManyStates { .. } => TOO_MANY_STATES,
         Reason::NotJudged => NOT_JUDGED,
         Reason::NotUsed { .. } => NOT_USED,
     }
@@ -158,96 +165,116 @@ pub(crate) fn reason_sentence(reason: Reason) -> &'static str {
 const NOT_A_SOLUTION: &str = "The second file has to be of TYPE TOUR.";
 
 const TOO_FEW_NODES: &str =
-    "A tour has at least 3 nodes, and routes have a depot and at least 1 customer.";
+    "A tour needs at least 3 nodes, and routes need a depot and at least 1 customer.";
 
-const NOT_SYMMETRIC: &str =
-    "In a TSP the cost between two nodes is the same in both directions. Where it isn't, TYPE is ATSP.";
+const NOT_SYMMETRIC: &str = "In a TSP, the cost between two nodes is the same in both directions.\n\
+    If it isn't, the TYPE should be ATSP.";
 
-const DIMENSION: &str = "DIMENSION of the solution isn't that of the instance.\n\
-    LKH-3 lists copies of the depot in a tour of a CVRP: the recipe lkh-routes.awk makes routes of it.";
+const DIMENSION: &str =
+    "The solution's DIMENSION isn't the instance's. In LKH-3's tour for a CVRP, the additional\n\
+    nodes are copies of the depot: the recipe lkh-routes.awk turns such a tour into routes.";
 
-const TOUR_COUNT: &str = "The second file has to hold exactly one tour, which -1 ends.";
+const TOUR_COUNT: &str = "The second file has to contain exactly one tour, with -1 at its end.";
 
 const TOUR_LENGTH: &str = "A tour lists each node of the instance once.";
 
-const NODE_OUT_OF_RANGE: &str = "The nodes of the instance are 1 to DIMENSION.";
+const NODE_OUT_OF_RANGE: &str = "The instance's nodes are 1 to DIMENSION.";
 
-const REPEATED_NODE: &str = "Each node is in a tour, or in the routes, once.";
+const REPEATED_NODE: &str =
+    "A tour contains each node once, and routes contain each customer once.";
 
 const FIXED_EDGE_UNUSED: &str =
-    "The tour has to use every pair of FIXED_EDGES_SECTION: as neighbours,\n\
-    under TYPE ATSP from the pair's first node to its second.";
+    "The two nodes of each pair in FIXED_EDGES_SECTION have to be neighbours in the tour.\n\
+    For an ATSP, the second has to come directly after the first.";
 
 const NOT_POTENTIALS: &str = "The certificate has to be of TYPE POTENTIALS.";
 
-const POTENTIALS_DIMENSION: &str = "DIMENSION of the potentials isn't that of the instance.";
+const POTENTIALS_DIMENSION: &str = "The potentials' DIMENSION isn't the instance's.";
 
-const POTENTIALS_KIND: &str =
-    "A TSP wants a NODE_POTENTIAL_SECTION, an ATSP a ROW_POTENTIAL_SECTION and a COLUMN_POTENTIAL_SECTION.";
+const POTENTIALS_KIND: &str = "A TSP needs a NODE_POTENTIAL_SECTION.\n\
+    An ATSP needs a ROW_POTENTIAL_SECTION and a COLUMN_POTENTIAL_SECTION.";
 
 const MULTIPLIER_NOT_FIXED: &str =
-    "A multiplier of FIXED_EDGE_POTENTIAL_SECTION is on a pair of FIXED_EDGES_SECTION of the instance, in either direction.\n\
-    Other pairs need not be in a tour, so a multiplier on one bounds nothing.";
+    "A multiplier has to be on a pair of the instance's FIXED_EDGES_SECTION, in either direction.\n\
+    A tour needn't use any other pair, so a multiplier on one bounds nothing.";
 
 const MULTIPLIER_REPEATED: &str =
-    "FIXED_EDGE_POTENTIAL_SECTION has at most one multiplier for each pair, whichever node comes first.";
+    "FIXED_EDGE_POTENTIAL_SECTION may list each pair only once, whichever node comes first.";
 
 const DUAL_INFEASIBLE: &str =
-    "The potentials of a row and a column may sum to at most SCALE times the cost from the one node to the other.\n\
-    Here they sum to more, so they bound nothing.";
+    "The potentials of a row and a column may add up to at most SCALE times the cost from the\n\
+    row's node to the column's. Here they add up to more, so they bound nothing.";
 
-const DEPOT_COUNT: &str = "DEPOT_SECTION of the instance has to list exactly one depot.";
+const DEPOT_COUNT: &str = "The instance's DEPOT_SECTION has to list exactly one depot.";
 
 const DEPOT_DEMAND: &str = "The depot's demand has to be 0.";
 
-const FIXED_EDGES_IN_ROUTES: &str = "Routes aren't judged where the instance lists a fixed edge.";
+const FIXED_EDGES_IN_ROUTES: &str = "If an instance lists fixed edges, its routes aren't judged.";
 
 const DEPOT_IN_ROUTE: &str =
-    "A route lists its customers alone: it begins and ends at the depot, which isn't listed.";
+    "A route lists only its customers. It begins and ends at the depot, which isn't listed.";
 
-const UNSERVED: &str = "Every node but the depot is in a route.";
+const UNSERVED: &str = "Every node except the depot has to be in a route.";
 
-const OVERLOAD: &str = "The demands of a route sum to at most CAPACITY.";
+const OVERLOAD: &str = "The demands in a route may add up to at most CAPACITY.";
 
 const LENGTH_CLAIMED: &str =
-    "No other reason applies to the solution, but its length isn't the one that --length claims.";
+    "The solution is valid, but its length isn't the one that --length claims.";
 
 const NOT_BRANCHES: &str = "The certificate has to be of TYPE BRANCHES.";
 
-const BRANCHES_DIMENSION: &str = "DIMENSION of the tree of cases isn't that of the instance.";
+const BRANCHES_DIMENSION: &str = "The DIMENSION of the tree of cases isn't the instance's.";
 
 const BAD_FAMILY: &str =
-    "This family of COMB_SECTION isn't taken. No set may have a node twice. A family is a lone set, which leaves a node out;\n\
-    or a comb: a handle and an odd number of teeth, 3 or more, which don't meet,\n\
-    each with a node inside the handle and one outside; or any other sets, at most 63, whose nodes make 2 to 14 parts.\n\
-    Two nodes are in one part if they are in the same sets. The nodes in no set are a part too.\n\
-    For a CVRP each family is one set of customers.";
+    "This family of COMB_SECTION isn't allowed. No set may list a node twice. A family is a lone\n\
+    set, which doesn't contain all nodes; or a comb, which is a handle and an odd number of\n\
+    disjoint teeth, 3 or more, each with a node inside the handle and one outside;\n\
+    or up to 63 other sets, whose nodes form 2 to 14 parts.\n\
+    Two nodes are in the same part if they are in the same sets. The nodes in no set are a part\n\
+    too. For a CVRP, each family is one set of customers.";
+
+const BAD_MEMORY: &str =
+    "This node's list of MEMORY_SECTION isn't allowed. Only a certificate for a CVRP may have lists.\n\
+    A list consists of different customers, and each customer begins at most one list. The\n\
+    customers that a customer remembers and the rows that it keeps are at most 64 together.";
+
+const BAD_ROW: &str =
+    "This row of SUBSET_ROW_SECTION isn't allowed. Only a certificate for a CVRP may have rows. A row\n\
+    consists of different customers, at least two of them in its set.";
 
 const BAD_BRANCH: &str =
-    "A branch of BRANCH_SECTION is on a pair of nodes for a TSP or an ATSP. For a CVRP it is on a family of COMB_SECTION:\n\
-    its first number is DIMENSION plus the number of the family.";
+    "For a TSP or an ATSP, a branch is on a pair of nodes. For a CVRP, it is on a family of\n\
+    COMB_SECTION: its first number is DIMENSION plus the number of the family.";
 
 const BRANCH_TWICE: &str =
-    "This branch of BRANCH_SECTION is on a pair that a branch above it decides, or that is a fixed edge of the instance,\n\
-    whichever node comes first. For an ATSP it is the arc from the first node to the second one.";
+    "This branch is on a pair that a branch above it has already decided, or that is a fixed edge\n\
+    of the instance, whichever node comes first. For an ATSP, a pair is the arc from its first\n\
+    node to its second.";
 
 const BAD_LEAF: &str =
-    "This leaf of BRANCH_SECTION has a number that isn't taken. Indices are 1 to DIMENSION for the potentials of nodes,\n\
-    and go on from there for the multipliers of families, in the order of COMB_SECTION.\n\
-    A potential is at most 1,000,000,000,000,000 in size; multipliers aren't below 0,\n\
-    and sum to at most 300,000,000,000,000,000, where there are lone sets and combs alone. In general the sum of each\n\
-    times 3, or for other sets times the most of them that two nodes cross, is at most 900,000,000,000,000,000.\n\
-    For a CVRP multipliers may be below 0, and their sizes sum to at most 300,000,000,000,000,000.\n\
-    Numbers are written as their differences to those of the leaf before.";
+    "This leaf of BRANCH_SECTION has an index or a number that isn't allowed. The indices 1 to\n\
+    DIMENSION stand for the potentials of the nodes, and the next ones for the multipliers of the\n\
+    families, in the order of COMB_SECTION. A potential is at most 1,000,000,000,000,000 in\n\
+    absolute value. Multipliers aren't below 0, and sum to at most 300,000,000,000,000,000 if all\n\
+    families are lone sets or combs. For another family, a multiplier counts c / 3 times in this\n\
+    sum, where c is the largest number of the family's sets that two nodes cross.\n\
+    For a CVRP, multipliers may be below 0, and their absolute values sum to at most\n\
+    300,000,000,000,000,000 along with the charges of subset rows, which may not be below 0. Subset\n\
+    row r has the index DIMENSION + 10,000 + r. The file lists the differences from the leaf before.";
 
 const TOO_MANY_LOADS: &str =
-    "DIMENSION times one more than the capacity, counted in loads, is more than 10,000,000.\n\
-    A larger LOAD_UNIT makes fewer loads. The bound may be lower then.";
+    "DIMENSION * (load limit + 1) exceeds 10,000,000. A larger LOAD_UNIT lowers the load limit,\n\
+    which is CAPACITY / LOAD_UNIT, but may also lower the bound.";
+
+const TOO_MANY_STATES: &str =
+    "This leaf of BRANCH_SECTION keeps more than 10,000,000 states. Shorter lists, fewer subset rows\n\
+    or a larger LOAD_UNIT reduce them, but may also lower the bound.";
 
 const NOT_JUDGED: &str =
-    "No other reason applies, but a line of the instance has a keyword that tsp doesn't know, and --strict rejects that.\n\
-    What the line asks for is not judged: a yes would not mean that the solution keeps to it.";
+    "No other reason applies, but the instance has a keyword that tsp doesn't know, and --strict\n\
+    rejects that. A yes wouldn't mean that the solution does what the line asks for.";
 
 const NOT_USED: &str =
-    "No other reason applies, but the instance has a field that its TYPE or its EDGE_WEIGHT_TYPE doesn't use,\n\
-    and --strict rejects that. Is TYPE right? If it is, remove the field: the verdict doesn't depend on it.";
+    "No other reason applies, but the instance has a field that its TYPE or its EDGE_WEIGHT_TYPE\n\
+    doesn't use, and --strict rejects that. Is the TYPE right? If so, remove the field:\n\
+    the verdict doesn't depend on it.";

@@ -4,12 +4,14 @@
 ghost use Rattle.std.specs.Io.{StartsWith};
 ghost use Rattle.std.specs.Prelude.{◌≡◌};
 
+use crate::look::{Sought, look_for};
 use crate::refusal::{explain_reason, push_details};
-use crate::text::{LinePart, append, push, push_lines, push_name, push_parts};
+use crate::text::{LinePart, append, push, push_line, push_lines, push_name, push_parts};
 use std::alloc::{AllocError, Global};
+use std::io::Read;
 use tsp_cost::{Costs, Instance};
 use tsp_file::{Coords, File};
-use tsp_format::Kind;
+use tsp_format::{Kind, Word};
 use tsp_number::{NumberFault, parse_whole};
 use tsp_report::{BoundVerdict, Reason, Role, Verdict, blamed};
 
@@ -32,17 +34,18 @@ pub struct Files<'a> {
 
 /// What the first file of a check is.
 const KINDS: &str =
-    "The first file of a check is of TYPE TSP, ATSP or CVRP, with --potentials of TYPE TSP or ATSP.\n\
-    The second file is the solution, of TYPE TOUR.";
+    "The first file of a check has to be of TYPE TSP, ATSP or CVRP (with --potentials, TSP or\n\
+    ATSP). The second file is the solution, of TYPE TOUR.";
 
 /// What the first file of a bound is.
 const BOUND_KINDS: &str =
-    "The first file of a bound is of TYPE TSP or ATSP, or with --branches of TYPE CVRP.\n\
-    The certificate is the file of the option.";
+    "The first file of a bound has to be of TYPE TSP or ATSP (with --branches, also CVRP).\n\
+    The certificate is the file that the option names.";
 
 /// What it means that a certificate gives no bound.
 const WITHOUT_TOURS: &str =
-    "The instance has no tour: at each leaf of the tree its decisions and the fixed arcs leave some node no arc.";
+    "The instance has no tour: at each leaf of the tree, the decisions and the fixed arcs leave\n\
+    some node without an arc.";
 
 /// What it means that a certificate gives routes no bound.
 const NO_ROUTES: &str = "The instance has no routes: no customer's load fits into a vehicle.";
@@ -121,22 +124,28 @@ pub fn explain_bound(
 }
 
 /// Appends what explains that files aren't judged, or don't bound tours, because of the TYPE of the
-/// first one. `name` is what the user calls that file.
+/// first one. `name` is what the user calls that file, and `again` is the file opened once more, if
+/// it can be.
 ///
 /// # Errors
 ///
 /// Out of memory; part of the explanation may be appended then.
-pub fn explain_wrong_kind(
+pub fn explain_wrong_kind<R: Read + Drop>(
     alloc: Global,
     text: &mut Vec<u8>,
     name: &str,
     is_bound: bool,
+    again: Option<R>,
 ) -> Result<(), AllocError>
     ensures { StartsWith text.new.items text.old.items }
 {
+    let kind = match again {
+        None => None,
+        Some(mut reader) => kind_in(&mut reader),
+    };
     let mut explanation = Vec::new(alloc);
     let kinds = if is_bound { BOUND_KINDS } else { KINDS };
-    let answer = push_wrong_kind(&mut explanation, name, kinds);
+    let answer = push_wrong_kind(&mut explanation, name, kind, kinds);
     append(text, explanation, answer)
 }
 
@@ -148,13 +157,47 @@ fn none_of(kind: Kind) -> &'static str {
     }
 }
 
-/// Appends that a file is of the wrong kind, and what the files are.
-fn push_wrong_kind(text: &mut Vec<u8>, name: &str, kinds: &str) -> Result<(), AllocError> {
+/// Appends that a file is of the wrong kind, its TYPE if that was seen, and what the files are.
+fn push_wrong_kind(
+    text: &mut Vec<u8>,
+    name: &str,
+    kind: Option<Kind>,
+    kinds: &str,
+) -> Result<(), AllocError> {
     push_parts(
         text,
         &[LinePart::Name(name), LinePart::Words(": wrong kind\n")],
     )?;
+    if let Some(kind) = kind {
+        push_kind(text, kind)?;
+    }
     push_lines(text, kinds)
+}
+
+/// Appends the TYPE of the first file, and asks about the order of the files if it isn't that of an
+/// instance.
+fn push_kind(text: &mut Vec<u8>, kind: Kind) -> Result<(), AllocError> {
+    let question = match kind {
+        Kind::Tsp | Kind::Atsp | Kind::Cvrp => "",
+        Kind::Tour | Kind::Potentials | Kind::Branches => " Did you swap the two files?",
+    };
+    push_line(
+        text,
+        &[
+            LinePart::Words("It is of TYPE "),
+            LinePart::Words(kind.word()),
+            LinePart::Words("."),
+            LinePart::Words(question),
+        ],
+    )
+}
+
+/// The TYPE that a file has, or `None` if it isn't seen.
+fn kind_in<R: Read>(reader: &mut R) -> Option<Kind> {
+    match look_for(reader, Sought::Nothing) {
+        Ok(seen) => seen.kind,
+        Err(_) => None,
+    }
 }
 
 /// Appends the reason why a solution is rejected, and what the files show of it.
@@ -184,8 +227,8 @@ fn push_no(
 
 /// What it means that distances are rounded, and what helps.
 const ROUNDED: &str =
-    ": every distance along the solution is 0 or 1, since TSPLIB rounds distances to whole numbers; \
-    multiply the coordinates by a power of ten, and say so where the length is published.\n";
+    ": every distance along the solution is 0 or 1, because TSPLIB rounds distances to whole numbers; \
+    multiply the coordinates by a power of ten, and say so when you publish the length.\n";
 
 /// Appends that distances are rounded, if each one along the solution is 0 or 1 and some points
 /// of it differ. `name` is what the user calls the instance.
@@ -326,7 +369,7 @@ fn push_sentence(
             LinePart::Name(name),
             LinePart::Words(": a COMMENT claims the length "),
             LinePart::Number(claim),
-            LinePart::Words(", and the length is "),
+            LinePart::Words(", but the length is "),
             LinePart::Number(length),
             LinePart::Words(".\n"),
         ],
@@ -342,7 +385,7 @@ fn push_real<'a>(text: &mut Vec<u8>, name: &'a str, claim: &'a [u8]) -> Result<(
             LinePart::Words(": a COMMENT claims the length "),
             LinePart::Shown(claim),
             LinePart::Words(
-                ". Lengths of TSPLIB are whole, and one in real numbers can't be compared with them.\n",
+                ". TSPLIB's lengths are whole, so a real one can't be compared with them.\n",
             ),
         ],
     )

@@ -1,4 +1,5 @@
--- The files of lemmas of this crate. Crates above may import those that are public.
+-- Lemmas on the fields of a file, on matrices that change their layout, and on the text that is written. What a crate
+-- above needs of them is public.
 mod Prelude
 pub mod ValidFields
 pub mod SeenLists

@@ -1,4 +1,4 @@
--- Lines, digits, blocks and matrices as they are written, part by part.
+-- Lines, digits, blocks and matrices as they are written, part by part, for src/writer.rt and the files below it.
 use Rattle.tsp_file.proofs.Prelude.{◌≡◌, ℕ, ◌==◌, true, false, List, [], ◌∷◌, ◌++◌, length, map, sym, subst, append_assoc, arith, zero, suc, ◌+◌, ◌-◌, ◌*◌, ◌/◌, ◌%◌, ◌^◌, ◌<◌, ◌≤◌, drop, max, refl, ap, ◌∙◌, inl, inr, length-append, take, min, cases_lt, and_parts, leb-true, false≢true, drop-drop, drop_at, drop-append-le, take_min, drop_min, take-append-drop, drop_all, flat_map-map, sum_by-cons, signed_decimal, decimal, flat_map, range_with_len, list_all, sum_by, ℤ, ◌&&◌, not, nat_le, codes, carried_none, carried_then, carried_failed, Way, Carried, most_nodes, most_families, most_family_nodes, most_rows, most_branches, most_changes, most_difference, nodes_to, Step, SubsetRow, row_size, Branch, Leaf, are_whole, branch_count, change_count, field_word, Field}
 use Rattle.std.proofs.Math.Nat.{pow-suc}
 use Rattle.std.proofs.lemmas.Bool.Decides.{nat_tests}

@@ -1,5 +1,6 @@
--- The canonical text of a file: the texts of its fields in canonical order, then the line EOF. A field that is missing
--- has no text.
+-- The canonical text of a file, down to the last blank: the texts of its fields in canonical order, then the line EOF.
+-- It is what `tsp convert` writes, and the laws of tsp_read say that it parses back to the file. A field that is
+-- missing has no text.
 use Rattle.tsp_file.specs.Prelude.{ℕ, Bool, true, false, cond, List, [], take, drop, map, length, codes, Option, Some, None, ℤ, option_map_or, flat_map, enumerate_from, decimal, Point, WeightFormat, Listed, Field, NameKey, TypeKey, CommentKey, OtherKey, DimensionKey, EdgeWeightTypeKey, EdgeWeightFormatKey, NodeCoordTypeKey, DisplayDataTypeKey, shape_of, value_shape_of, field_word, kind_word, weight_kind_word, weight_format_word, coord_kind_word, display_kind_word, fields_in_order, nodes_to, cells_of_line, Step, SubsetRow, Branch, Leaf}
 use Rattle.std.specs.Prelude.{◌∷◌, ◌++◌}
 use Rattle.std.specs.Fmt.{signed_decimal}

@@ -1,5 +1,5 @@
--- Small files on which the definitions are evaluated: files that lack fields or have wrong ones, matrices in several
--- layouts, and a text with a field of each sort.
+-- Small files for src/examples.rt: some that lack fields or have wrong ones, matrices in several layouts, and texts
+-- with a field of each sort.
 use Rattle.tsp_file.specs.Prelude.{[], Some, pos, ℕ, List, ℤ, negsuc, codes, on_plane, SubsetRow, Branch, Leaf, Field, ByFunction, Listed, Explicit, Euc2d, Layout, FullMatrix, LowerDiagRow}
 use Rattle.std.specs.Prelude.{◌∷◌, ◌≡◌, ◌++◌}
 use Rattle.tsp_format.specs.declared.kinds.CoordKind.TheVariants as coord_kinds

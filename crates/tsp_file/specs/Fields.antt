@@ -1,5 +1,6 @@
 -- Circles 1 and 2 of docs/trust.md.
--- The fields of a file, as lists and numbers.
+-- `Fields`: all that a file says, as lists and numbers. Every definition of a verdict is about such a record, and a
+-- text means nothing else than the record that it parses to.
 use Rattle.tsp_file.specs.Prelude.{ℕ, Bool, true, List, [], Option, None, Some, unwrap_or, ℤ, pos, nat_abs, is_some, option_map, Point, Field, NameKey, TypeKey, CommentKey, OtherKey, DimensionKey, CapacityKey, ScaleKey, LoadUnitKey, EdgeWeightTypeKey, EdgeWeightFormatKey, NodeCoordTypeKey, DisplayDataTypeKey, NodeCoordPart, DisplayDataPart, DemandPart, DepotPart, FixedEdgesPart, EdgeWeightPart, TourPart, NodePotentialPart, RowPotentialPart, ColumnPotentialPart, FixedEdgePotentialPart, FamilyPart, MemoryPart, SubsetRowPart, BranchPart, is_spatial, WeightKind, WeightFormat, Step, SubsetRow}
 use Rattle.tsp_format.specs.declared.kinds.Kind.{Kind}
 use Rattle.tsp_format.specs.declared.kinds.CoordKind.{CoordKind}

@@ -1,4 +1,5 @@
--- The files of definitions of this crate. Crates above may import them.
+-- Definitions for a file as a record of fields: which are valid (Validity, Valid, Rules), which costs they mean (Cost,
+-- ByInequalities), and their text (CanonicalText).
 pub mod Prelude
 pub mod states
 pub mod Cost

@@ -1,4 +1,5 @@
--- The file after its weights are put into another layout, and the faults of such a change.
+-- What `tsp convert --layout` makes of a file: the same costs in another layout, or the first reason why the layout
+-- can't hold them. The words of such a reason, which are printed, come first.
 use Rattle.tsp_file.specs.Prelude.{ℕ, List, codes, decimal, Bool, false, map, Some, IsSome, IsTrue, Result, Ok, Err, ℤ, pos, IsNode, is_listed, cells, IsSymmetric, IsFirstAsymmetric, Listed, Explicit, Layout, FullMatrix}
 use Rattle.std.specs.Prelude.{◌++◌, ◌≡◌, ◌≢◌, ◌<◌, ◌⊎◌}
 use Rattle.tsp_file.specs.Cost.{cost}

@@ -1,4 +1,5 @@
--- What always holds of a valid file: its fields are in these ranges, and it has those that its TYPE asks for.
+-- What always holds of a valid file, as statements: its fields are in their ranges, and it has those that its TYPE asks
+-- for. src/laws.rt proves them from the tests in Validity.antt and Rules.antt.
 use Rattle.tsp_file.specs.Prelude.{ℕ, Bool, true, false, List, length, None, Some, IsSome, ℤ, pos, neg_ℤ, All, sum_by, Point, Layout, Listed, IsFromTo, Step, SubsetRow, row_size, Branch, Leaf, are_whole, branch_count, change_count, IsNode, cells, most_nodes, most_matrix_nodes, most_coordinate, most_weight, most_demand, most_capacity, most_scale, most_load_unit, most_potential, most_depots, most_fixed, most_triples, most_multiplier, most_tour_nodes, most_families, most_family_nodes, most_rows, most_branches, most_changes, most_difference}
 use Rattle.std.specs.Prelude.{◌≡◌, ◌≢◌, ◌+◌, ◌≤◌, ◌⊎◌}
 use Rattle.tsp_file.specs.Fields.{Fields, spatial}

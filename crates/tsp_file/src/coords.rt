@@ -1,5 +1,6 @@
-//! The points of a coordinate section: a list of points of the plane, which take 16 bytes each, or
-//! a list of points in space.
+//! The points of a coordinate section, in 16 bytes each if they lie in the plane and 24 in space.
+//! Contracts see a single list of points (`points_of` in `specs/states/Drafts.antt`), so the two
+//! forms only save memory.
 
 ghost use Rattle.std.specs.Prelude.{◌≡◌, length, slice_index_or, ◌<◌, SomeIff};
 ghost use Rattle.tsp_file.specs.states.Drafts.{points_of};
@@ -10,7 +11,7 @@ use tsp_number::{InSpace, PlanePoint, Point};
 /// A point for each node, in order.
 #[derive(Debug, Drop, PartialEq, Eq)]
 pub enum Coords {
-    /// Points of the plane: of each, the third coordinate is 0.
+    /// Points in the plane; the third coordinate of each is 0.
     Plane(Vec<PlanePoint>),
     /// Points in space.
     Space(Vec<Point>),

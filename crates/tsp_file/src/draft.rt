@@ -1,5 +1,7 @@
-//! The struct of all fields of a TSPLIB 95 file, which need not be valid. tsp_read fills it,
-//! `src/table.rt` and `src/rules.rt` judge it, and `File` of tsp_file holds a valid one.
+//! `Draft`, a file in the making: every field of a TSPLIB 95 file, whether valid or not. tsp_read
+//! fills it from a text, `table.rt` and `rules.rt` judge it, and one without a fault becomes a
+//! `File`. `Fields` in `specs/Fields.antt` is what contracts see of it, and a new field goes into
+//! both.
 
 use crate::coords::Coords;
 use std::alloc::Global;
@@ -58,7 +60,8 @@ pub struct Draft {
     pub fixed_potentials: Option<Vec<(u32, u32, i64)>>,
     /// COMB_SECTION: combs, each as its sets of nodes, the handle first.
     pub families: Option<Vec<Vec<Vec<u32>>>>,
-    /// MEMORY_SECTION: lists of nodes, none of them empty; the first of each list remembers the others.
+    /// MEMORY_SECTION: lists of nodes, none of them empty. The first node of each list remembers the
+    /// others.
     pub memories: Option<Vec<Vec<u32>>>,
     /// SUBSET_ROW_SECTION: rows, each with a set that isn't empty.
     pub subset_rows: Option<Vec<RowSets>>,
@@ -66,8 +69,8 @@ pub struct Draft {
     pub branches: Option<Vec<TreeStep>>,
 }
 
-/// As a derive would do it. A function that drops a draft calls this, and doesn't go through every
-/// field.
+/// Drops each field, as a derive would. Functions that drop a draft call this one function, so that
+/// they are proved faster.
 impl Drop for Draft {
     fn drop(self) {
         let Draft {
@@ -108,7 +111,7 @@ impl Draft {
     ghost use Rattle.tsp_file.specs.states.Drafts.{points_of, fields_of};
     ghost use Rattle.tsp_file.specs.Fields.{blank_fields, spatial, stands_in, one_number_in, with_one_number, numbers_in, with_numbers, points_in, with_points};
 
-    /// A draft with no field set: each is `None` or an empty list. No memory is taken.
+    /// A draft in which no field is set: each is `None` or an empty list. No memory is taken.
     pub fn new(alloc: Global) -> Draft
         ensures { fields_of result ≡ blank_fields }
     {
@@ -143,15 +146,14 @@ impl Draft {
         }
     }
 
-    /// Whether the nodes have three coordinates each: the coordinate kind or the weight kind says
-    /// so.
+    /// Whether the nodes have three coordinates each, by NODE_COORD_TYPE or EDGE_WEIGHT_TYPE.
     pub fn is_spatial(&self) -> bool
         ensures { result ≡ spatial (fields_of self.now) }
     {
         is_spatial(self.coord_kind, self.weight_kind)
     }
 
-    /// Whether a field is present. The lists of comments and of unknown keywords always are: they
+    /// Whether a field is present. The lists of comments and of unknown keywords always are, but
     /// may be empty.
     pub fn stands(&self, field: Field) -> bool
         ensures { result ≡ stands_in (fields_of self.now) field }
@@ -186,7 +188,7 @@ impl Draft {
         }
     }
 
-    /// The number of a keyword that has one; nothing if it is missing, and of every other field.
+    /// The number of a keyword that has one; `None` if it is missing, and for any other field.
     pub fn number(&self, field: Field) -> Option<i64>
         ensures { result ≡ one_number_in (fields_of self.now) field }
     {
@@ -199,8 +201,8 @@ impl Draft {
         }
     }
 
-    /// Sets the number of a keyword that has one, which is in its range; that of another field is
-    /// dropped.
+    /// Sets the number of a keyword that has one. The number is in its range. For any other field
+    /// nothing happens.
     pub fn set_number(&mut self, field: Field, number: i64)
         requires { IsNumberOf (value_shape_of field) number }
         ensures { fields_of self.new ≡ with_one_number field number (fields_of self.old) }
@@ -214,8 +216,8 @@ impl Draft {
         }
     }
 
-    /// The numbers of a section that has one for each node; nothing if it is missing, and of
-    /// every other field.
+    /// The numbers of a section that has one for each node; `None` if it is missing, and for any
+    /// other field.
     pub fn numbers(&self, field: Field) -> Option<&[i64]>
         ensures { option_map (λ entries. entries.now) result
             ≡ numbers_in (fields_of self.now) field }
@@ -230,7 +232,7 @@ impl Draft {
         numbers.as_ref().map(|entries| entries.as_slice())
     }
 
-    /// Sets the numbers of such a section; those of another field are dropped.
+    /// Sets the numbers of such a section. For any other field they are dropped.
     pub fn set_numbers(&mut self, field: Field, numbers: Vec<i64>)
         ensures { fields_of self.new ≡ with_numbers field numbers.items (fields_of self.old) }
     {
@@ -243,8 +245,8 @@ impl Draft {
         }
     }
 
-    /// The points of a section that has one for each node; nothing if it is missing, and of
-    /// every other field.
+    /// The points of a section that has one for each node; `None` if it is missing, and for any
+    /// other field.
     pub fn points(&self, field: Field) -> Option<&Coords>
         ensures { option_map (λ points. points_of points.now) result
             ≡ points_in (fields_of self.now) field }
@@ -256,7 +258,7 @@ impl Draft {
         }
     }
 
-    /// Sets the points of such a section; those of another field are dropped.
+    /// Sets the points of such a section. For any other field they are dropped.
     pub fn set_points(&mut self, field: Field, points: Coords)
         ensures { fields_of self.new ≡ with_points field (points_of points) (fields_of self.old) }
     {

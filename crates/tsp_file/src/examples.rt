@@ -1,5 +1,5 @@
-//! Laws that state values of the definitions in `specs/`, worked out by hand: limits of values,
-//! first faults of small drafts, the end table, texts of faults.
+//! Small files worked out by hand, as laws: which values are valid, the first fault, costs,
+//! layouts, canonical lines. They hold the definitions in `specs/` to what docs/format.md says.
 
 ghost use Rattle.tsp_file.specs.Prelude.{true, false, [], None, Some, pos, negsuc, codes, replicate, decimal, euc_2d_of, ceil_2d_of, man_2d_of, max_2d_of, att_of, euc_3d_of, man_3d_of, max_3d_of, Point, most_coordinate};
 ghost use Rattle.std.specs.Prelude.{◌≡◌, ◌+◌, ◌-◌, ◌*◌, ◌^◌, ◌∷◌, ◌++◌};
@@ -89,7 +89,7 @@ pub fn examples_of_faults()
     ensures one_weight { fault_of one_weight ≡ Some (drafts.Rule ends.WrongCount) }
 {}
 
-/// The end table, each row beside the next one that applies too.
+/// The end table: each row, on a file to which the next one applies, too.
 #[tactic(auto, unfolding(tsp_format::specs::Nodes::cells, tsp_format::specs::Nodes::nodes_to))]
 pub fn examples_of_the_end_table()
     ensures dimension { end_fault (standing_of bare_routes) None

@@ -1,6 +1,6 @@
-//! A valid file, with a call for each of its fields. tsp_read makes one from a text, `File::of`
-//! from a draft. Also the steps of `relayout.rt` that change the weights, such as the full matrix
-//! of a half.
+//! `File`, a valid file that nobody can change any more, with a method for each field. Validity is
+//! `fault_of` in `specs/Rules.antt`. The end of this file copies weights into half a matrix or a
+//! full one for `relayout.rt`, block by block, which matters for speed on thousands of nodes.
 
 ghost use Rattle.tsp_file.specs.Prelude.{ℕ, ℤ, List, length, take, true, OnErr, OnOk, cells, IsNode, most_matrix_nodes, IsSymmetric, FullMatrix};
 ghost use Rattle.std.specs.Prelude.{◌≡◌, ◌≢◌, ◌≤◌, ◌<◌, ◌+◌, ◌*◌, ◌⊎◌};
@@ -19,14 +19,14 @@ use tsp_format::{CoordKind, DisplayKind, Kind, Layout, TreeStep, WeightFormat, W
 
 /// A valid TSPLIB 95 file.
 ///
-/// It is made from a draft by [`File::of`], which says what is valid, or by a reader. A call for
-/// each field lends it.
+/// [`File::of`] makes it from a draft, and says what is valid; readers make it from a text. It has
+/// a method for each field, which returns a reference.
 #[derive(Debug)]
 pub struct File {
     draft: Draft,
 }
 
-/// As a derive would do it.
+/// Drops each field, as a derive would.
 impl Drop for File {
     fn drop(self) {
         let File { draft: _ } = self;
@@ -57,8 +57,8 @@ impl File {
     ghost use Rattle.tsp_file.specs.Cost.{HoldsItsType};
     ghost use Rattle.tsp_file.specs.Rules.{fault_of};
 
-    /// The fields of this file, as a draft without a fault: the fields that its TYPE requires are
-    /// present, and each is in its range.
+    /// The fields of this file, as a draft without a fault: all that its TYPE requires are present,
+    /// and each is in its range.
     pub fn fields(&self) -> &Draft
         ensures value { fields_of result.now ≡ self.now }
         ensures valid { fault_of self.now ≡ None }
@@ -67,7 +67,8 @@ impl File {
         &self.draft
     }
 
-    /// The file that a draft holds, or the draft's first fault and the draft itself, unchanged.
+    /// The file with the fields of a draft, or the draft's first fault along with the draft,
+    /// unchanged.
     ///
     /// # Errors
     ///
@@ -87,7 +88,8 @@ impl File {
         Ok(File { draft: d })
     }
 
-    /// The file of a draft that has no fault. The caller has to know that: nothing is checked.
+    /// The file of a draft without a fault. Nothing is checked: the caller has to know that there
+    /// is none.
     pub fn of_valid(d: Draft) -> File
         requires { fault_of (fields_of d) ≡ None }
         ensures { result ≡ fields_of d }
@@ -95,11 +97,11 @@ impl File {
         File { draft: d }
     }
 
-    /// This file with other weights, in a layout; every other field stays.
+    /// This file with other weights, in a layout. Every other field stays as it is.
     ///
     /// # Requires
     ///
-    /// As many weights as the layout has cells, and a file that has weights.
+    /// A file that has weights, and as many new ones as the layout has cells.
     pub(crate) fn with_weights(self, layout: Layout, weights: Vec<i64>) -> File
         requires stand { IsSome self.weights }
         requires count { length weights.items ≡ length (cells layout (nodes_of self)) }
@@ -112,8 +114,7 @@ impl File {
         File { draft }
     }
 
-    /// This file, whose weights are a full matrix, with them in another layout that holds their
-    /// costs.
+    /// This file with its weights, a full matrix, in another layout that can hold their costs.
     pub(crate) fn with_half(self, to: Layout) -> File
         requires full { self.weight_format ≡ Some (Listed FullMatrix) }
         requires can_go { CanGo self to }
@@ -132,7 +133,7 @@ impl File {
     ///
     /// # Errors
     ///
-    /// The file as it was, if memory was refused.
+    /// Out of memory, with the file as it was.
     pub(crate) fn with_whole(self, from: Layout) -> Result<File, File>
         requires half { from ≢ FullMatrix }
         requires format { self.weight_format ≡ Some (Listed from) }
@@ -194,15 +195,14 @@ impl File {
         self.draft.capacity
     }
 
-    /// SCALE of the potentials, 1 to 1,000,000; if it is missing 1 is meant.
+    /// SCALE of the potentials, 1 to 1,000,000. A file without it means 1.
     pub fn scale(&self) -> Option<i64>
         ensures { result ≡ self.now.scale }
     {
         self.draft.scale
     }
 
-    /// LOAD_UNIT of a certificate for routes, 1 to 1,000,000,000,000; if it is missing 1 is
-    /// meant.
+    /// LOAD_UNIT of a certificate for routes, 1 to 1,000,000,000,000. A file without it means 1.
     pub fn load_unit(&self) -> Option<i64>
         ensures { result ≡ self.now.load_unit }
     {
@@ -332,8 +332,8 @@ impl File {
             .as_ref()
             .map(|entries| entries.as_slice())
     }
-    /// COMB_SECTION: combs, each as its sets of nodes, the handle first. Whether they are combs is
-    /// for a judge to say.
+    /// COMB_SECTION: families, each as its sets of nodes, a comb with its handle first. A judge
+    /// decides whether they are good.
     pub fn families(&self) -> Option<&[Vec<Vec<u32>>]>
         ensures { option_map (λ families. families_of families.now) result ≡ self.now.families }
     {
@@ -353,17 +353,16 @@ impl File {
 
 // ---- a full matrix, made of its listed half in the same vector
 
-/// How many columns are filled at a time, so that what is read across the diagonal stays in the
-/// cache.
+/// How many columns are filled at a time. What is read across the diagonal then stays in the cache.
 const BAND: u32 = 64;
 
-/// Makes the full matrix of the listed half: the lines go to their rows, from the last to the
-/// first, and then the costs across the diagonal are filled in.
+/// Turns a listed half into the full matrix: moves the lines to their rows, from the last to the
+/// first, and then fills in the costs across the diagonal.
 ///
 /// # Errors
 ///
-/// Out of memory, and then the weights are as they were. No more memory is taken than the full
-/// matrix needs.
+/// Out of memory; the weights are then as they were. No more memory is taken than the full matrix
+/// needs.
 fn make_whole(from: Layout, nodes: u32, weights: &mut Vec<i64>) -> Result<(), AllocError>
     requires few { nodes ≤ most_matrix_nodes }
     requires half { from ≢ FullMatrix }
@@ -392,9 +391,9 @@ fn is_above(layout: Layout) -> bool
     )
 }
 
-/// Moves the lines of a layout from the front to their rows of a full matrix, from the last to the
-/// first. A row is no further to the front than its line, so that none is overwritten before it is
-/// moved.
+/// Moves the lines of a layout from the front of the vector to their rows in a full matrix, from
+/// the last to the first. No row begins before its line did, so no line is overwritten before it
+/// has been moved.
 fn spread_lines(from: Layout, nodes: u32, weights: &mut Vec<i64>, count: usize)
     requires few { nodes ≤ most_matrix_nodes }
     requires size { length weights.old.items ≡ nodes * nodes }
@@ -430,7 +429,7 @@ fn clear_diagonal(from: Layout, nodes: u32, weights: &mut Vec<i64>)
     }
 }
 
-/// Fills the costs across the diagonal, a band of columns after the other.
+/// Fills in the costs across the diagonal, band by band of columns.
 fn fill_across(above: bool, nodes: u32, weights: &mut Vec<i64>)
     requires few { nodes ≤ most_matrix_nodes }
     requires size { length weights.old.items ≡ nodes * nodes }
@@ -444,7 +443,7 @@ fn fill_across(above: bool, nodes: u32, weights: &mut Vec<i64>)
     }
 }
 
-/// Fills the costs across the diagonal in the band of columns that begins with this one.
+/// Fills in the costs across the diagonal, in the band of columns that begins with this one.
 fn fill_band(above: bool, nodes: u32, weights: &mut Vec<i64>, left: u32)
     requires few { nodes ≤ most_matrix_nodes }
     requires left { 1 ≤ left }
@@ -460,8 +459,8 @@ fn fill_band(above: bool, nodes: u32, weights: &mut Vec<i64>, left: u32)
     }
 }
 
-/// The columns of a row that lie across the diagonal, in the band that begins with a column: the
-/// first, and the one past the last.
+/// The columns of a row that lie across the diagonal in the band that begins with a column: the
+/// first of them, and the one after the last.
 #[inline]
 fn across_in_band(above: bool, nodes: u32, row: u32, left: u32) -> (u32, u32)
     requires few { nodes ≤ most_matrix_nodes }
@@ -486,7 +485,7 @@ fn across_in_band(above: bool, nodes: u32, row: u32, left: u32) -> (u32, u32)
     }
 }
 
-/// Fills the costs across the diagonal in one row of the band.
+/// Fills in the costs across the diagonal, in one row of the band.
 #[inline]
 fn fill_in_band(above: bool, nodes: u32, weights: &mut Vec<i64>, row: u32, left: u32)
     requires few { nodes ≤ most_matrix_nodes }

@@ -1,5 +1,6 @@
-//! Laws: the fields of a valid file are in their ranges, and those that its TYPE requires are
-//! present.
+//! What every valid file has, by the definitions alone: fields in their ranges, the sections that
+//! its TYPE requires, costs that obey the inequalities of their weight type. `specs/Valid.antt` and
+//! `specs/ByInequalities.antt` are the words in which a reader of docs/trust.md checks this.
 
 ghost use Rattle.tsp_file.specs.Prelude.{None, IsTrue, IsSome, ℕ, [], length, Some, unwrap_or, pos, unsigned_abs, WeightKind, Explicit};
 ghost use Rattle.std.specs.Prelude.{◌≡◌, ◌≢◌, ◌<◌};
@@ -13,12 +14,13 @@ ghost use Rattle.tsp_file.specs.Valid.{IsInRange, HasInstance, HasRouting, HasPo
 use tsp_number::distance_laws;
 
 /// The fields of a valid file are in their ranges: the number of nodes, the lists by node, the
-/// nodes that lists speak of, the sizes of numbers. Weights are as many as the cells of a layout.
+/// nodes in other lists, and the sizes of numbers. There are as many weights as the layout has
+/// cells.
 pub fn valid_fields_are_in_range()
     ensures { (f : Fields) → fault_of f ≡ None → IsInRange f }
 {}
 
-/// A valid file has the fields that its kind asks for.
+/// A valid file has the fields that its TYPE requires.
 pub fn valid_files_are_complete()
     ensures kind { (f : Fields) → fault_of f ≡ None → IsSome f.kind }
     ensures instance { (f : Fields)
@@ -30,8 +32,8 @@ pub fn valid_files_are_complete()
     ensures branches { (f : Fields) → fault_of f ≡ None → IsTrue (is_branches_file f.kind) → HasBranches f }
 {}
 
-/// A cost by coordinates is the one number with the inequalities of the weight type's distance,
-/// between the points of both nodes.
+/// A cost by coordinates is the one number that satisfies the inequalities of the weight type's
+/// distance between the points of both nodes.
 pub fn costs_are_by_inequalities()
     ensures defined { (f : Fields) (kind : WeightKind) (i j : ℕ) → f.weight_kind ≡ Some kind
         → kind ≢ Explicit → IsDistanceBy kind (point_of (unwrap_or f.coords []) i)
@@ -44,9 +46,10 @@ pub fn costs_are_by_inequalities()
 }
 
 /// The canonical text of every valid file has fewer than 750,000,000 bytes. This follows from the
-/// limits of this project's profile: the most that a file can hold is a matrix of 5,000 * 5,000
-/// weights, each of at most 14 bytes and one after it, and a tree with 10,000,000 differences, each
-/// with its index in at most 25 bytes. Without families and branches it has fewer than 500,000,000.
+/// limits of this project's profile. The largest file has a matrix of 5,000 * 5,000 weights, each
+/// of at most 14 bytes and one after it, and a tree with 10,000,000 differences, each of which
+/// takes at most 25 bytes with its index. Without families and branches the text has fewer than
+/// 500,000,000 bytes.
 pub fn a_valid_text_is_short()
     ensures whole { (f : Fields) → fault_of f ≡ None → length (text_of f) < 750000000 }
     ensures without_trees { (f : Fields) → fault_of f ≡ None → f.families ≡ None → f.branches ≡ None

@@ -1,8 +1,9 @@
 //! The fields of a TSPLIB 95 file: which are valid together, the costs that they give, and their
 //! canonical text.
 //!
-//! A [`Draft`] has fields of any kind, and a [`File`] is a draft without a fault. A file's matrix
-//! can be laid out anew. This crate reads no text: tsp_read makes drafts and files from bytes.
+//! A [`Draft`] may have any values in its fields. A [`File`] is a draft without a fault, and its
+//! matrix can be put into another layout. No text is read here: tsp_read makes drafts and files
+//! from bytes.
 //!
 //! ```text
 //! let mut draft = Draft::new(alloc);

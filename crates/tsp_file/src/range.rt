@@ -1,4 +1,5 @@
-//! Whether numbers of a section or a keyword are in a range.
+//! Whether a number, or each number of a list, is in a range. The list is tested without branches,
+//! for long sections; `is_from_to` in `specs/Validity.antt` fixes the answers.
 
 ghost use Rattle.std.specs.Prelude.{◌≡◌, ◌<◌, ◌^◌, pos, ◌≤ℤ◌};
 ghost use Rattle.std.specs.List.{All, list_all};
@@ -13,8 +14,8 @@ pub(crate) fn is_from_to(number: i64, low: i64, high: i64) -> bool
 
 /// Whether every number is from low to high.
 ///
-/// No number from 0 on is more than the bitwise or of all. So one pass without a branch shows for
-/// most files that all numbers are in the range.
+/// A number that isn't negative is at most the bitwise or of all numbers. So for most files one
+/// pass without branches shows that all numbers are in the range.
 pub(crate) fn are_from_to(numbers: &[i64], low: i64, high: i64) -> bool
     ensures { result ≡ list_all (is_from_to low high) numbers.now }
 {
@@ -26,8 +27,8 @@ pub(crate) fn are_from_to(numbers: &[i64], low: i64, high: i64) -> bool
         .all(|number| low <= *number && *number <= high)
 }
 
-/// The bits of all numbers in one: if the highest isn't among them, no number is negative, and
-/// none is larger.
+/// The bitwise or of all numbers. If its highest bit isn't set, no number is negative, and none is
+/// larger than the result.
 fn all_bits(numbers: &[i64]) -> u64
     ensures { result < 2 ^ 63
         → All (λ number. (pos 0 ≤ℤ number) × (number ≤ℤ pos result)) numbers.now }

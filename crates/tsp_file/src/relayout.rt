@@ -1,5 +1,6 @@
-//! `File::relayout`, which puts the weights of a file into another layout if each cost stays as it
-//! is.
+//! `tsp convert --layout`: puts the weights of a file into another layout, or finds the first cost
+//! that the new layout would lose. `IsRelayout` and `IsRefused` in `specs/Relayout.antt` decide
+//! which, and the text of the fault is printed.
 
 ghost use Rattle.tsp_file.specs.Prelude.{MatchResult, length, most_matrix_nodes, IsNode, cells, line_len_of, FullMatrix};
 ghost use Rattle.std.specs.Prelude.{◌≡◌, ◌≤◌, ◌+◌, ◌-◌, ◌*◌};
@@ -16,10 +17,10 @@ use tsp_format::Layout;
 impl File {
     /// This file with its weights in another layout.
     ///
-    /// Every cost stays as it is, those from a node to itself too, and so does every field but the
-    /// format and the weights. A file that has the layout already is returned as it is, and a full
-    /// matrix becomes half of one in its own memory, so that no memory is taken. Half of a matrix
-    /// becomes a full one in the memory of the full one alone.
+    /// Every cost stays as it is, even from a node to itself, and so does every field except the
+    /// format and the weights. No memory is taken if the file has the layout already, or if a full
+    /// matrix becomes half of one, in its own memory. If half of a matrix becomes a full one, only
+    /// the memory of the full one is taken.
     ///
     /// # Errors
     ///
@@ -46,7 +47,7 @@ impl File {
         }
     }
 
-    /// How the weights of this file get into another layout.
+    /// Chooses how the weights of this file get into another layout.
     fn way(&self, alloc: Global, to: Layout) -> Result<Way, RelayoutFault>
         ensures { MatchResult result
             (λ way. CanGo self.now to × LeadsTo self.now to way)
@@ -82,30 +83,30 @@ impl File {
 /// How the weights of a file get into another layout.
 #[derive(Drop)]
 pub(crate) enum Way {
-    /// They are in it already.
+    /// They have that layout already.
     Already,
-    /// They are a full matrix, and what the layout lists of it goes to the front.
+    /// They are a full matrix. What the layout lists is moved to the front.
     Within,
-    /// They are half of a matrix, in this layout, and the full one is made in its own memory.
+    /// They are half of a matrix, in this layout. The full matrix is made in the same vector.
     Across(Layout),
-    /// They are listed in a new vector, this one.
+    /// They go into a new vector, which is here.
     Anew(Vec<i64>),
 }
 
 // ---- why the weights of a file can't be put into another layout
 
-/// Why the weights of a file aren't put into another layout, in the order in which it is judged.
+/// Why the weights of a file can't have another layout, in the order in which this is judged.
 #[derive(Clone, Copy, Debug, PartialEq, Eq, Error)]
 pub enum RelayoutFault {
     /// The weight type isn't EXPLICIT, or there are no weights.
     NotExplicit,
-    /// The layout lists half of a matrix, and the costs between these two nodes differ: the first
-    /// such pair, the smaller node first, by rows.
+    /// The layout lists half of a matrix, but the costs between these two nodes differ. This is the
+    /// first such pair by rows, the smaller node first.
     NotSymmetric { i: u32, j: u32 },
-    /// The layout lists no diagonal, and the cost from this node to itself isn't 0: the first such
-    /// node.
+    /// The layout lists no diagonal, but the cost from this node to itself isn't 0. This is the
+    /// first such node.
     DiagonalLost { i: u32 },
-    /// Memory was refused.
+    /// Out of memory.
     OutOfMemory,
 }
 
@@ -127,11 +128,11 @@ impl fmt::Display for RelayoutFault {
 
 // ---- half of a full symmetric matrix, moved to the beginning of its vector
 
-/// Moves what a layout lists of a full matrix to its front, in the layout's order, and drops the
+/// Moves what a layout lists of a full matrix to the front, in the layout's order, and drops the
 /// rest.
 ///
-/// In the full matrix a line of the layout is no further to the front, so that none is overwritten
-/// before it is moved. For a layout by columns it is the row across the diagonal, whose costs are
+/// No line of the layout begins before its place in the result, so none is overwritten before it
+/// has been moved. For a layout by columns, the row across the diagonal is moved, whose costs are
 /// the same. No memory is taken.
 pub(crate) fn keep_half(to: Layout, nodes: u32, weights: &mut Vec<i64>)
     requires few { nodes ≤ most_matrix_nodes }
@@ -150,7 +151,7 @@ pub(crate) fn keep_half(to: Layout, nodes: u32, weights: &mut Vec<i64>)
     weights.truncate(kept);
 }
 
-/// If a line of a layout, or the row across the diagonal from it, begins in a full matrix.
+/// Where a line of a layout, or the row across the diagonal from it, begins in a full matrix.
 pub(crate) fn line_start(layout: Layout, nodes: u32, line: u32) -> usize
     requires few { nodes ≤ most_matrix_nodes }
     requires line { IsNode nodes line }

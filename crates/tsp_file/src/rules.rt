@@ -1,5 +1,6 @@
-//! The end table: the rules over several fields of a file, such as the sections that a TYPE
-//! requires. tsp_read asks `end_fault` at the end of a text, `File::of` of tsp_file for a draft.
+//! The end table: the rules that need several fields, such as the sections that a TYPE requires.
+//! They are checked in a fixed order once a file has been read, and `end_fault` in
+//! `specs/Rules.antt` has the same order, which decides the fault that a user sees.
 
 ghost use Rattle.std.specs.Prelude.{◌≡◌, None};
 ghost use Rattle.tsp_file.specs.Rules.{standing_of, is_instance, is_routing, is_tour_file, is_potentials_file, has_explicit_weights, has_distances, has_row_or_column, has_node_or_multiplier, is_branches_file, is_asked, is_there, has_wrong_format, has_wrong_count, end_fault};
@@ -11,7 +12,7 @@ use std::fmt;
 use thiserror::Error;
 use tsp_format::{Field, Kind, WeightFormat, WeightKind};
 
-/// The fields that some file is asked for, in the order in which they are missed.
+/// The fields that some TYPE requires, in the order in which a missing one is reported.
 const ASKED: [Field; 14] = [
     Field::TypeKey,
     Field::DimensionKey,
@@ -33,9 +34,9 @@ const ASKED: [Field; 14] = [
 ///
 /// It depends on which fields are present, and on the first incomplete section.
 ///
-/// A draft's lists are never incomplete, so that `None` is passed for one. A reader passes the
-/// first section in canonical order that has fewer places than it needs; of the lists of such
-/// sections only their presence counts.
+/// A draft's lists are never incomplete, so for a draft pass `None`. A reader passes the first
+/// section in canonical order that has fewer words than it needs. Such sections count as present,
+/// whatever is in their lists.
 pub fn end_fault(draft: &Draft, incomplete: Option<Field>) -> Option<EndFault>
     ensures { result ≡ end_fault (standing_of (fields_of draft.now)) incomplete }
 {
@@ -104,28 +105,28 @@ fn is_instance(draft: &Draft) -> bool
     )
 }
 
-/// Whether the file is an instance of vehicle routing.
+/// Whether the file is of TYPE CVRP.
 fn is_routing(draft: &Draft) -> bool
     ensures { result ≡ is_routing (fields_of draft.now).kind }
 {
     matches!(draft.kind, Some(Kind::Cvrp))
 }
 
-/// Whether the file holds tours.
+/// Whether the file is of TYPE TOUR.
 fn is_tour_file(draft: &Draft) -> bool
     ensures { result ≡ is_tour_file (fields_of draft.now).kind }
 {
     matches!(draft.kind, Some(Kind::Tour))
 }
 
-/// Whether the file holds potentials.
+/// Whether the file is of TYPE POTENTIALS.
 fn is_potentials_file(draft: &Draft) -> bool
     ensures { result ≡ is_potentials_file (fields_of draft.now).kind }
 {
     matches!(draft.kind, Some(Kind::Potentials))
 }
 
-/// Whether the file holds a tree of cases.
+/// Whether the file is of TYPE BRANCHES.
 fn is_branches_file(draft: &Draft) -> bool
     ensures { result ≡ is_branches_file (fields_of draft.now).kind }
 {
@@ -155,15 +156,15 @@ fn has_row_or_column(draft: &Draft) -> bool
     draft.row_potentials.is_some() || draft.column_potentials.is_some()
 }
 
-/// Whether potentials of nodes or multipliers of fixed edges are there.
+/// Whether potentials of nodes or multipliers of fixed edges are present.
 fn has_node_or_multiplier(draft: &Draft) -> bool
     ensures { result ≡ has_node_or_multiplier (standing_of (fields_of draft.now)) }
 {
     draft.node_potentials.is_some() || draft.fixed_potentials.is_some()
 }
 
-/// Whether the format is FUNCTION if weights are listed, or the file has numbers for a TSP
-/// beside those of rows or columns, which are for an ATSP.
+/// Whether weights are listed and the format is FUNCTION, or the file has potentials for a TSP as
+/// well as for an ATSP.
 fn has_wrong_format(draft: &Draft) -> bool
     ensures { result ≡ has_wrong_format (standing_of (fields_of draft.now)) }
 {
@@ -172,7 +173,7 @@ fn has_wrong_format(draft: &Draft) -> bool
         || (is_potentials_file(draft) && has_node_or_multiplier(draft) && has_row_or_column(draft))
 }
 
-/// Whether the weights are not as many as the cells of their layout.
+/// Whether the number of weights differs from the number of cells of their layout.
 fn has_wrong_count(draft: &Draft) -> bool
     ensures { result ≡ has_wrong_count (standing_of (fields_of draft.now)) }
 {
@@ -186,17 +187,18 @@ fn has_wrong_count(draft: &Draft) -> bool
 
 // ---- the faults of a draft
 
-/// What is wrong with the fields of a file together, in the order in which it is judged.
+/// What is wrong with the fields of a file taken together, in the order in which it is judged.
 #[derive(Clone, Copy, Debug, PartialEq, Eq, Error)]
 pub enum EndFault {
-    /// A keyword or a section that the kind of file asks for is missing.
+    /// A keyword or a section that the TYPE requires is missing.
     Missing(Field),
-    /// A section has fewer places than it needs. Readers find this; a draft's lists are whole, so
-    /// no file is refused for it.
+    /// A section has fewer words than it needs. Only readers find this, because a draft's lists are
+    /// always whole.
     Incomplete(Field),
-    /// The format doesn't fit the weights, or node potentials appear beside others.
+    /// The format doesn't fit the weights, or potentials of nodes appear along with those of rows
+    /// or columns.
     WrongFormat,
-    /// The number of weights isn't that of the layout.
+    /// The number of weights differs from the number of cells of the layout.
     WrongCount,
 }
 

@@ -1,5 +1,6 @@
-//! The table of fields: whether each is valid on its own, by the tests of `src/validity.rt`.
-//! `File::of` of tsp_file asks for the first that is not.
+//! Whether each field is valid on its own, in canonical order, by the tests of `validity.rt`;
+//! `bad_field` in `specs/Validity.antt` is the same table. A draft that a program makes can fail
+//! here. One that was read from a text can't, because its values were checked word by word.
 
 ghost use Rattle.tsp_file.specs.Prelude.{ℕ, Bool, List, Some, MatchResult, map, option_map, most_nodes, field_word, subset_rows_of, steps_of};
 ghost use Rattle.std.specs.Prelude.{◌≡◌};
@@ -81,7 +82,7 @@ fn first_bad(draft: &Draft, fields: &[Field]) -> Option<Field>
     None
 }
 
-/// NAME is a value that is kept.
+/// Whether NAME is a value that is kept.
 fn is_name(name: &Option<Vec<u8>>) -> bool
     ensures { result ≡
         if_there (is_kept (field_word Field.NameKey)) (option_map (λ v. v.items) name.now) }
@@ -92,21 +93,21 @@ fn is_name(name: &Option<Vec<u8>>) -> bool
     }
 }
 
-/// The comments are values that are kept, and not too many.
+/// Whether the comments are values that are kept, and not too many.
 fn are_comments(comments: &Vec<Vec<u8>>) -> bool
     ensures { result ≡ are_comments (map (λ v. v.items) comments.now.items) }
 {
     comments.len() <= MOST_COMMENTS && validity::are_kept(comments)
 }
 
-/// The lines of unknown keywords are kept, and not too many.
+/// Whether the lines of unknown keywords are kept, and not too many.
 fn are_others(others: &Vec<(Vec<u8>, Vec<u8>)>) -> bool
     ensures { result ≡ are_others (map (λ p. (p.0.items, p.1.items)) others.now.items) }
 {
     others.len() <= MOST_OTHERS && validity::are_other_lines(others)
 }
 
-/// DIMENSION is in its range.
+/// Whether DIMENSION is in its range.
 fn is_dimension(dimension: Option<u32>) -> bool
     ensures { result ≡ if_there (is_node most_nodes) dimension }
 {
@@ -116,7 +117,7 @@ fn is_dimension(dimension: Option<u32>) -> bool
     }
 }
 
-/// A number is in its range.
+/// Whether a number is in its range.
 fn is_number(number: Option<i64>, low: i64, high: i64) -> bool
     ensures { result ≡ if_there (is_from_to low high) number }
 {
@@ -126,8 +127,8 @@ fn is_number(number: Option<i64>, low: i64, high: i64) -> bool
     }
 }
 
-/// The number of nodes and the entries of a section; or, if there are none to judge, whether the
-/// section is valid: it is if it is missing, and isn't without a number of nodes.
+/// The number of nodes and the entries of a section, to be judged. If there are none, whether the
+/// section is valid: a missing one is, and one without DIMENSION isn't.
 fn section<'a, T>(
     dimension: Option<u32>,
     entries: &'a Option<Vec<T>>,
@@ -143,7 +144,7 @@ fn section<'a, T>(
     }
 }
 
-/// There is a point for each node, with three coordinates or with two.
+/// Whether there is a point for each node, with three coordinates or with two.
 fn are_points(spatial: bool, dimension: Option<u32>, points: Option<&Coords>) -> bool
     ensures { result ≡ if_there (with_dimension (is_by_node (is_point spatial)) dimension)
         (option_map (λ points. points_of points.now) points.entry) }
@@ -157,7 +158,7 @@ fn are_points(spatial: bool, dimension: Option<u32>, points: Option<&Coords>) ->
     }
 }
 
-/// There is a number of this range for each node.
+/// Whether there is a number in this range for each node.
 fn are_numbers(dimension: Option<u32>, numbers: Option<&[i64]>, low: i64, high: i64) -> bool
     ensures { result ≡ if_there (with_dimension (is_by_node (is_from_to low high)) dimension)
         (option_map (λ entries. entries.now) numbers.entry) }
@@ -171,7 +172,7 @@ fn are_numbers(dimension: Option<u32>, numbers: Option<&[i64]>, low: i64, high: 
     }
 }
 
-/// The depots are nodes, and not too many.
+/// Whether the depots are nodes, and not too many.
 fn are_depots(dimension: Option<u32>, depots: &Option<Vec<u32>>) -> bool
     ensures { result
         ≡ if_there (with_dimension are_depots dimension) (option_map (λ v. v.items) depots.now) }
@@ -182,7 +183,7 @@ fn are_depots(dimension: Option<u32>, depots: &Option<Vec<u32>>) -> bool
     }
 }
 
-/// The fixed pairs are of two different nodes, and not too many.
+/// Whether the fixed pairs are of two different nodes, and not too many.
 fn are_fixed(dimension: Option<u32>, pairs: &Option<Vec<(u32, u32)>>) -> bool
     ensures { result
         ≡ if_there (with_dimension are_fixed dimension) (option_map (λ v. v.items) pairs.now) }
@@ -193,7 +194,7 @@ fn are_fixed(dimension: Option<u32>, pairs: &Option<Vec<(u32, u32)>>) -> bool
     }
 }
 
-/// The triples are of two different nodes and a multiplier, and not too many.
+/// Whether the triples are of two different nodes and a multiplier, and not too many.
 fn are_triples(dimension: Option<u32>, triples: &Option<Vec<(u32, u32, i64)>>) -> bool
     ensures { result
         ≡ if_there (with_dimension are_triples dimension) (option_map (λ v. v.items) triples.now) }
@@ -204,7 +205,7 @@ fn are_triples(dimension: Option<u32>, triples: &Option<Vec<(u32, u32, i64)>>) -
     }
 }
 
-/// The weights are in range, and not more than a matrix has.
+/// Whether the weights are in range, and no more than a matrix has.
 fn fit_matrix(dimension: Option<u32>, weights: &Option<Vec<i64>>) -> bool
     ensures { result
         ≡ if_there (with_dimension fit_matrix dimension) (option_map (λ v. v.items) weights.now) }
@@ -215,7 +216,7 @@ fn fit_matrix(dimension: Option<u32>, weights: &Option<Vec<i64>>) -> bool
     }
 }
 
-/// The tours are tours, and not too long together.
+/// Whether the tours are lists of nodes, and not too long in all.
 fn are_tours(tours: &Option<Vec<Vec<u32>>>) -> bool
     ensures { result ≡ if_there are_tours (option_map (λ v. map (λ t. t.items) v.items) tours.now) }
 {
@@ -225,7 +226,7 @@ fn are_tours(tours: &Option<Vec<Vec<u32>>>) -> bool
     }
 }
 
-/// The families are of nodes, and not too many.
+/// Whether the families are of nodes, and not too many.
 fn are_family_lists(dimension: Option<u32>, families: &Option<Vec<Vec<Vec<u32>>>>) -> bool
     ensures { result ≡ if_there (with_dimension are_family_lists dimension)
         (option_map (λ v. families_of v.items) families.now) }
@@ -237,7 +238,7 @@ fn are_family_lists(dimension: Option<u32>, families: &Option<Vec<Vec<Vec<u32>>>
     }
 }
 
-/// The lists of a memory are of nodes, and not too long together.
+/// Whether the lists of a memory are of nodes, and not too long in all.
 fn are_memory_lists(dimension: Option<u32>, lists: &Option<Vec<Vec<u32>>>) -> bool
     ensures { result ≡ if_there (with_dimension are_memory_lists dimension)
         (option_map (λ v. map (λ list. list.items) v.items) lists.now) }
@@ -249,7 +250,7 @@ fn are_memory_lists(dimension: Option<u32>, lists: &Option<Vec<Vec<u32>>>) -> bo
     }
 }
 
-/// The subset rows are of nodes, and not too many.
+/// Whether the subset rows are of nodes, and not too many.
 fn are_subset_rows(dimension: Option<u32>, rows: &Option<Vec<RowSets>>) -> bool
     ensures { result ≡ if_there (with_dimension are_subset_rows dimension)
         (option_map (λ v. subset_rows_of v.items) rows.now) }
@@ -261,7 +262,7 @@ fn are_subset_rows(dimension: Option<u32>, rows: &Option<Vec<RowSets>>) -> bool
     }
 }
 
-/// The steps are those of one tree, and not too many.
+/// Whether the steps are those of one tree, and not too many.
 fn are_tree_steps(dimension: Option<u32>, steps: &Option<Vec<TreeStep>>) -> bool
     ensures { result ≡ if_there (with_dimension are_tree_steps dimension)
         (option_map (λ v. steps_of v.items) steps.now) }

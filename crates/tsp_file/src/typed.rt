@@ -1,6 +1,7 @@
-//! The fields that a file of a TYPE always has, without `Option`: tours, routes, potentials, trees
-//! of cases. Also `ListedWeights`, the weights of a matrix: their costs, whether they are
-//! symmetric, and what another layout would lose.
+//! What a file of each TYPE certainly has, without `Option`: tours, routing data, potentials,
+//! duals, a tree of cases (`specs/Cost.antt`). Also `ListedWeights`, the costs of a listed matrix,
+//! with two searches: for a pair that costs more one way than the other, and for a cost that
+//! another layout would lose.
 
 ghost use Rattle.tsp_file.specs.Prelude.{All, length, cells, most_matrix_nodes, most_weight, FindsAsymmetric, FullMatrix};
 ghost use Rattle.std.specs.Prelude.{◌≡◌, ◌≤◌};
@@ -22,14 +23,14 @@ pub struct RoutingData<'a> {
     pub depots: &'a [u32],
 }
 
-/// Potentials of nodes, with the multipliers of fixed edges beside them.
+/// Potentials of nodes, along with the multipliers of fixed edges.
 #[derive(Clone, Copy, Debug)]
 pub struct NodeData<'a> {
     /// SCALE, which is 1 if it is missing.
     pub scale: i64,
     /// NODE_POTENTIAL_SECTION: a potential for each node.
     pub numbers: &'a [i64],
-    /// FIXED_EDGE_POTENTIAL_SECTION: two nodes and a number each; none if it is missing.
+    /// FIXED_EDGE_POTENTIAL_SECTION: two nodes and a number each; empty if it is missing.
     pub multipliers: &'a [(u32, u32, i64)],
 }
 
@@ -51,12 +52,12 @@ pub struct TreeData<'a> {
     pub scale: i64,
     /// LOAD_UNIT, which is 1 if it is missing.
     pub load_unit: i64,
-    /// COMB_SECTION: families, each as its sets of nodes; none if it is missing.
+    /// COMB_SECTION: families, each as its sets of nodes; empty if it is missing.
     pub families: &'a [Vec<Vec<u32>>],
-    /// MEMORY_SECTION: lists of nodes, the first of which remembers the others; none if it is
+    /// MEMORY_SECTION: lists of nodes, the first of which remembers the others; empty if it is
     /// missing.
     pub memories: &'a [Vec<u32>],
-    /// SUBSET_ROW_SECTION: subset rows; none if it is missing.
+    /// SUBSET_ROW_SECTION: subset rows; empty if it is missing.
     pub subset_rows: &'a [RowSets],
     /// BRANCH_SECTION: the steps of one tree of cases.
     pub steps: &'a [TreeStep],
@@ -73,7 +74,7 @@ impl File {
     ghost use Rattle.tsp_file.specs.Fields.{nodes_of};
     ghost use Rattle.tsp_file.specs.Cost.{HoldsNodeNumbers, HoldsDuals, HoldsCases, HoldsMemory, AreMultipliersIn, AreSomeSets};
 
-    /// The weights of this file with their layout; none if its weights aren't listed.
+    /// The weights of this file with their layout; `None` if its weights aren't listed.
     #[inline]
     pub fn as_matrix(&self) -> Option<ListedWeights<'_>>
         ensures { MatchOption result (¬ HasListedWeights self.now)
@@ -93,7 +94,7 @@ impl File {
         }
     }
 
-    /// The tours of a file of TYPE TOUR; none of every other file.
+    /// The tours of a file of TYPE TOUR; `None` for any other file.
     pub fn as_tours(&self) -> Option<&[Vec<u32>]>
         ensures { MatchOption result (self.now.kind ≢ Some kinds.Tour)
             (λ tours. (self.now.kind ≡ Some kinds.Tour)
@@ -106,8 +107,8 @@ impl File {
         self.tours()
     }
 
-    /// The potentials of nodes that a file of TYPE POTENTIALS holds; none if it holds none, and
-    /// of every other file.
+    /// The potentials of nodes in a file of TYPE POTENTIALS; `None` if it has none, and for any
+    /// other file.
     pub fn as_node_potentials(&self) -> Option<NodeData<'_>>
         ensures { MatchOption result
             (self.now.kind ≡ Some kinds.Potentials → IsSome self.now.node_potentials → ⊥)
@@ -123,8 +124,8 @@ impl File {
         })
     }
 
-    /// The potentials of rows and of columns that a file of TYPE POTENTIALS holds; none if it
-    /// holds none, and of every other file.
+    /// The potentials of rows and of columns in a file of TYPE POTENTIALS; `None` if it has none,
+    /// and for any other file.
     pub fn as_duals(&self) -> Option<DualData<'_>>
         ensures { MatchOption result
             (self.now.kind ≡ Some kinds.Potentials → IsSome self.now.row_potentials
@@ -142,7 +143,7 @@ impl File {
     }
 
     /// The families, memories, subset rows, steps, scale and load unit of a file of TYPE BRANCHES;
-    /// none of every other file.
+    /// `None` for any other file.
     pub fn as_tree(&self) -> Option<TreeData<'_>>
         ensures cases { MatchOption result (self.now.kind ≢ Some kinds.Branches) (λ held. HoldsCases
             self.now held.scale held.load_unit (families_of held.families.now) (steps_of held.steps.now)) }
@@ -178,7 +179,7 @@ impl File {
         self.fields().load_unit.unwrap_or(1)
     }
 
-    /// The multipliers of fixed edges, none if no section lists them.
+    /// The multipliers of fixed edges; empty if no section lists them.
     fn multipliers(&self) -> &[(u32, u32, i64)]
         ensures value { result.now ≡ unwrap_or self.now.fixed_potentials [] }
         ensures are { AreMultipliersIn self.now result.now }
@@ -189,7 +190,7 @@ impl File {
         }
     }
 
-    /// The families, none if no section lists them.
+    /// The families; empty if no section lists them.
     fn families_or_none(&self) -> &[Vec<Vec<u32>>]
         ensures value { families_of result.now ≡ unwrap_or self.now.families [] }
         ensures are { AreSomeSets (nodes_of self.now) (families_of result.now) }
@@ -203,8 +204,8 @@ impl File {
 
 // ---- the weights that a file lists, their costs, and the costs that another layout can't hold
 
-/// How many rows and columns a block of cells has, which with its mirrored block stays in the
-/// cache.
+/// How many rows and columns a block of cells has. A block and its mirror image fit the cache
+/// together.
 const BLOCK: u32 = 64;
 
 /// The first pair of a full matrix whose two costs differ.
@@ -273,8 +274,8 @@ impl<'a> ListedWeights<'a> {
         self.layout == layout
     }
 
-    /// The cost from one node to another: the weight of the pair, or of the pair turned round if
-    /// only that is listed, or 0.
+    /// The cost from one node to another: the weight of the pair, that of the reverse pair if only
+    /// this is listed, or else 0.
     #[inline]
     fn cost(&self, i: u32, j: u32) -> i64
         requires from { IsNode self.now.nodes i }
@@ -290,7 +291,7 @@ impl<'a> ListedWeights<'a> {
         0
     }
 
-    /// The cost in a full matrix, if it is the weight of the pair.
+    /// The weight of the pair, which is its cost in a full matrix.
     #[inline]
     fn weight(&self, i: u32, j: u32) -> i64
         requires full { self.now.layout ≡ FullMatrix }
@@ -301,7 +302,7 @@ impl<'a> ListedWeights<'a> {
         self.weights[Layout::FullMatrix.place(self.nodes, i, j)]
     }
 
-    /// The first pair of nodes whose two costs another layout can't both hold.
+    /// The first pair of nodes whose two costs differ, if another layout can hold only one of them.
     ///
     /// The smaller node comes first; pairs are in the order of rows.
     pub(crate) fn lost_pair(&self, to: Layout) -> Option<(u32, u32)>
@@ -318,7 +319,7 @@ impl<'a> ListedWeights<'a> {
         }
     }
 
-    /// The first node whose cost to itself another layout can't hold.
+    /// The first node whose cost to itself isn't 0, if another layout can't hold it.
     pub(crate) fn lost_diagonal(&self, to: Layout) -> Option<u32>
         ensures { MatchOption result
             (HoldsDiagonal to (costs_of self.now))
@@ -333,8 +334,9 @@ impl<'a> ListedWeights<'a> {
 
     /// The first pair, the smaller node first, by rows, whose two costs differ.
     ///
-    /// Most matrices that come here are symmetric, and show it by blocks: going by rows steps down
-    /// a column of the whole matrix for each, so it is left to those that aren't.
+    /// Most matrices that come here are symmetric, which is tested block by block. Only for the
+    /// others is the pair searched by rows, which is slow because each step goes down a column of
+    /// the whole matrix.
     fn first_asymmetric(&self) -> Option<(u32, u32)>
         requires { self.now.layout ≡ FullMatrix }
         ensures { FindsAsymmetric self.now.nodes (costs_of self.now) result }
@@ -372,8 +374,8 @@ impl<'a> ListedWeights<'a> {
         true
     }
 
-    /// Whether the two costs of each pair are the same over a band of rows, counted from 0, from
-    /// the band's block on the diagonal on.
+    /// Whether the two costs of each pair are the same in a band of rows, counted from 0, starting
+    /// at its block on the diagonal.
     fn is_symmetric_band(&self, band: u32) -> bool
         requires full { self.now.layout ≡ FullMatrix }
         requires band { band * 64 ≤ self.now.nodes }
@@ -389,7 +391,7 @@ impl<'a> ListedWeights<'a> {
         true
     }
 
-    /// Whether the two costs of each pair are the same over the block of cells that begins with the
+    /// Whether the two costs of each pair are the same in the block of cells that begins with the
     /// cell (top, left).
     fn is_symmetric_block(&self, top: u32, left: u32) -> bool
         requires full { self.now.layout ≡ FullMatrix }
@@ -410,8 +412,8 @@ impl<'a> ListedWeights<'a> {
         true
     }
 
-    /// Whether the two costs of each pair are the same over the cells of a row in the block whose
-    /// first column is `left`.
+    /// Whether the two costs of each pair are the same in one row of the block whose first column
+    /// is `left`.
     #[inline]
     fn is_symmetric_in_block(&self, i: u32, left: u32) -> bool
         requires full { self.now.layout ≡ FullMatrix }
@@ -430,7 +432,7 @@ impl<'a> ListedWeights<'a> {
         same
     }
 
-    /// The first row or column past the block that begins with this one.
+    /// The first row or column after the block that begins with this one.
     #[inline]
     fn block_end(&self, first: u32) -> u32
         requires { first ≤ self.now.nodes + 1 }
@@ -445,7 +447,7 @@ impl<'a> ListedWeights<'a> {
         }
     }
 
-    /// The first node past i whose two costs with i differ.
+    /// The first node after i whose two costs with i differ.
     fn first_asymmetric_of_row(&self, i: u32) -> Option<u32>
         requires { IsNode self.now.nodes i }
         ensures { MatchOption result

@@ -1,5 +1,6 @@
-//! Tests of the value of one field: texts, points, nodes, weights, tours, families,
-//! memories, subset rows, steps of a tree.
+//! The tests of single values: is this text kept whole, is this a point, a tour, a family, a tree
+//! of cases? `specs/Validity.antt` has each test as a definition, with the limits of
+//! docs/format.md; a change of either changes which files are valid.
 
 ghost use Rattle.tsp_file.specs.Prelude.{not, cond, Some, None, length, slice_index, nat_le, map, list_all, sum_by, field_word, is_blank, is_keyword_byte, most_coordinate, most_tour_nodes, most_families, most_family_nodes, most_rows, most_branches, most_changes, on_plane, subset_row_of, subset_rows_of, row_size, step_of, steps_of, are_whole, branch_count, change_count};
 ghost use Rattle.std.specs.Prelude.{◌≡◌, ◌+◌, ◌-◌, ◌==◌, ◌||◌, ◌&&◌};
@@ -34,8 +35,8 @@ fn has_blank_end(text: &[u8]) -> bool
     }
 }
 
-/// Whether a value is one that is kept: without a byte 10, without a blank at either end, and with
-/// its keyword of at most `MOST_KEPT_BYTES` bytes.
+/// Whether a value can be kept as it is: it has no byte 10 and no blank at either end, and with its
+/// keyword at most `MOST_KEPT_BYTES` bytes.
 pub fn is_kept(keyword: &[u8], value: &[u8]) -> bool
     ensures { result ≡ is_kept keyword.now value.now }
 {
@@ -84,7 +85,7 @@ pub(crate) fn are_other_lines(lines: &[(Vec<u8>, Vec<u8>)]) -> bool
     lines.iter().all(|line| is_other(&line.0, &line.1))
 }
 
-/// Whether a coordinate is of a size of at most 10^9.
+/// Whether a coordinate is at most 10^9 in size.
 fn is_coordinate(coordinate: Decimal) -> bool
     ensures { result ≡ is_within most_coordinate coordinate }
 {
@@ -92,7 +93,7 @@ fn is_coordinate(coordinate: Decimal) -> bool
     -MOST_COORDINATE <= count && count <= MOST_COORDINATE
 }
 
-/// Whether a third coordinate is of a size of at most 10^9 in a spatial file, and 0 in another.
+/// Whether a third coordinate is at most 10^9 in size in a spatial file, and 0 in any other.
 fn is_third(spatial: bool, coordinate: Decimal) -> bool
     ensures { result ≡ is_third spatial coordinate }
 {
@@ -103,15 +104,15 @@ fn is_third(spatial: bool, coordinate: Decimal) -> bool
     }
 }
 
-/// Whether it is a point of a spatial file, or of another, with coordinates of a size of at most
-/// 10^9.
+/// Whether a point is valid in a spatial file, or in any other, with coordinates of at most 10^9 in
+/// size.
 fn is_point(spatial: bool, point: Point) -> bool
     ensures { result ≡ is_point spatial point }
 {
     is_coordinate(point.x) && is_coordinate(point.y) && is_third(spatial, point.z)
 }
 
-/// Whether the coordinates of every point of the plane are of a size of at most 10^9.
+/// Whether the coordinates of every point in the plane are at most 10^9 in size.
 fn are_within(spatial: bool, points: &[PlanePoint]) -> bool
     ensures { result ≡ list_all (λ point. is_point spatial (on_plane point.x point.y)) points.now }
 {
@@ -194,8 +195,8 @@ pub(crate) fn are_triples(n: u32, triples: &[(u32, u32, i64)]) -> bool
     triples.len() <= MOST_MULTIPLIERS && are_multipliers(n, triples)
 }
 
-/// Whether every weight is of a size of at most `MOST_WEIGHT`, there are at most `n * n` of them,
-/// and `n` is at most `MOST_MATRIX_NODES`.
+/// Whether every weight is at most `MOST_WEIGHT` in size, there are at most `n * n` of them, and
+/// `n` is at most `MOST_MATRIX_NODES`.
 pub(crate) fn fit_matrix(n: u32, weights: &[i64]) -> bool
     ensures { result ≡ fit_matrix n weights.now }
 {
@@ -211,7 +212,7 @@ fn is_node_list(tour: &[u32]) -> bool
     !tour.is_empty() && are_nodes(MOST_NODES, tour)
 }
 
-/// Whether the tours have together at most `MOST_TOUR_NODES` nodes.
+/// Whether the tours have at most `MOST_TOUR_NODES` nodes in all.
 fn have_few_nodes(tours: &[Vec<u32>]) -> bool
     ensures { result ≡ nat_le (sum_by (λ tour. length tour.items) tours.now) most_tour_nodes }
 {
@@ -232,8 +233,8 @@ fn is_each_tour(tours: &[Vec<u32>]) -> bool
     tours.iter().all(|tour| is_node_list(tour))
 }
 
-/// Whether every list is a tour by `is_node_list`, and they have together at most `MOST_TOUR_NODES`
-/// nodes.
+/// Whether every list is a tour by `is_node_list`, and they have at most `MOST_TOUR_NODES` nodes in
+/// all.
 pub(crate) fn are_tours(tours: &[Vec<u32>]) -> bool
     ensures { result ≡ (list_all (λ tour. is_node_list tour.items) tours.now
         && nat_le (sum_by (λ tour. length tour.items) tours.now) most_tour_nodes) }
@@ -270,7 +271,7 @@ fn is_each_family(n: u32, families: &[Vec<Vec<u32>>]) -> bool
     families.iter().all(|family| are_sets(n, family))
 }
 
-/// How many nodes the sets have together, if that is at most this number.
+/// How many nodes the sets have in all, if that is at most this number.
 fn nodes_of_sets(sets: &[Vec<u32>], most: usize) -> Option<usize>
     ensures { result ≡ cond (nat_le (sum_by (λ set. length set.items) sets.now) most)
         (Some (sum_by (λ set. length set.items) sets.now)) None }
@@ -285,7 +286,7 @@ fn nodes_of_sets(sets: &[Vec<u32>], most: usize) -> Option<usize>
     Some(total)
 }
 
-/// Whether the families have together at most `MOST_FAMILY_NODES` nodes.
+/// Whether the families have at most `MOST_FAMILY_NODES` nodes in all.
 fn have_few_family_nodes(families: &[Vec<Vec<u32>>]) -> bool
     ensures { result ≡ nat_le
         (sum_by (λ family. sum_by (λ set. length set.items) family.items) families.now) most_family_nodes }
@@ -300,8 +301,8 @@ fn have_few_family_nodes(families: &[Vec<Vec<u32>>]) -> bool
     true
 }
 
-/// Whether the families are of sets of nodes of 1..n, at most `MOST_FAMILIES` with together at most
-/// `MOST_FAMILY_NODES` nodes.
+/// Whether the families are of sets of nodes of 1..n, at most `MOST_FAMILIES` with at most
+/// `MOST_FAMILY_NODES` nodes in all.
 #[tactic(auto, using(crate::proofs::ValidFields::families_seen))]
 pub(crate) fn are_family_lists(n: u32, families: &[Vec<Vec<u32>>]) -> bool
     ensures { result ≡ are_family_lists n (families_of families.now) }
@@ -311,8 +312,8 @@ pub(crate) fn are_family_lists(n: u32, families: &[Vec<Vec<u32>>]) -> bool
         && have_few_family_nodes(families)
 }
 
-/// Whether the lists are of nodes of 1..n, none of them empty, with together at most
-/// `MOST_FAMILY_NODES` nodes.
+/// Whether the lists are of nodes of 1..n, none of them empty, with at most `MOST_FAMILY_NODES`
+/// nodes in all.
 #[tactic(auto, using(crate::proofs::SeenLists::memories_seen))]
 pub(crate) fn are_memory_lists(n: u32, lists: &[Vec<u32>]) -> bool
     ensures { result ≡ are_memory_lists n (map (λ list. list.items) lists.now) }
@@ -334,7 +335,7 @@ fn is_each_row(n: u32, rows: &[RowSets]) -> bool
     rows.iter().all(|row| is_row_of(n, row))
 }
 
-/// Whether the rows have together at most `MOST_FAMILY_NODES` nodes.
+/// Whether the rows have at most `MOST_FAMILY_NODES` nodes in all.
 fn have_few_row_nodes(rows: &[RowSets]) -> bool
     ensures { result ≡ nat_le (sum_by (λ row. row_size (subset_row_of row)) rows.now) most_family_nodes }
 {
@@ -349,8 +350,8 @@ fn have_few_row_nodes(rows: &[RowSets]) -> bool
     true
 }
 
-/// Whether the rows are of nodes of 1..n, at most `MOST_ROWS` with together at most
-/// `MOST_FAMILY_NODES` nodes.
+/// Whether the rows are of nodes of 1..n, at most `MOST_ROWS` with at most `MOST_FAMILY_NODES`
+/// nodes in all.
 #[tactic(auto, using(crate::proofs::SeenLists::rows_seen))]
 pub(crate) fn are_subset_rows(n: u32, rows: &[RowSets]) -> bool
     ensures { result ≡ are_subset_rows n (subset_rows_of rows.now) }
@@ -372,8 +373,8 @@ fn is_leaf_index(n: u32, index: u32) -> bool
     1 <= index && u64::from(index) <= u64::from(n) + MOST_FAMILIES as u64 + MOST_ROWS as u64
 }
 
-/// Whether an index is that of a node, of some family or of some row, and a difference is of a size
-/// of at most `MOST_DIFFERENCE`.
+/// Whether an index is that of a node, of some family or of some row, and a difference is at most
+/// `MOST_DIFFERENCE` in size.
 fn is_change(n: u32, change: (u32, i64)) -> bool
     ensures { result ≡ is_change n change }
 {
@@ -424,7 +425,7 @@ fn have_few_branches(steps: &[TreeStep]) -> bool
     total <= MOST_BRANCHES
 }
 
-/// Whether the leaves have together at most `MOST_CHANGES` differences.
+/// Whether the leaves have at most `MOST_CHANGES` differences in all.
 fn have_few_changes(steps: &[TreeStep]) -> bool
     ensures { result ≡ nat_le (change_count (steps_of steps.now)) most_changes }
 {

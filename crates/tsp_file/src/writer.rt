@@ -1,5 +1,7 @@
-//! Writes the canonical text of a file, field by field: keyword lines and trees of cases here,
-//! other sections in `writer/sections.rt`, weights in `writer/matrix.rt`.
+//! Writes the canonical text of a file, which is what `tsp convert` prints, byte for byte as
+//! `text_of` in `specs/CanonicalText.antt` has it. Here are the order of the fields, keyword lines,
+//! and the sections of certificates by branching; the others are in `writer/sections.rt`, and the
+//! weights in `writer/matrix.rt`.
 
 ghost use Rattle.tsp_file.specs.Prelude.{flat_map, option_map, None, map, [], Leaf, subset_row_of, subset_rows_of, step_of, steps_of};
 ghost use Rattle.std.specs.Prelude.{◌≡◌};
@@ -95,7 +97,7 @@ fn put_field<W: Write>(piece: &mut Piece, out: &mut Watched<W>, draft: &Draft, f
     }
 }
 
-/// Adds the text of a keyword whose value is read as a number, if the draft has it.
+/// Adds the line of a keyword whose value is a number, if the draft has it.
 fn put_keyword<W: Write>(
     piece: &mut Piece,
     out: &mut Watched<W>,
@@ -248,7 +250,7 @@ fn put_set<W: Write>(piece: &mut Piece, out: &mut Watched<W>, set: &[u32])
     put(piece, out, b"-1\n");
 }
 
-/// Adds a line for each set of a family, or for each list of a memory, and the line -1.
+/// Adds a line for each set of a family, or for each list of a memory, and then the line -1.
 fn put_family<W: Write>(piece: &mut Piece, out: &mut Watched<W>, family: &[Vec<u32>])
     ensures { Puts W.contents out.old piece.old out.new piece.new
         (family_lines (map (λ set. set.items) family.now)) }
@@ -259,7 +261,7 @@ fn put_family<W: Write>(piece: &mut Piece, out: &mut Watched<W>, family: &[Vec<u
     put(piece, out, b"-1\n");
 }
 
-/// Adds the lines of each family, and one more line -1.
+/// Adds the lines of each family, and then one more line -1.
 fn put_families<W: Write>(piece: &mut Piece, out: &mut Watched<W>, families: &[Vec<Vec<u32>>])
     ensures { Puts W.contents out.old piece.old out.new piece.new (family_list (families_of families.now)) }
 {
@@ -287,7 +289,7 @@ fn put_rows<W: Write>(piece: &mut Piece, out: &mut Watched<W>, rows: &[RowSets])
     put(piece, out, b"-1\n");
 }
 
-/// Adds the index and the difference of a number, each before a blank.
+/// Adds the index and the difference of a number, with a blank after each.
 fn put_change<W: Write>(piece: &mut Piece, out: &mut Watched<W>, index: u32, difference: i64)
     ensures { Puts W.contents out.old piece.old out.new piece.new
         (flat_map before_blank (change_words (index, difference))) }
@@ -296,7 +298,7 @@ fn put_change<W: Write>(piece: &mut Piece, out: &mut Watched<W>, index: u32, dif
     put_before_blank(piece, out, difference);
 }
 
-/// Adds the indices and the differences of numbers, each before a blank.
+/// Adds the indexes and the differences of numbers, with a blank after each.
 fn put_changes<W: Write>(piece: &mut Piece, out: &mut Watched<W>, changes: &[(u32, i64)])
     ensures { Puts W.contents out.old piece.old out.new piece.new
         (flat_map before_blank (flat_map change_words changes.now)) }

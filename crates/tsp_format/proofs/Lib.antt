@@ -1,4 +1,4 @@
--- The files of lemmas of this crate. Crates above may import them.
+-- Lemmas on the cells of a matrix and their places, and a few on lists that std lacks.
 pub mod Basics
 pub mod Pairs
 pub mod Places

@@ -1,4 +1,4 @@
--- The place and the word of a field, the cells of small layouts, and costs of three nodes.
+-- Short names for the rows of src/examples.rt: a field at its place, the cells of a small layout, costs of three nodes.
 use Rattle.std.specs.Prelude.{◌≡◌, ℕ, ◌+◌, ◌-◌, ◌*◌, List, map, slice_index_or, ℤ, pos}
 use Rattle.tsp_format.specs.declared.keyword.Field.{Field}
 use Rattle.tsp_format.specs.declared.keyword.Field.TheVariants.{OtherKey}

@@ -1,4 +1,4 @@
--- The files of definitions of this crate. Crates above may import them.
+-- Definitions for everything in TSPLIB 95 that needs no file: words, limits, nodes, cells of a matrix, steps of a tree.
 pub mod states
 pub mod Words
 pub mod Nodes

@@ -1,5 +1,6 @@
 -- Circles 1 and 3 of docs/trust.md.
--- The steps of a tree of cases, as BRANCH_SECTION lists them, subset rows, and ranges of whole numbers.
+-- The steps of a tree of cases, as BRANCH_SECTION lists them, subset rows, and ranges of whole numbers: what
+-- certificates by branching are made of, for tours and for routes.
 use Rattle.std.specs.Prelude.{ℤ, ◌≤ℤ◌, ℕ, zero, suc, ◌+◌, Bool, true, false, List, [], ◌∷◌, length}
 
 -- z is from `least` to `most`

@@ -1,7 +1,8 @@
-//! Laws that state values of the definitions in `specs/`, worked out by hand: words of fields and
-//! kinds, blanks, cells of layouts, limits.
+//! Words, blanks, cells of small layouts and limits, worked out by hand and stated as laws about
+//! the definitions in `specs/`. A new word or layout needs a row, since nothing else notices if
+//! code and definition are wrong alike.
 
-ghost use Rattle.std.specs.Prelude.{◌≡◌, ℕ, ◌-◌, ◌*◌, ◌^◌, true, false, List, [], ◌∷◌, length, None, Some, pos, negsuc, codes};
+ghost use Rattle.std.specs.Prelude.{◌≡◌, ◌-◌, ◌*◌, ◌^◌, true, false, [], ◌∷◌, length, None, Some, pos, negsuc, codes};
 ghost use Rattle.tsp_format.specs.declared.keyword.Field.TheVariants as fields;
 ghost use Rattle.tsp_format.specs.declared.keyword.Shape.TheVariants as shapes;
 ghost use Rattle.tsp_format.specs.declared.keyword.ValueShape.TheVariants as values;
@@ -52,7 +53,7 @@ pub fn examples_of_fields()
     ensures no_more { length fields_in_order ≡ 27 }
 {}
 
-/// What keywords are that are no field's word, and what bytes are.
+/// What keywords mean that aren't the word of a field, and what bytes are.
 pub fn examples_of_bytes()
     ensures other_word { keyword_of (codes "FIXED_EDGES") ≡ keywords.Known fields.FixedEdgesPart }
     ensures data_format { keyword_of (codes "EDGE_DATA_FORMAT") ≡ keywords.EdgeDataFormat }

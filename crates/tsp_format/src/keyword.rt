@@ -1,6 +1,7 @@
-//! The fields of a file (`Field`), the shape of their sections and values, and which field the
-//! first word of a line names (`Keyword`). Also all limits of files (`MOST_..`), as
-//! `specs/Limits.antt` has them.
+//! Every keyword and section of a file, as the enum `Field`, along with the shape of what follows
+//! it; and `Keyword`, what the first word of a line names. `specs/Words.antt` has the spellings and
+//! `specs/Limits.antt` the shapes. A new field begins here (docs/ARCHITECTURE.md, "How a field is
+//! added").
 
 ghost use Rattle.std.specs.Prelude.{◌≡◌};
 ghost use Rattle.tsp_format.specs.Limits.{keyword_of, field_of, known_or_not, shape_of, value_shape_of};
@@ -13,10 +14,10 @@ use crate::limits::{
 use crate::word::{Word, value_of};
 use std::fmt;
 
-/// What the first word of a line is as a keyword.
+/// What the first word of a line means as a keyword.
 #[derive(Clone, Copy, Debug, PartialEq, Eq)]
 pub enum Keyword {
-    /// The keyword or the section of a field, by its own word or, for fixed edges, by another.
+    /// A field's keyword or section, by its own word or, for fixed edges, by another one.
     Known(Field),
     /// EDGE_DATA_FORMAT, which is refused.
     EdgeDataFormat,
@@ -24,14 +25,14 @@ pub enum Keyword {
     EdgeDataSection,
     /// The end of the file.
     Eof,
-    /// Every other word.
+    /// Any other word.
     Unknown,
 }
 
 impl Keyword {
-    /// The keyword that a word is; letters have to match in case.
+    /// What a word means. Upper and lower case differ.
     ///
-    /// `FIXED_EDGES` and `FIXED_EDGES_SECTION` are one section.
+    /// `FIXED_EDGES` and `FIXED_EDGES_SECTION` are the same section.
     pub fn of(word: &[u8]) -> Keyword
         ensures { result ≡ keyword_of word.now }
     {
@@ -68,13 +69,13 @@ fn known_or_not(field: Option<Field>) -> Keyword
 
 // ---- the keywords and sections of a file
 
-/// A keyword or a section of a file, in canonical order; its text is the TSPLIB word.
+/// A keyword or a section of a file, in canonical order. It is displayed as its TSPLIB word.
 #[derive(Clone, Copy, Debug, PartialEq, Eq)]
 pub enum Field {
     NameKey,
     TypeKey,
     CommentKey,
-    /// The unknown keywords; its text is `others`.
+    /// The unknown keywords, displayed as `others`.
     OtherKey,
     DimensionKey,
     CapacityKey,
@@ -101,46 +102,47 @@ pub enum Field {
     BranchPart,
 }
 
-/// What each word of a section is: a node, a coordinate, a weight and so on.
+/// The shape of a section: what each of its words means.
 #[derive(Clone, Copy, Debug, PartialEq, Eq)]
 pub enum Shape {
-    /// For each node a whole number from `low` to `high`.
+    /// A whole number from `low` to `high` for each node.
     Numbers { low: i64, high: i64 },
-    /// For each node a point of the plane.
+    /// A point in the plane for each node.
     Points,
-    /// For each node a point with three coordinates.
+    /// A point with three coordinates for each node.
     SpacePoints,
-    /// Nodes, up to a -1.
+    /// Nodes, ended by a -1.
     Depots,
-    /// Pairs of nodes, up to a -1.
+    /// Pairs of nodes, ended by a -1.
     Pairs,
     /// The weights of a matrix.
     Weights,
-    /// Runs of nodes, each up to a -1.
+    /// Lists of nodes, each ended by a -1.
     Tours,
-    /// Pairs of nodes with a number each, up to a -1.
+    /// Pairs of nodes with a number each, ended by a -1.
     Triples,
-    /// Families, each of sets of nodes up to a -1, up to one more -1; a third ends the list.
+    /// Families of sets of nodes. A -1 ends each set, another one the family, and a third one the
+    /// section.
     Families,
-    /// Lists of nodes, each up to a -1; one more -1 ends the list.
+    /// Lists of nodes, each ended by a -1. One more -1 ends the section.
     Memories,
-    /// Rows, each of two lists of nodes up to a -1, the second of which may be empty; one more -1
-    /// ends the list.
+    /// Rows of two lists of nodes, each ended by a -1. The second list may be empty. One more -1
+    /// ends the section.
     SubsetRows,
     /// The steps of a tree of cases.
     Steps,
 }
 
-/// What the value of a keyword is read as.
+/// The shape of a keyword's value: what it is read as.
 #[derive(Clone, Copy, Debug, PartialEq, Eq)]
 pub enum ValueShape {
-    /// Bytes that are kept as they are, of one line.
+    /// The bytes of the value, kept as they are. The keyword may come once.
     Kept,
-    /// Bytes that are kept as they are, of each line that has the keyword.
+    /// The bytes of each value, kept as they are. The keyword may repeat.
     KeptEach,
-    /// A whole number from `low` to `high`: the first word.
+    /// The first word, as a whole number from `low` to `high`.
     Number { low: i64, high: i64 },
-    /// One of a list of words: the first word.
+    /// The first word, as one from a list of words.
     Word,
 }
 
@@ -176,7 +178,7 @@ impl Field {
         Field::BranchPart,
     ];
 
-    /// What the words of a section are, in a file that is spatial or not; nothing of a keyword.
+    /// The shape of a section, in a file that is spatial or isn't; `None` for a keyword.
     pub fn shape(self, spatial: bool) -> Option<Shape>
         ensures { result ≡ shape_of spatial self }
     {
@@ -206,7 +208,7 @@ impl Field {
         }
     }
 
-    /// What the value of a keyword is read as; nothing of a section, nor of the unknown keywords.
+    /// The shape of a keyword's value; `None` for a section, and for the unknown keywords.
     pub fn value_shape(self) -> Option<ValueShape>
         ensures { result ≡ value_shape_of self }
     {

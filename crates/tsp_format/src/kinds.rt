@@ -1,5 +1,6 @@
-//! The accepted values of TYPE, EDGE_WEIGHT_TYPE, EDGE_WEIGHT_FORMAT, NODE_COORD_TYPE and
-//! DISPLAY_DATA_TYPE, as enums.
+//! The values that TYPE, EDGE_WEIGHT_TYPE, EDGE_WEIGHT_FORMAT, NODE_COORD_TYPE and
+//! DISPLAY_DATA_TYPE accept, an enum for each. A value that isn't listed is a fault in any file
+//! that has it, so these lists and `specs/Words.antt` decide which files `tsp` reads.
 
 ghost use Rattle.std.specs.Prelude.{◌≡◌};
 ghost use Rattle.tsp_format.specs.Words.{weighs_three, is_spatial, kind_word, weight_kind_word, weight_format_word, coord_kind_word, display_kind_word, kinds, weight_kinds, weight_formats, coord_kinds, display_kinds, kind_found, weight_kind_found, weight_format_found, coord_kind_found, display_kind_found};
@@ -7,7 +8,7 @@ ghost use Rattle.tsp_format.specs.Words.{weighs_three, is_spatial, kind_word, we
 use crate::layout::Layout;
 use crate::word::Word;
 
-/// What a file holds (TYPE).
+/// What a file contains (TYPE).
 #[derive(Clone, Copy, Debug, PartialEq, Eq)]
 pub enum Kind {
     /// A symmetric travelling salesman problem.
@@ -59,7 +60,7 @@ impl Word for Kind {
     }
 }
 
-/// If edge weights come from (EDGE_WEIGHT_TYPE).
+/// Where edge weights come from (EDGE_WEIGHT_TYPE).
 #[derive(Clone, Copy, Debug, PartialEq, Eq)]
 pub enum WeightKind {
     /// The weights are listed.
@@ -68,17 +69,17 @@ pub enum WeightKind {
     Euc2d,
     /// The straight distance, rounded up.
     Ceil2d,
-    /// The sum of both differences along the axes, rounded.
+    /// The sum of the differences along both axes, rounded.
     Man2d,
-    /// The larger of both differences along the axes, rounded.
+    /// The larger of the differences along both axes, rounded.
     Max2d,
     /// The pseudo-Euclidean distance of the instances att48 and att532.
     Att,
     /// The straight distance in space, rounded.
     Euc3d,
-    /// The sum of the three ways along the axes, rounded.
+    /// The sum of the differences along the three axes, rounded.
     Man3d,
-    /// The longest of the three ways along the axes, rounded.
+    /// The largest of the differences along the three axes, rounded.
     Max3d,
 }
 
@@ -96,7 +97,7 @@ impl WeightKind {
         WeightKind::Max3d,
     ];
 
-    /// Whether this is a distance of points with three coordinates.
+    /// Whether this is a distance between points with three coordinates.
     pub fn weighs_three(self) -> bool
         ensures { result ≡ weighs_three self }
     {
@@ -136,9 +137,9 @@ impl Word for WeightKind {
 /// How edge weights are given (EDGE_WEIGHT_FORMAT).
 #[derive(Clone, Copy, Debug, PartialEq, Eq)]
 pub enum WeightFormat {
-    /// By the function of the weight kind.
+    /// By the function that the weight type names.
     ByFunction,
-    /// Listed under a layout.
+    /// Listed in a layout.
     Listed(Layout),
 }
 
@@ -179,7 +180,7 @@ impl Word for WeightFormat {
 
 /// How many coordinates a node has (NODE_COORD_TYPE).
 ///
-/// `ThreeD` makes a file spatial, see [`is_spatial`]; the others are kept and not judged.
+/// `ThreeD` makes a file spatial (see [`is_spatial`]). The others are kept and not judged.
 #[derive(Clone, Copy, Debug, PartialEq, Eq)]
 pub enum CoordKind {
     TwoD,
@@ -212,8 +213,8 @@ impl Word for CoordKind {
     }
 }
 
-/// Whether the points of a file's nodes have three coordinates: its coordinate kind says so, or it
-/// weighs by three.
+/// Whether a file is spatial: its nodes have three coordinates, by NODE_COORD_TYPE or by
+/// EDGE_WEIGHT_TYPE.
 pub fn is_spatial(coord_kind: Option<CoordKind>, weight_kind: Option<WeightKind>) -> bool
     ensures { result ≡ is_spatial coord_kind weight_kind }
 {

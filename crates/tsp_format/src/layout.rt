@@ -1,4 +1,6 @@
-//! The layouts of a matrix of weights, as G. Reinelt's TSPLIB 95 names them, and their cells.
+//! The layouts in which G. Reinelt's TSPLIB 95 lists a matrix, such as UPPER_ROW: which pairs of
+//! nodes each contains, and in which order. The order is `cells` in `specs/Nodes.antt`; `place.rt`
+//! has its inverse, from a pair to its place.
 
 ghost use Rattle.std.specs.Prelude.{◌≡◌, ◌≢◌, ℕ, ◌≤◌, ◌↔◌, IsTrue, IsNone, length};
 ghost use Rattle.std.specs.List.{Contains, AllPairs, flat_map};
@@ -58,7 +60,7 @@ impl Layout {
         )
     }
 
-    /// The number of cells in a matrix over this many nodes.
+    /// The number of cells that it lists for this many nodes.
     #[tactic(auto, using(crate::proofs::Pairs::cells_counted))]
     pub fn cell_count(self, nodes: u32) -> u64
         ensures count { result ≡ length (cells self nodes) }
@@ -123,7 +125,7 @@ impl Word for Layout {
 
 /// No cell of a layout appears twice in its list.
 ///
-/// No code calls it. It shows a reader that the definition `cells` lists no weight twice.
+/// No code calls it. It is here for readers: the definition `cells` lists no weight twice.
 pub fn cells_are_distinct()
     ensures { (layout : Layout) (n : ℕ) → AllPairs (λ a b. a ≢ b) (cells layout n) }
 {}
@@ -137,7 +139,7 @@ pub fn cells_are_the_listed_pairs()
 
 /// The cells of a layout are those of its lines, from line 1 to line n, one line after the other.
 ///
-/// No code calls it. It shows a reader that the definition `cells` has the order of the format.
+/// No code calls it. It is here for readers: the definition `cells` has the order of the format.
 pub fn cells_go_line_by_line()
     ensures { (layout : Layout) (n : ℕ) →
         cells layout n ≡ flat_map (cells_of_line layout n) (nodes_to n) }

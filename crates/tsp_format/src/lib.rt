@@ -1,6 +1,6 @@
 //! The words of TSPLIB 95 as values, the layouts of a matrix, and the limits of files.
 //!
-//! It has what needs no file. The fields of a file are tsp_file's, its text is tsp_text's.
+//! Nothing here needs a file: the fields of one are in tsp_file, and its text is in tsp_text.
 //!
 //! ```text
 //! let kind: Option<Kind> = value_of(b"ATSP");

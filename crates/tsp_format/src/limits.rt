@@ -1,4 +1,7 @@
-//! The limits of this project's profile of TSPLIB 95: how large a file, its sections and its numbers may be.
+//! How large a file, its sections and its numbers may be. These limits are this project's own, not
+//! TSPLIB's, and users read them in docs/format.md. `specs/Limits.antt` has each again, and the law
+//! at the end refuses a difference. Proofs against overflow rest on them, so raising one can cost
+//! work in any crate.
 
 ghost use Rattle.std.specs.Prelude.{◌≡◌, pos};
 ghost use Rattle.tsp_format.specs.Limits.{most_nodes, most_matrix_nodes, most_coordinate, most_weight, most_demand, most_capacity, most_scale, most_load_unit, most_potential, most_word_bytes, most_line_bytes, most_kept_bytes, most_comments, most_others, most_depots, most_fixed, most_triples, most_multiplier, most_tour_nodes, most_families, most_family_nodes, most_rows, most_branches, most_changes, most_difference, most_file_bytes};
@@ -58,13 +61,14 @@ pub const MOST_MULTIPLIERS: usize = 100_000;
 /// The largest multiplier; the smallest is 0.
 pub const MOST_MULTIPLIER: i64 = 1_000_000_000_000_000;
 
-/// The most nodes of all tours of a file.
+/// The most nodes in all tours of a file together.
 pub const MOST_TOUR_NODES: usize = 1_000_000;
 
 /// The most families.
 pub const MOST_FAMILIES: usize = 10_000;
 
-/// The most nodes of all families of a file, of all lists of its memory, and of all its subset rows.
+/// The most nodes in all families of a file together. The same limit holds for its memory and for
+/// its subset rows.
 pub const MOST_FAMILY_NODES: usize = 1_000_000;
 
 /// The most subset rows.
@@ -73,7 +77,7 @@ pub const MOST_ROWS: usize = 10_000;
 /// The most branches of a tree of cases.
 pub const MOST_BRANCHES: usize = 1_000_000;
 
-/// The most differences of all leaves of a tree of cases.
+/// The most differences in all leaves of a tree of cases together.
 pub const MOST_CHANGES: usize = 10_000_000;
 
 /// The largest size of a difference.
@@ -82,9 +86,9 @@ pub const MOST_DIFFERENCE: i64 = 2_000_000_000_000_000;
 /// The most bytes of a file: 2^30.
 pub const MOST_FILE_BYTES: usize = 1_073_741_824;
 
-/// Each limit is the number that the definitions have for it.
+/// Each limit equals its definition.
 ///
-/// No code calls it. It is for whoever changes a limit: the prover refuses one that differs from
+/// No code calls it. If you change a limit only here, the prover refuses the difference from
 /// `specs/Limits.antt`.
 pub fn limits_are_those_of_the_profile()
     ensures nodes { MOST_NODES ≡ most_nodes }

@@ -1,4 +1,6 @@
-//! The place of a cell in the list of its layout, by arithmetic.
+//! Where the weight of a pair is in the list of a matrix, by arithmetic: every lookup of a listed
+//! cost takes this way. `place_of` in `specs/Place.antt` is the formula, and the contracts here tie
+//! it to the order of the cells in `specs/Nodes.antt`.
 
 ghost use Rattle.std.specs.Prelude.{◌≡◌, ◌<◌, ◌≤◌, ◌^◌, ◌+◌, ◌*◌, Some, None, ℕ, IsTrue, length, slice_index_or};
 ghost use Rattle.std.specs.List.{Contains};
@@ -9,8 +11,8 @@ ghost use Rattle.tsp_format.specs.Place.{place_of, place_by_table, upper_place, 
 use crate::layout::Layout;
 
 impl Layout {
-    /// Whether the layout lists the pair (i, j): all pairs, or those with i below j, above it, at
-    /// most j or at least j.
+    /// Whether the layout lists the pair (i, j). A full matrix lists all pairs, the halves those
+    /// with i below j, above it, at most j, or at least j.
     #[inline]
     pub fn lists(self, i: u32, j: u32) -> bool
         ensures { result ≡ is_listed self (i, j) }
@@ -42,8 +44,7 @@ impl Layout {
         place_by_table(self, nodes as usize, i as usize, j as usize)
     }
 
-    /// The cell at an index of one row, or of one column for a layout by columns; the index counts
-    /// from 0.
+    /// The cell at an index in one row, counted from 0; in one column for a layout by columns.
     ///
     /// # Requires
     ///
@@ -69,7 +70,7 @@ impl Layout {
     }
 }
 
-/// A pair that isn't a cell of a layout has no place among its cells.
+/// A pair that the layout doesn't list has no place.
 pub fn only_cells_have_places()
     ensures { (layout : Layout) (n : ℕ) (pair : ℕ × ℕ)
         → ¬ Contains (cells layout n) pair → place_of layout n pair ≡ None }

@@ -1,5 +1,6 @@
-//! Values that TSPLIB 95 has a word for, `value_of`, which finds the value of a word, and the bytes of
-//! blanks, letters and keywords.
+//! `Word`, the trait of values that have a word in TSPLIB 95, and `value_of`, which finds the value
+//! of a word. Also which bytes are blanks, letters or part of a keyword: a change there changes how
+//! every text is cut.
 
 ghost use Rattle.std.specs.List.{find};
 ghost use Rattle.std.specs.Prelude.{◌≡◌, ◌≢◌, ℕ, List, ◌↔◌, IsNone, Some};
@@ -61,7 +62,7 @@ pub fn is_letter(byte: u8) -> bool
     (65 <= byte && byte <= 90) || (97 <= byte && byte <= 122)
 }
 
-/// Whether a byte may be part of a keyword: it is no blank, no byte 10 and no colon.
+/// Whether a byte may be part of a keyword: it isn't a blank, a byte 10 or a colon.
 pub fn is_keyword_byte(byte: u8) -> bool
     ensures { result ≡ is_keyword_byte byte }
 {

@@ -1,4 +1,6 @@
--- Texts that are carried to a writer part by part (`Puts`, src/piece.rt), and what the writer has taken.
+-- How a text gets to a writer in parts (`Puts`, src/piece.rt): parts add up, a failed writer gets nothing more, and
+-- after the last part the whole text was taken or a prefix of it. Each writer of lines in higher crates is proved by
+-- these.
 use Rattle.std.proofs.Common.{◌≡◌, ℕ, ◌+◌, Bool, true, false, List, [], ◌∷◌, ◌++◌, length, take, drop, Option, refl, sym, ap, subst, ◌∙◌, append_assoc, append-nil, arith, ◌<◌, ◌≤◌, get_or, map, ◌==◌}
 use Rattle.std.proofs.KnownBytes.{Appends-nil, Appends-trans, Appends-kept}
 use Rattle.std.proofs.Math.Seq.{take-append_seam}

@@ -1,2 +1,2 @@
--- The files of lemmas of this crate. Crates above may import them.
+-- Lemmas on texts that reach a writer in parts. Public, because crates that write lines are proved by them.
 pub mod Carrying

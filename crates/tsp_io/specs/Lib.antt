@@ -1,3 +1,3 @@
--- The files of definitions of this crate. Crates above may import them.
+-- Definitions of what a call does to a reader or a writer (Streams), and of how this crate sees one (`states`).
 pub mod states
 pub mod Streams

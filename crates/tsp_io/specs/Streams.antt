@@ -1,5 +1,6 @@
 -- Circle 2 of docs/trust.md.
--- A reader and a writer before and after a call: the bytes that were delivered or taken, and whether it failed.
+-- A reader and a writer before and after a call: the bytes that were delivered or taken, and whether it failed. The
+-- contract of every run is stated in these words, including what a failed write leaves behind.
 use Rattle.std.specs.Io.KnownBytes.{Keeps, Consumes, Appends}
 use Rattle.std.specs.Prelude.{◌≡◌, ℕ, ◌≤◌, Bool, true, false, List, length, Option, IfSome, take, Result, Ok, Err, codes}
 use Rattle.tsp_io.specs.declared.piece.WriteFault.{WriteFault}

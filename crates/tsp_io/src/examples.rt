@@ -1,5 +1,6 @@
-//! Laws that state values of the definitions in `specs/`, worked out by hand: which results of a
-//! writer are failures, and the texts of faults.
+//! Which results of a write are failures, and the printed word for each fault: values of
+//! `write_fails` and `write_fault_text`, stated as laws, because proofs alone would follow a change
+//! of these definitions.
 
 ghost use Rattle.std.specs.Prelude.{◌≡◌, true, false, [], ◌∷◌, Ok, Err, codes};
 ghost use Rattle.std.specs.declared.io.Error.{Error};
@@ -7,9 +8,9 @@ ghost use Rattle.tsp_io.specs.declared.piece.WriteFault.TheVariants as faults;
 ghost use Rattle.tsp_io.specs.Streams.{write_fault_text};
 ghost use Rattle.tsp_io.specs.states.Watched.{write_fails};
 
-/// Which writes fail: those that return an error, also of an empty text, and those that take no
-/// byte of a text that has some. A part that is taken is no failure, and neither is no byte of no
-/// text.
+/// Which writes fail: those that return an error, even for an empty text, and those that take no
+/// byte of a text that has some. Taking a part isn't a failure, and neither is taking nothing of an
+/// empty text.
 pub fn examples_of_failed_writes()
     ensures nothing_of_nothing { write_fails {E = Error} (Ok 0) [] ≡ false }
     ensures nothing_of_a_byte { write_fails {E = Error} (Ok 0) (1 ∷ []) ≡ true }

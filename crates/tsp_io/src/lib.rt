@@ -2,7 +2,7 @@
 //!
 //! It knows nothing of TSPLIB. A [`Watched`] value that has failed isn't asked again by the crates
 //! above, and an interrupted call counts as failed. Only the calls here make the token [`Refused`],
-//! so a function whose error it is can't claim to be out of memory on its own.
+//! so a function with this error can't claim on its own to be out of memory.
 //!
 //! ```text
 //! let mut out = Watched::new(writer);

@@ -1,21 +1,22 @@
-//! Calls that take memory for vectors and sets, and `Refused`, the error of each. Only calls of this
-//! crate make one.
+//! The calls that take memory for lists and sets. Their error `Refused` can be made only in this
+//! crate, and only where std refused to grow: an error that carries one proves that memory was
+//! refused. A new call has to keep to this.
 
-ghost use Rattle.std.specs.BTreeSet.{contains, Updates};
+ghost use Rattle.std.specs.BTreeSet.{contains, Updates, IsUnchanged};
 ghost use Rattle.std.specs.List.Sorted.{IsPermutation, IsSorted};
-ghost use Rattle.std.specs.Prelude.{◌≡◌, ◌+◌, ◌++◌, [], ◌∷◌, IfOk, OnOk, MatchResult, length, vec_len, vec_capacity, replicate, true, not};
+ghost use Rattle.std.specs.Prelude.{◌≡◌, ◌+◌, ◌++◌, [], ◌∷◌, IfOk, OnErr, OnOk, MatchResult, length, vec_len, vec_capacity, replicate, false, true, not};
 
 use std::alloc::{AllocError, Global};
 use std::collections::BTreeSet;
 
-/// Memory was refused. Only the calls of this crate make one, each when std refused to grow.
+/// Out of memory. Only the calls of this crate make this token, each when std refused to grow.
 #[derive(Clone, Copy, Debug, Drop)]
 pub struct Refused {
     error: AllocError,
 }
 
 impl Refused {
-    /// The token of a refusal by std, whose error this is.
+    /// The token for this error, with which std refused memory.
     pub(crate) fn of(error: AllocError) -> Refused {
         Refused { error }
     }
@@ -45,7 +46,7 @@ pub fn with_capacity<T>(alloc: Global, capacity: usize) -> Result<Vec<T>, Refuse
     }
 }
 
-/// A list of this many elements, each the same.
+/// A list with this many equal elements.
 ///
 /// # Errors
 ///
@@ -98,7 +99,7 @@ pub fn copied<T: Copy + Clone>(alloc: Global, elements: &[T]) -> Result<Vec<T>, 
     }
 }
 
-/// Sorts a list, whose equal elements keep their order.
+/// Sorts a list. Equal elements keep their order.
 ///
 /// # Errors
 ///
@@ -116,14 +117,16 @@ pub fn sort<T: Ord>(list: &mut Vec<T>) -> Result<(), Refused>
 
 // ---- the call that adds a key to an ordered set, or returns `Refused`
 
-/// Adds a key to a set, and returns whether it is new there.
+/// Adds a key to a set, and returns whether it is new.
 ///
 /// # Errors
 ///
-/// Out of memory.
+/// Out of memory, which only a new key can need; the set stays as it was.
 pub fn insert<K: Ord + Drop>(set: &mut BTreeSet<K>, key: K) -> Result<bool, Refused>
     ensures added { IfOk result (λ added. added ≡ not (contains K.cmp set.old key)) }
     ensures updates { OnOk result (Updates K.cmp set.old set.new key true) }
+    ensures absent { OnErr result (contains K.cmp set.old key ≡ false) }
+    ensures unchanged { OnErr result (IsUnchanged set.old set.new) }
 {
     match set.insert(key) {
         Ok(added) => Ok(added),

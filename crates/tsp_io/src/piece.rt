@@ -1,8 +1,9 @@
-//! The buffer of 4,096 bytes between a text and its writer. The reports of tsp_report and the
-//! canonical texts of tsp_file are written through one.
+//! The way out of every report and canonical text: bytes gather in a buffer of 4,096 and go to the
+//! writer when it is full. `Puts` in `specs/states/Watched.antt` says that none is lost, added or
+//! moved, so the size of the buffer matters only for speed.
 //!
-//! A failure sticks: a writer that has failed gets nothing more, so that whoever adds to a text
-//! need not look at each outcome.
+//! A failure sticks: a writer that has failed gets nothing more, so code that adds to a text need
+//! not look at each outcome.
 
 ghost use Rattle.std.specs.Io.KnownBytes.{Appends};
 ghost use Rattle.std.specs.Prelude.{◌≡◌, [], ◌∷◌, ◌≤◌, ◌<◌, Result, ℕ, true, false, length, take};
@@ -20,10 +21,10 @@ use thiserror::Error;
 /// The most bytes of a piece.
 pub const PIECE: usize = 4_096;
 
-/// The end of a text that hasn't been written yet.
+/// The bytes at the end of a text that wait to be written.
 pub type Piece = ArrayVec<u8, PIECE>;
 
-/// Sends the piece to the writer and begins a new one.
+/// Sends the piece to the writer, and begins a new one.
 #[cold]
 pub fn hand_over<W: Write>(piece: &mut Piece, out: &mut Watched<W>)
     ensures carried { Puts W.contents out.old piece.old out.new piece.new [] }
@@ -43,7 +44,7 @@ pub fn put<W: Write>(piece: &mut Piece, out: &mut Watched<W>, bytes: &[u8])
     }
     hand_over(piece, out);
     if piece.try_extend_from_slice(bytes).is_err() {
-        // More than a whole piece: it goes to the writer as it is.
+        // It is longer than a whole piece, so it goes to the writer directly.
         send(out, bytes);
     }
 }
@@ -114,8 +115,8 @@ pub fn send<W: Write>(out: &mut Watched<W>, text: &[u8])
     }
 }
 
-/// Makes one write, and returns how many bytes the writer took. That is 0 if it fails; then `out`
-/// remembers the failure, and what the system said.
+/// Makes one write, and returns how many bytes the writer took. If it fails, the result is 0, and
+/// `out` remembers the failure and what the system said.
 fn send_part<W: Takes>(out: &mut Watched<W>, text: &[u8]) -> usize
     ensures part { result ≤ length text.now }
     ensures bytes { Appends (W.contents (watched out.old))

@@ -1,6 +1,5 @@
-//! A model of a reader with known answers, which no other file uses. It shows what no clause of
-//! `Read` can say: a watched reader is asked once for each call, and its answer is returned as it
-//! is.
+//! A reader whose answers are known, for a law that no clause of `Read` can state: a watched reader
+//! is asked once for each call, and its answer comes back unchanged. The program never uses it.
 
 ghost use Rattle.std.specs.Prelude.{◌≡◌, is_err, ◌||◌};
 ghost use Rattle.tsp_io.specs.states.Watched.{watched, has_failed, answers_of, AnswersNext};
@@ -8,7 +7,8 @@ ghost use Rattle.tsp_io.specs.states.Watched.{watched, has_failed, answers_of, A
 use crate::watched::Watched;
 use std::io;
 
-/// A reader that gives these answers, the last of the list first, and then that its text has ended.
+/// A reader that gives these answers, the last one in the list first, and after them the end of its
+/// text.
 #[derive(Debug, Drop)]
 pub struct Script {
     pub answers: Vec<io::Result<usize>>,
@@ -26,9 +26,8 @@ impl Script {
     }
 }
 
-/// A watched script returns its next answer, and only that answer is used up. So the answers that
-/// come out, call by call, are those that went in, one for one. The script is asked through `ask`,
-/// like every reader and writer.
+/// A watched script returns its next answer, and uses up only that one. So call by call the answers
+/// come out as they went in. The script is asked through `ask`, like every reader and writer.
 pub fn answers_go_through(script: &mut Watched<Script>) -> io::Result<usize>
     ensures next { AnswersNext (answers_of (watched script.old)) result
         (answers_of (watched script.new)) }

@@ -1,5 +1,6 @@
-//! Readers and writers that remember whether they have failed (`Watched`), and the traits of one that
-//! is called once. A contract over a trait says that it was called once and its result returned.
+//! `Watched` wraps each reader and writer of a run, and remembers whether it failed: `device` in a
+//! report rests on this flag. The traits `Gives` and `Takes` keep secret what a call may answer, so
+//! a clause that names `gives` or `takes` proves that exactly one call was made.
 
 ghost use Rattle.std.specs.Io.{ReadsAtMost, WritesAtMost};
 ghost use Rattle.std.specs.Io.KnownBytes.{ReadConsumes, WriteAppends, Keeps};
@@ -12,10 +13,11 @@ use std::io::{self, Read, Write};
 
 /// A reader that can be asked once.
 ///
-/// Every reader is one. Code over a `T: Gives` knows nothing of `T.gives`, so what ensures it has
-/// asked the reader exactly once and returns its result unchanged.
+/// Every reader is one. Code over a `T: Gives` knows nothing about `T.gives`, so if it ensures
+/// `T.gives`, it has asked the reader exactly once and returned its result unchanged.
 pub trait Gives: Read {
-    /// Whether one read of a reader, into a buffer, may return this and leave both so.
+    /// Whether one read into a buffer may return this result, and leave the buffer and the reader
+    /// so.
     ghost gives: { Self → List ℕ → Result ℕ Error → List ℕ → Self → Type 0 };
 
     /// Reads once.
@@ -36,10 +38,10 @@ impl<R: Read> Gives for R {
 
 /// A writer that can be asked once, to write or to flush. Every writer is one.
 pub trait Takes: Write {
-    /// Whether one write of a text may return this and leave the writer so.
+    /// Whether one write of a text may return this result, and leave the writer so.
     ghost takes: { Self → List ℕ → Result ℕ Error → Self → Type 0 };
 
-    /// Whether one flush may return this and leave the writer so.
+    /// Whether one flush may return this result, and leave the writer so.
     ghost flushes: { Self → Result (Unit {0}) Error → Self → Type 0 };
 
     /// Writes once.
@@ -73,19 +75,19 @@ impl<W: Write> Takes for W {
 
 /// A reader or a writer that remembers whether one of its reads or writes has failed.
 ///
-/// It is a `Read` if `T` is one and a `Write` if `T` is one, with `T`'s bytes. It has failed
-/// from the first read or write on that returns an error, an interruption among them, or that
-/// takes no byte of a text that isn't empty. An error of `flush` counts as one of a write.
+/// It implements `Read` or `Write` if `T` does, with the same bytes. It has failed from the first
+/// read or write on that returns an error, even an interruption, or that takes no byte of a text
+/// that isn't empty. An error of `flush` counts, too.
 #[derive(Debug, Drop)]
 pub struct Watched<T> {
     inner: T,
     failed: bool,
-    /// What the system said of the failure, if a caller has kept it.
+    /// What the system said about the failure, if a caller has kept it.
     error: Option<io::Error>,
 }
 
 impl<T> Watched<T> {
-    /// A watched reader or writer that has not failed yet.
+    /// Wraps a reader or writer, as one that has not failed.
     pub fn new(inner: T) -> Watched<T>
         ensures inner { watched result ≡ inner }
         ensures sound { has_failed result ≡ false }
@@ -118,15 +120,14 @@ impl<T> Watched<T> {
         inner
     }
 
-    /// What the system said of the failure that ended a text; nothing if none was kept.
+    /// What the system said about the failure that ended a text; `None` if it wasn't kept.
     pub fn error(&self) -> Option<&io::Error>
         ensures { option_map (λ error. error.now) result ≡ error_of self.now }
     {
         self.error.as_ref()
     }
 
-    /// Keeps what the system said of a failure, for a person. Nothing else of the reader or writer
-    /// is changed.
+    /// Keeps what the system said about a failure, to be shown to a person. Nothing else changes.
     pub fn keep_error(&mut self, error: io::Error)
         ensures inner { watched self.new ≡ watched self.old }
         ensures failed { has_failed self.new ≡ has_failed self.old }
@@ -135,9 +136,9 @@ impl<T> Watched<T> {
         self.error = Some(error);
     }
 
-    /// Asks the inner value once, with a buffer for its bytes, returns its result as it is, and
-    /// remembers a failure. A failure is an error, or a result that, by the call, took nothing
-    /// although it could have.
+    /// Asks the inner value once, with a buffer for its bytes, returns its result unchanged, and
+    /// remembers a failure: an error, or, as `call` says, a result that took nothing although it
+    /// could have.
     pub(crate) fn ask<A, F>(&mut self, room: &mut [u8], call: F) -> io::Result<A>
     where
         F: FnOnce(&mut T, &mut [u8]) -> (io::Result<A>, bool),

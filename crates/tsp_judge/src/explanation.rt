@@ -111,7 +111,8 @@ pub fn explain_solution<'a>(
 }
 
 /// Appends what explains a fault. `again` is the file that has it, to be read once more, if it
-/// can be; `error` is what the system said of a write that failed.
+/// can be; for files of the wrong kind, the first one. `error` is what the system said of a write
+/// that failed.
 ///
 /// # Errors
 ///
@@ -133,7 +134,7 @@ pub fn explain_fault<R: Read + Drop>(
         }
         RunFault::WrongKind => {
             let (_, name) = named(names, 1);
-            explain_wrong_kind(alloc, text, name, is_bound(names))
+            explain_wrong_kind(alloc, text, name, is_bound(names), again)
         }
         RunFault::Write(fault) => explain_write(alloc, text, fault, error),
         RunFault::OutOfMemory => {

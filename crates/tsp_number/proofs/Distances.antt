@@ -1,4 +1,5 @@
--- Rounded roots, and that each distance is the one number with its inequalities.
+-- For src/distance.rt: a rounded root is the one number that covers its square, and so each distance is the one number
+-- with its inequalities.
 use Rattle.tsp_number.proofs.Prelude.{◌≡◌, ℕ, ◌+◌, ◌*◌, ◌-◌, ◌<◌, ◌≤◌, ◌^◌, ℤ, pos, negsuc, ◌*ℤ◌, ◌-ℤ◌, unsigned_abs, w64, Bool, true, false, nat_lt, zero, suc, refl, inl, inr, ap, ◌∙◌, FitsSigned, to_z, of_z, rules, arith, neg_ℤ, ◌+ℤ◌, ◌≤ℤ◌, nat_le, if◌then◌else◌, max, sym, cases_lt, nat_tests, to_z-of_z, ints, mul-le, w128}
 use Rattle.std.specs.Bool.{OnTrue}
 use Rattle.tsp_number.specs.Decimal.{unit, most_count}

@@ -1,4 +1,5 @@
--- The number word at the beginning of some bytes, digit by digit.
+-- The shortcuts of src/word.rt, digit by digit: a number at the beginning of some bytes is the one that the grammar
+-- reads there.
 use Rattle.tsp_number.proofs.Prelude.{◌≡◌, ℕ, zero, suc, ◌+◌, ◌<◌, ◌≤◌, Bool, true, false, cond, List, [], ◌∷◌, length, take, drop, ap, arith, ◌*◌, ◌-◌, ◌^◌, ◌≢◌, None, Some, ◌++◌, ℤ, pos, ◌*ℤ◌, ◌≤ℤ◌, ◌<ℤ◌, ◌⊎◌, Ok, Err, unsigned_abs, inl, inr, ⊎_elim, refl, sym, ◌∙◌, subst, pow-add, add-one, append_assoc, append-nil, length-drop, pow-suc, pow-le-pow_right, mul-le-mul, nat_tests, ints, length-take-le, take-take, digit_value_digit, is_ascii_digit, prefix_len, min, slice_index_or as get_or, nat_le, nat_lt, ◌&&◌, AllDigits, digits_value}
 use Rattle.std.proofs.Math.Seq.{take-add, take-suc, take-length}
 use Rattle.std.proofs.lemmas.Grind.{common_steps}

@@ -1,4 +1,5 @@
--- The files of lemmas of this crate. Crates above may import them.
+-- Lemmas for the functions and laws of this crate, from roots (Distances, Comparisons) to number words (the others). No
+-- contract names one, so only proofs depend on them.
 mod Prelude
 pub mod Distances
 pub mod Comparisons

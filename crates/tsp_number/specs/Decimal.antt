@@ -1,5 +1,6 @@
 -- Circles 1 and 2 of docs/trust.md.
--- The scale of decimals: a number is a whole count of 10^-9.
+-- The unit of all coordinates, 10^-9, and how large a count of it may be. Both numbers are promised to users in
+-- docs/format.md.
 use Rattle.std.specs.Prelude.{ℕ}
 
 -- the count of the number 1

@@ -1,6 +1,7 @@
 -- Circles 1, 2 and 3 of docs/trust.md.
--- The eight distances of TSPLIB 95 (Reinelt), each as the one whole number with its inequalities, and which of them
--- grow as points move apart.
+-- What each of TSPLIB's eight distances is, after Reinelt: the one whole number that satisfies some inequalities. The
+-- meaning of every length rests on these, so a change here changes what `yes` promises. Further down, which distances
+-- grow as points move apart; only searches need that.
 use Rattle.std.specs.Prelude.{◌≡◌, ℕ, zero, suc, Bool, nat_lt, nat_le, if◌then◌else◌, ◌+◌, ◌-◌, ◌*◌, ◌<◌, ◌≤◌, ◌-ℤ◌, unsigned_abs, max, ℤ, pos}
 use Rattle.tsp_number.specs.Decimal.{unit, most_count}
 use Rattle.tsp_number.specs.declared.decimal.Point.{Point}

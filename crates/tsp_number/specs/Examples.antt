@@ -1,4 +1,5 @@
--- Points with round coordinates, and the distances from one to another.
+-- Vocabulary for src/examples.rt: points with round coordinates, and short names for "this word is read as that
+-- number".
 use Rattle.std.specs.Prelude.{ℕ, ℤ, pos, negsuc, ◌*ℤ◌, ◌≡◌, List, Ok, Err}
 use Rattle.tsp_number.specs.Distances.{on_plane}
 use Rattle.tsp_number.specs.NumberWord.{decimal_of, whole_of, spelling}

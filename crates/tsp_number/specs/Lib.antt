@@ -1,4 +1,5 @@
--- The files of definitions of this crate. Crates above may import them.
+-- Definitions of decimals, distances and number words. Crates above may import all of them; those in `states` are about
+-- the code of this crate.
 pub mod states
 pub mod Decimal
 pub mod Distances

@@ -1,6 +1,6 @@
 -- Circle 2 of docs/trust.md.
--- Number words by the grammar of decimal notation: the number that a word means or its fault, and the one way in which
--- a decimal is spelled.
+-- The grammar of number words: the number that a word means, or its fault, and the one way in which a decimal is
+-- spelled. Which files can be read, and the digits in canonical texts, follow from here.
 use Rattle.std.specs.Char.{is_ascii_digit}
 use Rattle.std.specs.Fmt.{decimal}
 use Rattle.std.specs.Option.{option_map}
@@ -32,7 +32,7 @@ abbrev pub IsSign : List ℕ → Bool → Type 0
 IsSign sign negative = ((sign ≡ []) × (negative ≡ false)) ⊎ ((sign ≡ plus ∷ []) × (negative ≡ false))
     ⊎ ((sign ≡ minus ∷ []) × (negative ≡ true))
 
--- the number of this size with this sign
+-- the number with this sign and absolute value
 abbrev pub with_sign : Bool → ℕ → ℤ
 with_sign negative size = if negative then neg_ℤ (pos size) else pos size
 
@@ -92,7 +92,7 @@ mantissa n = with_sign n.negative (digits_of n)
 abbrev pub shift_of : ℕ → Numeral → ℤ
 shift_of scale n = pos scale +ℤ n.exponent -ℤ pos (length n.fraction)
 
--- k is m shifted to the left: m * 10^places; or to the right, without a rest
+-- k is m shifted to the left: m * 10^places; or to the right, without a remainder
 abbrev pub IsShifted : ℤ → ℤ → ℤ → Type 0
 IsShifted m (pos up) k = k ≡ m *ℤ pos (10 ^ up)
 IsShifted m (negsuc down) k = k *ℤ pos (10 ^ (down + 1)) ≡ m
@@ -180,7 +180,7 @@ after_digits (c ∷ cs) = if is_ascii_digit c then after_digits cs else c ∷ cs
 abbrev pub are_digits : List ℕ → Bool
 are_digits bytes = nat_lt 0 (length (front_digits bytes)) && (length (after_digits bytes) == 0)
 
--- the exponent that the bytes are: 0 for no bytes; None where they are none
+-- the exponent that the bytes write: 0 for no bytes; None where they aren't an exponent
 abbrev pub exponent_in : List ℕ → Option ℤ
 exponent_in [] = Some (pos 0)
 exponent_in (c ∷ cs) =

@@ -1,5 +1,6 @@
-//! Whether a distance is at least a number, decided by squares, without a root. (Not `tsp
-//! compare`.)
+//! Whether a distance is at least a number, decided by comparing squares, without a root: the quick
+//! test by which a search for near nodes skips those too far away. The distances in
+//! `specs/Distances.antt` pin every answer, so only speed can change here.
 
 ghost use Rattle.std.specs.Prelude.{◌≤ℤ◌, ◌↔◌, ℕ, IsTrue, pos};
 ghost use Rattle.tsp_number.specs.Distances.{square_apart, euc_2d_of, ceil_2d_of, att_of, euc_3d_of};

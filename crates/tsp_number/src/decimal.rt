@@ -1,5 +1,6 @@
-//! Exact decimals with nine places, and points in the plane and in space: the coordinates of files,
-//! and the arguments of the distances of this crate.
+//! Coordinates as exact decimals with nine places, and the points that they make. The range, 10^9
+//! in either direction, is `most_count` in `specs/Decimal.antt` and a limit on the page
+//! docs/format.md; a wider one would overflow the 64 and 128 bits of `distance.rt` and `root.rt`.
 
 ghost use Rattle.std.specs.Prelude.{◌≡◌, ◌≤◌, unsigned_abs, SomeIff};
 ghost use Rattle.tsp_number.specs.Decimal.{most_count};
@@ -65,7 +66,7 @@ impl Decimal {
         Decimal { nanos }
     }
 
-    /// The count as a number of 64 bits.
+    /// The count of 10^-9, in 64 bits.
     pub fn nanos(self) -> i64
         ensures value { result ≡ self }
         ensures size { unsigned_abs result ≤ most_count }
@@ -74,7 +75,7 @@ impl Decimal {
     }
 }
 
-/// A point in space, by its coordinates. A point in the plane has 0 as its third.
+/// A point in space, by its coordinates. A point in the plane has the third coordinate 0.
 #[derive(Clone, Copy, Debug, PartialEq, Eq)]
 pub struct Point {
     /// The first coordinate.
@@ -85,7 +86,7 @@ pub struct Point {
     pub z: Decimal,
 }
 
-/// A point in the plane, by its coordinates, in the memory of two numbers.
+/// A point in the plane, by its coordinates, which takes less memory than a `Point`.
 #[derive(Clone, Copy, Debug, PartialEq, Eq)]
 pub struct PlanePoint {
     /// The first coordinate.
@@ -94,7 +95,7 @@ pub struct PlanePoint {
     pub y: Decimal,
 }
 
-/// A point that has its place in space.
+/// A point in the plane or in space, as a point in space.
 pub trait InSpace: Copy {
     ghost use Rattle.tsp_number.specs.declared.decimal.Point.{Point};
 

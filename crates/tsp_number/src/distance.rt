@@ -1,4 +1,6 @@
-//! The distances of TSPLIB 95: five between points in the plane, and three between points in space.
+//! The eight distances of TSPLIB 95, each from two points to a whole number: five in the plane,
+//! three in space. `specs/Distances.antt` pins them by inequalities taken from Reinelt's formulas.
+//! Every printed length and bound of an instance with coordinates is made of these numbers.
 
 ghost use Rattle.std.specs.Prelude.{◌≡◌, pos, ◌≤ℤ◌, ◌<◌, ◌≤◌, ◌-ℤ◌, ◌+◌, ◌-◌, ◌*◌, ◌^◌, unsigned_abs};
 ghost use Rattle.tsp_number.specs.Decimal.{unit};
@@ -17,7 +19,7 @@ pub(crate) fn way(a: Decimal, b: Decimal) -> i64
     a.nanos() - b.nanos()
 }
 
-/// How far two numbers are apart, in counts of 10^-9.
+/// How far apart two coordinates are, in counts of 10^-9.
 #[inline(always)]
 fn gap(a: Decimal, b: Decimal) -> u64
     ensures value { result ≡ unsigned_abs (a -ℤ b) }
@@ -26,7 +28,7 @@ fn gap(a: Decimal, b: Decimal) -> u64
     a.nanos().abs_diff(b.nanos())
 }
 
-/// The count as whole numbers, to the nearest, a half upward.
+/// The count divided by 10^9, rounded to the nearest whole number, a half upward.
 #[inline(always)]
 fn nearest_whole(count: u64) -> i64
     requires { count ≤ 6 * 10 ^ 18 }

@@ -1,5 +1,6 @@
-//! Laws that state distances of points, worked out by hand, as values of the definitions in
-//! `specs/Distances.antt`.
+//! Distances, number words and spellings worked out by hand, as laws about the definitions in
+//! `specs/`. No program calls them. They are here because code and definition could be changed
+//! together: a row then fails.
 
 ghost use Rattle.std.specs.Prelude.{pos, negsuc, ◌≡◌, Some, None, codes, ◌++◌, replicate};
 ghost use Rattle.tsp_number.specs.Distances.{IsEuc2d, IsCeil2d, IsMan2d, IsMax2d, IsAtt, IsEuc3d, IsMan3d, IsMax3d};
@@ -8,9 +9,9 @@ ghost use Rattle.tsp_number.specs.NumberWord.{number_fault_text};
 ghost use Rattle.tsp_number.specs.declared.word.NumberFault.TheVariants.{LongWord, BadNumber, TooFine, OutOfRange, NotWhole};
 ghost use Rattle.tsp_number.specs.states.Digits.{whole_end, decimal_end, few_end};
 
-/// The distances between the point (0, 0) and others, with coordinates in thousandths: where the
-/// rounded distance steps up to the next whole number, and just beside. The third coordinate is
-/// ignored.
+/// Distances between the point (0, 0) and others, with coordinates in thousandths: at the points
+/// where the rounded distance steps up to the next whole number, and just before. The third
+/// coordinate is ignored.
 pub fn examples_of_distances()
     ensures euc_along_two_axes { FromZero IsEuc2d (pos 3000) (negsuc 3999) 5 }
     ensures euc_below_a_half { FromZero IsEuc2d (pos 499) (pos 0) 0 }
@@ -38,8 +39,8 @@ pub fn examples_of_distances()
     ensures att_looks_at_the_plane { FromZeroToSpace IsAtt (pos 1000) (pos 3000) (pos 9000) 1 }
 {}
 
-/// The distances in space of the point (0, 0, 0) and some others, with coordinates in thousandths,
-/// and of the two ends of space.
+/// Distances in space between the point (0, 0, 0) and some others, with coordinates in thousandths,
+/// and between the two corners of space.
 pub fn examples_of_distances_in_space()
     ensures euc_along_three_axes { FromZeroToSpace IsEuc3d (pos 1000) (pos 2000) (pos 2000) 3 }
     ensures euc_turned { FromZeroToSpace IsEuc3d (pos 2000) (negsuc 1999) (negsuc 999) 3 }
@@ -64,7 +65,7 @@ pub fn examples_of_distances_in_space()
     ensures max_at_most { FromLeastToLargest IsMax3d 2000000000 }
 {}
 
-/// What some words are read as if a decimal is wanted, in counts of 10^-9.
+/// What some words are read as when a decimal is wanted, in counts of 10^-9.
 #[tactic(auto, unfolding(crate::specs::NumberWord::decimal_of))]
 pub fn examples_of_decimals()
     ensures one { IsDecimalCount (codes "1") (pos 1000000000) }
@@ -95,7 +96,7 @@ pub fn examples_of_decimals()
     ensures too_long { IsNoDecimal (replicate 63 48 ++ codes "12") LongWord }
 {}
 
-/// What some words are read as if a whole number from -2 to 12 is wanted.
+/// What some words are read as when a whole number from -2 to 12 is wanted.
 #[tactic(auto, unfolding(crate::specs::NumberWord::whole_of))]
 pub fn examples_of_whole_numbers()
     ensures plus { WholeIs (codes "+7") (pos 7) }

@@ -1,5 +1,7 @@
-//! Laws of distances: each has one value, is symmetric and bounded, and grows with the way along each
-//! axis.
+//! What the definitions in `specs/` promise whatever the code does: a distance is one number,
+//! symmetric and bounded, and grows with the way along each axis; a number word means one number; a
+//! spelling is read back. Proofs in higher crates cite these laws, so weakening one breaks them
+//! there.
 
 ghost use Rattle.std.specs.Prelude.{◌≡◌, ◌≤◌, ℕ, ℤ, List, Result, Ok, unsigned_abs};
 ghost use Rattle.tsp_number.specs.Decimal.{most_count};
@@ -7,8 +9,8 @@ ghost use Rattle.tsp_number.specs.Distances.{IsEuc2d, IsCeil2d, IsMan2d, IsMax2d
 ghost use Rattle.tsp_number.specs.NumberWord.{StandsFor, ReadsDecimal, ReadsWhole, decimal_of, whole_of, spelling};
 ghost use Rattle.tsp_number.specs.declared.word.NumberFault.{NumberFault};
 
-/// Each distance is defined between any two points, by one number. It is symmetric, 0 between equal
-/// points, and at most 4 * 10^9 in the plane and 6 * 10^9 in space.
+/// Each distance is exactly one number for any two points. It is symmetric, 0 between equal points,
+/// and at most 4 * 10^9 in the plane and 6 * 10^9 in space.
 pub fn distance_laws()
     ensures euc_2d { IsDistance IsEuc2d euc_2d_of }
     ensures ceil_2d { IsDistance IsCeil2d ceil_2d_of }
@@ -20,8 +22,8 @@ pub fn distance_laws()
     ensures max_3d { IsDistanceInSpace IsMax3d max_3d_of }
 {}
 
-/// A word means at most one number, and it is read in exactly one way: where a decimal is wanted,
-/// and if a whole number is.
+/// A word means at most one number, and reading it has exactly one result, as a decimal and as a
+/// whole number.
 pub fn number_word_laws()
     ensures one_number { (word : List ℕ) (j k : ℤ) → StandsFor word j → StandsFor word k → j ≡ k }
     ensures one_decimal { (word : List ℕ) (r s : Result ℤ NumberFault)
@@ -33,14 +35,15 @@ pub fn number_word_laws()
         → ReadsWhole word low high (whole_of word low high) }
 {}
 
-/// The text of a decimal means that decimal, and reading it gives that decimal and nothing else.
+/// The text of a decimal means that decimal, and reading it gives back that decimal.
 pub fn spelling_laws()
     ensures stands { (k : ℤ) → unsigned_abs k ≤ most_count → StandsFor (spelling k) k }
     ensures round_trip { (k : ℤ) (r : Result ℤ NumberFault) → unsigned_abs k ≤ most_count
         → ReadsDecimal (spelling k) r → r ≡ Ok k }
 {}
 
-/// Points that are no farther apart along each axis are no farther apart, by each distance.
+/// If two points are no farther apart than two others along each axis, no distance between them is
+/// larger. So the distance to the nearest point of a box is at most that to any of its points.
 ///
 /// So the distance to the nearest point of a box is at most that to any other of its points.
 pub fn monotone_laws()

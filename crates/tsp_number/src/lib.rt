@@ -1,9 +1,9 @@
 //! Decimals and points, the distances of TSPLIB 95 between them, and number words.
 //!
 //! A [`Decimal`] has at most nine places after the point and is kept as a count of 10^-9, so the
-//! eight distances are exact over the decimals as written. A number word is read as a whole number
-//! or a decimal, or refused with a named fault, and a decimal is spelled in one way. No call takes
-//! memory.
+//! eight distances are exact for the decimals as they are written. A number word is read as a whole
+//! number or a decimal, or refused with a named fault, and each decimal is spelled in one way. No
+//! call takes memory.
 //!
 //! ```text
 //! let x = parse_decimal(b"1.50e+01")?;

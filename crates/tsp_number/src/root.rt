@@ -1,4 +1,6 @@
-//! Roots of squares of distances, rounded to whole numbers exactly.
+//! Exact rounded roots. A root is estimated in floats, checked in whole numbers, and searched by
+//! halving if the check fails. `Covers` and `IsLeastCover` in `specs/states/Rounding.antt` pin the
+//! result, so a worse estimate costs only time.
 
 ghost use Rattle.std.specs.Prelude.{◌≡◌, ◌+◌, ◌-◌, ◌*◌, ◌<◌, ◌≤◌, ◌≤ℤ◌, ◌^◌, ◌↔◌, ℕ, IsTrue, pos, unsigned_abs};
 ghost use Rattle.std.specs.Bool.{OnTrue};
@@ -9,15 +11,15 @@ ghost use Rattle.tsp_number.specs.states.Rounding.{Covers, IsLeastCover, estimat
 use crate::decimal::UNIT;
 use std::num;
 
-/// No rounded root in the plane is larger: the diagonal of the square of all points is
+/// The largest rounded root in the plane: the diagonal of the square that contains all points is
 /// 2,828,427,124.7 long.
 const MOST_ROOT: u32 = 2_828_427_125;
 
-/// No root in space is larger to the nearest: the diagonal of the cube of all points is
+/// The largest root in space, to the nearest: the diagonal of the cube that contains all points is
 /// 3,464,101,615.1 long.
 const MOST_ROOT_IN_SPACE: u32 = 3_464_101_615;
 
-/// The square of a whole, in counts of 10^-18.
+/// The number 1 in counts of 10^-18, the unit of squares.
 const SQUARE_UNIT: u128 = 1_000_000_000_000_000_000;
 
 /// How a root is rounded to a whole number.
@@ -53,8 +55,8 @@ fn covers(rounding: Rounding, square: u128, whole: u32) -> bool
     }
 }
 
-/// Whether the rounded root of a square is at least `least`, without the root: if the number
-/// before `least` doesn't cover the square.
+/// Whether the rounded root of a square is at least `least`. No root is taken: the answer is yes if
+/// the number before `least` doesn't cover the square.
 #[inline(always)]
 pub(crate) fn is_root_at_least(rounding: Rounding, square: u128, least: i64) -> bool
     requires { square ≤ 12 * 10 ^ 36 }
@@ -103,17 +105,17 @@ pub(crate) fn square_of(way: i64) -> u128
     (wide * wide) as u128
 }
 
-/// The square of a way, estimated by floats in counts of 2^18 * 10^-18.
+/// The square of a way, estimated in floats, in counts of 2^18 * 10^-18.
 #[inline(always)]
 fn coarse_square(way: i64) -> f64
     requires { unsigned_abs way ≤ 2 * 10 ^ 18 }
 {
-    // 10^9 is 5^9 * 2^9: of a whole number nothing is lost here.
+    // 10^9 is 5^9 * 2^9, so for a whole number nothing is lost here.
     let coarse = (way >> 9) as f64;
     coarse * coarse
 }
 
-/// The root, estimated by floats. It may be wrong.
+/// The root, estimated in floats. It may be wrong.
 #[inline(always)]
 fn estimate(rounding: Rounding, square: f64) -> u32
     ensures { result < estimate_limit rounding }
@@ -130,8 +132,8 @@ fn estimate(rounding: Rounding, square: f64) -> u32
 
 /// Whether `whole` is certainly the least number that covers the square.
 ///
-/// The next smaller number doesn't cover it if the square lies less far below that of `whole`
-/// than the square of the smaller one.
+/// The number before it doesn't cover the square if the gap between the square and the edge of
+/// `whole` is smaller than the gap between the edges of both numbers.
 #[inline(always)]
 fn is_least_cover(rounding: Rounding, square: u128, whole: u32) -> bool
     requires size { square ≤ 12 * 10 ^ 36 }
@@ -159,7 +161,7 @@ fn is_least_cover(rounding: Rounding, square: u128, whole: u32) -> bool
     }
 }
 
-/// The least number that covers the square, next to an estimate or else by halving.
+/// The least number that covers the square, next to the estimate or else by halving.
 #[cold]
 #[inline(never)]
 fn corrected_root(rounding: Rounding, square: u128, near: u32, most: u32) -> u32
@@ -180,9 +182,9 @@ fn corrected_root(rounding: Rounding, square: u128, near: u32, most: u32) -> u32
     exact_root(rounding, square, most)
 }
 
-/// The least number that covers the square, by an estimate and a number that covers it.
+/// The least number that covers the square, from an estimate and a number that covers it.
 ///
-/// The estimate is taken only if whole numbers show that it is right.
+/// The estimate is used only if a check in whole numbers shows that it is right.
 #[inline(always)]
 fn settled_root(rounding: Rounding, square: u128, near: u32, most: u32) -> u32
     requires size { square ≤ 12 * 10 ^ 36 }
@@ -198,8 +200,7 @@ fn settled_root(rounding: Rounding, square: u128, near: u32, most: u32) -> u32
     corrected_root(rounding, square, near, most)
 }
 
-/// The rounded root of the square of a distance in the plane, whose ways along both axes count
-/// 10^-9.
+/// The rounded length of a way in the plane, from the ways along both axes in counts of 10^-9.
 #[inline(always)]
 pub(crate) fn rounded_root(rounding: Rounding, dx: i64, dy: i64) -> u32
     requires dx { unsigned_abs dx ≤ 2 * 10 ^ 18 }
@@ -214,8 +215,8 @@ pub(crate) fn rounded_root(rounding: Rounding, dx: i64, dy: i64) -> u32
     settled_root(rounding, square, near, MOST_ROOT)
 }
 
-/// The root of the square of a distance in space, whose ways along the axes count 10^-9, to the
-/// nearest whole number, a half upward.
+/// The length of a way in space, rounded to the nearest whole number, a half upward, from the ways
+/// along the axes in counts of 10^-9.
 #[inline(always)]
 pub(crate) fn nearest_root_in_space(dx: i64, dy: i64, dz: i64) -> u32
     requires dx { unsigned_abs dx ≤ 2 * 10 ^ 18 }

@@ -1,4 +1,6 @@
-//! The sign, digits, point and exponent of a number word, found from the left.
+//! The careful way to read a number word, first half: cuts it into sign, digits, point and
+//! exponent, from the left. Only words that the shortcuts in `word.rt` leave over come here.
+//! `numeral_in` in `specs/NumberWord.antt` says what the parts are.
 
 ghost use Rattle.std.specs.Prelude.{◌≡◌, ◌+◌, ◌<◌, ◌≤◌, length, MatchOption, ℕ, None, Some};
 ghost use Rattle.std.specs.Option.{option_map};
@@ -6,9 +8,8 @@ ghost use Rattle.std.specs.Str.Parse.{digits_value_after};
 ghost use Rattle.tsp_number.specs.NumberWord.{has_minus, after_sign, after_point, front_digits, after_digits, exponent_in, numeral_in};
 ghost use Rattle.tsp_number.specs.states.Digits.{saturated, clamped, HoldsWord};
 
-/// The largest size of an exponent that is distinguished from larger ones. With a larger one a
-/// number word of at most 64 bytes means 0, or a number that is too fine or too large, all the
-/// same.
+/// Larger exponents count as this one. With such an exponent, a word of at most 64 bytes means 0,
+/// or a number that is too fine or too large, whatever the exponent is.
 const MOST_EXPONENT: u64 = 10_000;
 
 /// The sign, digits and exponent of a number word.
@@ -18,7 +19,7 @@ pub(crate) struct Written<'a> {
     /// The digits before and after the point.
     pub(crate) whole: &'a [u8],
     pub(crate) fraction: &'a [u8],
-    /// All these digits as one number, or `u64::MAX` if that is less.
+    /// All these digits as one number, at most `u64::MAX`.
     pub(crate) size: u64,
     /// The exponent, at most 10,000 in size.
     pub(crate) exponent: i64,
@@ -30,7 +31,7 @@ pub(crate) struct Digits<'a> {
     pub(crate) digits: &'a [u8],
     /// What follows the digits.
     pub(crate) rest: &'a [u8],
-    /// The digits as a number, or `u64::MAX` if that is less.
+    /// The digits as a number, at most `u64::MAX`.
     pub(crate) value: u64,
 }
 
@@ -58,7 +59,7 @@ fn skip_point(bytes: &[u8]) -> &[u8]
     }
 }
 
-/// Splits off the digits at the front. Their value goes on from that of the digits before them.
+/// Splits off the digits at the front. Their value continues that of the digits before them.
 #[inline(always)]
 pub(crate) fn split_digits(bytes: &[u8], before: u64) -> Digits<'_>
     ensures digits { result.digits.now ≡ front_digits bytes.now }

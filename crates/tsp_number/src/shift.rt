@@ -1,4 +1,6 @@
-//! The digits of a number word, shifted by its exponent.
+//! The careful way to read a number word, second half: moves its digits by its exponent, in whole
+//! numbers, so nothing is rounded. A value past 64 bits becomes `u64::MAX`, which `word.rt` refuses
+//! as out of range.
 
 ghost use Rattle.std.specs.Prelude.{◌≡◌, ◌+◌, ◌*◌, ◌^◌, ◌<◌, ◌≤◌, ◌++◌, length, ◌==◌, pos, ◌+ℤ◌, ◌-ℤ◌};
 ghost use Rattle.std.specs.List.{list_all};
@@ -8,7 +10,7 @@ ghost use Rattle.tsp_number.specs.states.Digits.{saturated, clamped, KeepsNumera
 
 use crate::scan::{Written, split_digits};
 
-/// A power of ten of 64 bits.
+/// A power of ten, which fits 64 bits.
 #[inline(always)]
 pub(crate) fn power_of_ten(exponent: u64) -> u64
     requires { exponent < 20 }
@@ -38,7 +40,7 @@ pub(crate) fn power_of_ten(exponent: u64) -> u64
     }
 }
 
-/// The number with this many zeros more, or `u64::MAX` if that is less.
+/// The number with this many zeros appended, at most `u64::MAX`.
 #[inline(always)]
 fn add_zeros(size: u64, count: u64) -> u64
     ensures { result ≡ saturated (size * 10 ^ count) }
@@ -52,7 +54,7 @@ fn add_zeros(size: u64, count: u64) -> u64
     size.saturating_mul(power_of_ten(count))
 }
 
-/// The number without this many zeros at its end, or `None` if it has fewer.
+/// The number with this many zeros removed from its end; `None` if it has fewer.
 #[inline(always)]
 fn drop_zeros(size: u64, count: u64) -> Option<u64>
     ensures { DropsZeros size count result }
@@ -77,7 +79,7 @@ fn are_zeros(bytes: &[u8]) -> bool
     bytes.iter().all(|byte| *byte == b'0')
 }
 
-/// The same as `drop_zeros` of a number by its digits, for numbers past 64 bits.
+/// What `drop_zeros` does, on the digits of a number that doesn't fit 64 bits.
 #[cold]
 #[inline(never)]
 fn drop_long_zeros(whole: &[u8], fraction: &[u8], count: u64) -> Option<u64>
@@ -106,8 +108,8 @@ fn drop_long_zeros(whole: &[u8], fraction: &[u8], count: u64) -> Option<u64>
     None
 }
 
-/// By how many places the mantissa is to be shifted to the left, to count in the unit 10^-scale.
-/// Its exponent is the one kept, of at most 10,000.
+/// By how many places the mantissa has to be shifted to the left to count 10^-scale. Its exponent
+/// is the one kept, at most 10,000 in size.
 #[inline(always)]
 fn places(written: &Written<'_>, scale: u32) -> i64
     requires scale { scale ≤ 9 }
@@ -118,8 +120,8 @@ fn places(written: &Written<'_>, scale: u32) -> i64
     i64::from(scale) + written.exponent - written.fraction.len() as i64
 }
 
-/// The size of a number word's number, in the unit 10^-scale, or `u64::MAX` if that is less.
-/// `None` if it isn't a whole number in that unit.
+/// The absolute value of a number word, in counts of 10^-scale, at most `u64::MAX`. `None` if it
+/// isn't a whole count.
 #[inline(always)]
 pub(crate) fn shifted(written: &Written<'_>, scale: u32) -> Option<u64>
     requires scale { scale ≤ 9 }

@@ -1,9 +1,11 @@
-//! The text of a decimal, written into a block of bytes from the last byte to the first.
+//! Writes a decimal in the one way in which canonical texts spell it, backwards from its last byte.
+//! `tsp convert` prints these bytes; `spelling` in `specs/NumberWord.antt` fixes each of them.
+//! Taking three digits at a time is for speed.
 
 ghost use Rattle.std.specs.Prelude.{◌≡◌, ◌+◌, ◌<◌, ◌≤◌, ◌++◌, length, drop, ◌-◌, ◌/◌, ◌%◌, ◌∷◌};
-ghost use Rattle.tsp_number.specs.Decimal.{unit, most_count};
+ghost use Rattle.tsp_number.specs.Decimal.{unit};
 ghost use Rattle.arrayvec.specs.ArrayVec.{array_vec_len};
-ghost use Rattle.tsp_number.specs.NumberWord.{StandsFor, decimals, fraction_spelling, size_spelling, spelling, three_digits};
+ghost use Rattle.tsp_number.specs.NumberWord.{StandsFor, decimals, fraction_spelling, spelling, three_digits};
 
 use crate::decimal::{Decimal, UNIT};
 use arrayvec::ArrayVec;
@@ -12,8 +14,8 @@ use itoa::write_digits;
 /// The most bytes of a decimal's text.
 pub const MOST_SPELLING: usize = 21;
 
-/// Writes three decimals, without zeros at their end, so that they end at a place, and returns
-/// where they begin.
+/// Writes three decimals, without trailing zeros, so that they end at a place, and returns where
+/// they begin.
 #[inline(always)]
 fn write_last(group: u32, block: &mut [u8], end: usize) -> usize
     requires some { 0 < group }
@@ -36,8 +38,8 @@ fn write_last(group: u32, block: &mut [u8], end: usize) -> usize
     end - 1
 }
 
-/// Writes the decimals of a part of a whole, without zeros at their end, so that they end at a
-/// place, and returns where they begin.
+/// Writes the nine decimals of a fraction, without trailing zeros, so that they end at a place, and
+/// returns where they begin.
 #[inline(always)]
 fn write_decimals(rest: u32, block: &mut [u8], end: usize) -> usize
     requires some { 0 < rest }
@@ -85,12 +87,12 @@ fn write_fraction(rest: u32, block: &mut [u8], end: usize) -> usize
     start
 }
 
-/// Writes the text of a decimal, as [`write_decimal`] returns it, so that it ends at a place of a
+/// Writes the text of a decimal, as [`write_decimal`] returns it, so that it ends at a place in a
 /// block, and returns where it begins. It has at most 21 bytes.
 ///
 /// # Requires
 ///
-/// A place that the block has, with 21 bytes before it.
+/// A place in the block with at least 21 bytes before it.
 #[inline(always)]
 pub fn write_spelling(d: Decimal, block: &mut [u8], end: usize) -> usize
     requires room { 21 ≤ end }
@@ -113,9 +115,9 @@ pub fn write_spelling(d: Decimal, block: &mut [u8], end: usize) -> usize
 
 /// Writes a decimal as text.
 ///
-/// The text is `-` for a negative number, the whole part without leading zeros, at least `0`, and,
-/// if the number isn't whole, a point and its decimals without zeros at their end. It has at
-/// most 21 bytes.
+/// The text is `-` for a negative number; the whole part without leading zeros, at least `0`; and,
+/// if the number isn't whole, a point and its decimals without trailing zeros. It has at most 21
+/// bytes.
 pub fn write_decimal(d: Decimal) -> ArrayVec<u8, 64>
     ensures items { result.items ≡ spelling d }
     ensures stands { StandsFor result.items d }
@@ -139,7 +141,7 @@ static PAIRS: [u8; 200] = *b"\
 ///
 /// # Requires
 ///
-/// A place for both in the block.
+/// A block with room for both at the place.
 #[inline(always)]
 pub fn write_pair(pair: u32, block: &mut [u8], at: usize)
     requires few { pair < 100 }

@@ -1,4 +1,7 @@
-//! Number words, read as decimals and as whole numbers.
+//! Reads number words such as `12`, `-0.5` and `1.5e+02`. Which words are numbers, and which fault
+//! comes first, is `ReadsDecimal` and `ReadsWhole` in `specs/NumberWord.antt`; the texts of the
+//! faults are printed. The functions `front_..` are shortcuts for plain words and find the same
+//! numbers.
 
 ghost use Rattle.std.specs.Char.{is_ascii_digit};
 ghost use Rattle.std.specs.Int.{to_le_bytes, w64};
@@ -21,7 +24,7 @@ use thiserror::Error;
 /// The most bytes that a number word has.
 const MOST_BYTES: usize = 64;
 
-/// The number of this size.
+/// The number with this sign and absolute value.
 #[inline(always)]
 fn signed(negative: bool, size: u64) -> i128
     ensures { result ≡ signed_of negative size }
@@ -70,7 +73,7 @@ pub fn parse_decimal(word: &[u8]) -> Result<Decimal, NumberFault>
     any_decimal(word)
 }
 
-/// The result of `parse_decimal`, found without `front_decimal`.
+/// What `parse_decimal` returns, found without the shortcut `front_decimal`.
 #[cold]
 #[inline(never)]
 fn any_decimal(word: &[u8]) -> Result<Decimal, NumberFault>
@@ -118,7 +121,7 @@ pub fn parse_whole(word: &[u8], low: i64, high: i64) -> Result<i64, NumberFault>
     any_whole(word, low, high)
 }
 
-/// The result of `parse_whole`, found without `front_whole`.
+/// What `parse_whole` returns, found without the shortcut `front_whole`.
 #[cold]
 #[inline(never)]
 fn any_whole(word: &[u8], low: i64, high: i64) -> Result<i64, NumberFault>
@@ -179,10 +182,10 @@ impl fmt::Display for NumberFault {
 
 // ---- the number at the beginning of some bytes, if it is a plain sign, digits and a point
 
-/// The most digits that are read before or after the point of a decimal: nine places are all.
+/// The most digits that the shortcut reads before the point of a decimal, or after it.
 const MOST_PLACES: usize = 9;
 
-/// The most digits of a whole number that is read, so that its size has 64 bits.
+/// The most digits of a whole number that the shortcut reads: any such number fits 64 bits.
 const MOST_DIGITS: usize = 18;
 
 /// Whether the bytes begin with `-`, and how long the sign is, if there is one.
@@ -200,7 +203,7 @@ fn front_sign(bytes: &[u8]) -> (bool, usize)
     }
 }
 
-/// The result of `front_digits`, found one digit after another.
+/// What `front_digits` returns, found digit by digit.
 #[inline(always)]
 fn single_digits(bytes: &[u8], most: usize) -> (u64, usize)
     requires { most ≤ 18 }
@@ -250,7 +253,7 @@ fn front_digits(bytes: &[u8], most: usize) -> (u64, usize)
     (value * power_of_ten(places as u64) + more, EIGHT + places)
 }
 
-/// The number of this size.
+/// The number with this sign and absolute value.
 #[inline(always)]
 fn signed_front(negative: bool, size: u64) -> i64
     requires { size ≤ most_count }
@@ -266,8 +269,8 @@ fn signed_front(negative: bool, size: u64) -> i64
 /// The whole number that the bytes begin with, and how many bytes write it: an optional sign and
 /// up to 18 digits. `None` if they begin otherwise.
 ///
-/// What follows is not looked at. A number word that ends where the answer says is thus read in
-/// full; one that goes on is for [`parse_whole`](crate::parse_whole).
+/// What follows isn't looked at. So if a number word ends where the result says, it has been read
+/// in full; if it goes on, read it with [`parse_whole`](crate::parse_whole).
 #[inline(always)]
 pub fn front_whole(bytes: &[u8]) -> Option<(i64, usize)>
     ensures number { IfSome result
@@ -283,11 +286,11 @@ pub fn front_whole(bytes: &[u8]) -> Option<(i64, usize)>
 }
 
 /// The whole number of one to seven digits that the bytes begin with, without a sign, and how many
-/// digits write it. `None` if they begin otherwise, or are fewer than eight.
+/// digits it has. `None` if they begin otherwise, or if there are fewer than eight bytes.
 ///
-/// It is the quick way to most words of a matrix: all digits and the byte after them are among the
-/// first eight, so these alone are looked at. What follows the digits is not judged, as of
-/// [`front_whole`].
+/// This is the shortcut for most words of a matrix. All digits and the byte after them are among
+/// the first eight bytes, so it looks only at these. Like [`front_whole`], it doesn't judge what
+/// follows the digits.
 #[inline(always)]
 pub fn front_few(bytes: &[u8]) -> Option<(i64, usize)>
     ensures number { IfSome result
@@ -308,8 +311,8 @@ pub fn front_few(bytes: &[u8]) -> Option<(i64, usize)>
 /// The decimal that the bytes begin with, and how many bytes write it: an optional sign, up to
 /// nine digits and, if a point follows, up to nine more. `None` if they begin otherwise.
 ///
-/// What follows is not looked at. A number word that ends where the answer says is thus read in
-/// full; one that goes on is for [`parse_decimal`](crate::parse_decimal).
+/// What follows isn't looked at. So if a number word ends where the result says, it has been read
+/// in full; if it goes on, read it with [`parse_decimal`](crate::parse_decimal).
 #[inline(always)]
 pub fn front_decimal(bytes: &[u8]) -> Option<(Decimal, usize)>
     ensures number { IfSome result (λ found. BeginsWithNumber bytes.now found.1 found.0) }
@@ -343,9 +346,9 @@ const EIGHT: usize = 8;
 /// Eight bytes `0`, as a number.
 const EIGHT_ZEROS: u64 = 0x3030_3030_3030_3030;
 
-// Times one of these, and without its lowest part, a number has in each of its parts ten, a hundred
-// or ten thousand times that part and the next: in the parts of one byte, of two or of four. Every
-// second one is wanted then, and those between are masked out.
+// Multiplying by one of these, and dropping the lowest part, leaves in each part ten, a hundred or
+// ten thousand times that part plus the next one, for parts of one, two or four bytes. Every second
+// part is wanted; the others are masked out.
 const TENS: u64 = 0x0a01;
 
 const HUNDREDS: u64 = 0x64_0001;
@@ -370,7 +373,7 @@ fn count_in(eight: u8x8) -> usize
     }
 }
 
-/// The number of eight digits, which are the bytes of `digits`, the first one lowest.
+/// The number with eight digits, given as the bytes of `digits`, the first one lowest.
 #[inline(always)]
 fn value_of(digits: u64) -> u64
     requires { AllBelowBase 10 (to_le_bytes w64 digits) }

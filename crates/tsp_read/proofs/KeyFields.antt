@@ -1,4 +1,5 @@
--- The lines of keywords as they are written are read back, field by field.
+-- The last part of `canonical_texts_are_read_back`: the lines of keywords are read back, field by field, and with the
+-- sections they are the file.
 use Rattle.tsp_read.proofs.Prelude.{◌≡◌, ℕ, ◌-◌, ◌^◌, ◌<◌, ◌≤◌, Bool, true, false, cond, List, [], ◌∷◌, ◌++◌, length, refl, sym, ap, ◌∙◌, arith, Option, Some, None, Result, reverse, take, append-nil, false≢true, true≢false, and_parts, leb-true, not-true, false_from_ne_true, le-ltb, reverse-append, none-some, decimal, signed_decimal, list_all, option_map, option_and_then, option_or, ℤ, pos, nat_le, nat_lt, slice_index, unsigned_abs, is_some, nat_abs, ◌&&◌, not, codes, result_err, result_ok, whole_of, NumberFault, keyword_of, most_nodes, most_capacity, most_scale, most_load_unit, most_line_bytes, most_kept_bytes, most_comments, most_others, shape_of, most_file_bytes, is_blank, field_word, kind_word, weight_kind_word, weight_format_word, coord_kind_word, display_kind_word, fields_in_order, Field, NameKey, TypeKey, CommentKey, OtherKey, DimensionKey, CapacityKey, ScaleKey, LoadUnitKey, EdgeWeightTypeKey, EdgeWeightFormatKey, NodeCoordTypeKey, DisplayDataTypeKey, NodeCoordPart, DisplayDataPart, DemandPart, DepotPart, FixedEdgesPart, EdgeWeightPart, TourPart, NodePotentialPart, RowPotentialPart, ColumnPotentialPart, FixedEdgePotentialPart, FamilyPart, MemoryPart, SubsetRowPart, BranchPart, Known, Eof, Shape, Points, SpacePoints, Depots, Pairs, Weights, Tours, Triples, Families, Memories, SubsetRows, Steps, keyword_line, optional, text_of_field, text_of, Fields, spatial, if_there, is_kept, is_from_to, is_node, is_other, fits, bad_field, clean_more, same_field_is, same_field, value_at, values_at, others_in, words_of, has_line, kind_named, weight_kind_named, weight_format_named, coord_kind_named, display_kind_named, read_as, dimension_in, may_repeat, row_of, when, first_row, coords_by_node, is_not_empty, first_word, Item, Line, LineEnd, word_line_of, items_of, settled_items, to_end_line, has_end_line, spelled, fault_in, IsClean, first_incomplete, fault_at_end, is_too_long, part, fault, ParsesTo, ReadFault}
 use Rattle.tsp_file.proofs.FieldLengths.{all_fit}
 use Rattle.tsp_file.specs.Rules.{standing_of, end_fault, fault_of}

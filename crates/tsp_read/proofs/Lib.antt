@@ -1,4 +1,5 @@
--- The files of lemmas of this crate. Crates above may import them.
+-- Lemmas for the reader, one word, item or piece further (the files ..Steps, and Onwards), and for the law that
+-- canonical texts are read back (the others).
 mod Prelude
 pub mod ListSteps
 pub mod SectionLists

@@ -1,4 +1,5 @@
--- Numbers that the canonical text writes, alone or in lists, are read back.
+-- Numbers of a canonical text, alone or in lists, are read back: the law `written_numbers_are_read_back`, and the
+-- ground of the other files on reading back.
 use Rattle.tsp_read.proofs.Prelude.{◌≡◌, ℕ, suc, zero, ◌+◌, ◌/◌, ◌%◌, ◌^◌, ◌<◌, ◌≤◌, Bool, true, false, cond, List, [], ◌∷◌, ◌++◌, length, refl, sym, ap, ◌∙◌, arith, append-nil, inl, inr, Result, Ok, Err, ◌*◌, map, Option, None, ap₂, append_assoc, true≢false, and_from, and_parts, le-leb, leb-true, false_from_ne_true, lt-leb, eq-eqb, and_right, and_left, not_from_true, not-true, or_right, Decides-int_eq, length_push, map_push, list_all-append, list_any-append, decimal, signed_decimal, list_all, list_any, flat_map, option_map, int_eq, ℤ, pos, negsuc, ◌*ℤ◌, ◌≤ℤ◌, ◌==◌, nat_le, int_le, unsigned_abs, codes, not, ◌&&◌, nat_abs, ◌||◌, take, result_err, unit, most_count, minus, point, IsSign, Numeral, with_sign, shift_of, StandsFor, ReadsDecimal, ReadsWhole, decimal_of, whole_of, decimals, fraction_spelling, size_spelling, spelling, NumberFault, most_families, most_weight, most_depots, most_fixed, most_multiplier, within_abs, is_from_to, is_within, is_node, is_pair_of, is_branch_of, is_triple_of, Words, first_of, goes_on, firsts_begin, groups_append, begun_append, firsts_on, when, first_row, word_fault, before, depots_in, place_of_depot, groups_in, begun_in, word_at, listed_in, firsts_in, place_in_list, fixed_pair, place_in_pair, fixed_triple, place_in_triple, is_not_empty, node, node_or_end, is_end, not_zero, reads_as, number, whole_of_size, DepotAfter, FirstAfter, SecondOf, PastEnd, Weight, PastWeights, weights_in, place_of_weight, Place, Amount, wants_more}
 use Rattle.std.proofs.Math.Nat.{pow-suc}
 use Rattle.std.proofs.lemmas.Float.{T_from_true}

@@ -1,4 +1,4 @@
--- Items in front of a text that is read on: lines, keywords and words.
+-- What lines, keywords and words in front of a text add to its items: each canonical section is read back in this way.
 use Rattle.tsp_read.proofs.Prelude.{◌≡◌, ℕ, suc, ◌+◌, ◌-◌, Bool, true, false, cond, List, [], ◌∷◌, ◌++◌, length, get_or, map, reverse, refl, sym, ap, ◌∙◌, arith, append_assoc, subst, append-nil, None, Some, ◌≤◌, length-append, take, drop, false≢true, and_from, and_parts, true≢false, leb-true, le-ltb, lt-leb, not-true, false_from_ne_true, nat_tests, take_at, drop_at, reverse-reverse, get_or-reverse, reverse-append, list_all-append, list_all, prefix_len, fold, flat_map, option_and_then, not, slice_index, is_some, ◌||◌, ◌&&◌, ◌==◌, nat_le, nat_lt, result_err, keyword_of, most_line_bytes, most_kept_bytes, most_comments, is_unknown, most_others, is_blank, is_letter, is_keyword_byte, field_word, Field, NameKey, CommentKey, DimensionKey, CapacityKey, ScaleKey, LoadUnitKey, Known, EdgeDataFormat, EdgeDataSection, Eof, Unknown, blank_before, value_line, keyword_line, other_line, is_kept, is_unknown_keyword, is_other, clean_more, same_field_is, rows_of_word, words_more, is_key, has_line, value_at, values_at, others_in, open_section, is_open, words_of, spatial_after, place_in, dimension_in, same_field, read_as, word_fault, row_of, may_repeat, is_too_long_to_keep, ends_line, without_start, without_end, begins, is_word_line, keyword_in, after_keyword, is_colon, has_colon, value_in, words_in, WordLine, Item, Line, NumberWord, LineEnd, word_line_of, line_item, items_in, items_of, has_no_line_end, has_end_line, to_end_line, is_end_line, is_not_empty, Place, IsClean}
 use Rattle.std.proofs.Math.Numerals.{one-add}
 use Rattle.tsp_format.specs.declared.keyword.Keyword.{Keyword}

@@ -1,4 +1,4 @@
--- The next item of a text that comes in pieces, and what holds whatever bytes follow.
+-- The next item of a text that comes in pieces, whatever bytes follow (`next_item` in src/items.rt).
 use Rattle.tsp_read.proofs.Prelude.{◌≡◌, ℕ, ◌≤◌, Bool, true, false, List, [], ◌∷◌, ◌++◌, length, refl, sym, ap, subst, ◌∙◌, arith, append-nil, Option, None, Some, Ok, cond, append_assoc, ◌+◌, ◌<◌, take, drop, ne_eqb, lt-ltb, or_parts, or_from, reverse-append, reverse-reverse, nil_from_length, position_or_len, option_map, reverse, IfSome, not, ◌||◌, ◌&&◌, ◌==◌, nat_lt, most_word_bytes, most_line_bytes, is_blank, is_letter, fault_stays, start_blank, start_filled, when, first_row, is_not_empty, without_start, Item, is_end_line, has_end_line, to_end_line, ends_line, NumberWord, LineEnd, line_item, fault_in, IsClean, fault_at_end, is_too_long, part, fault, ReadFault}
 use Rattle.tsp_file.specs.declared.rules.EndFault.{EndFault}
 use Rattle.tsp_text.specs.declared.fault.ReadFault.TheVariants as faults

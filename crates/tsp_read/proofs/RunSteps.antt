@@ -1,4 +1,4 @@
--- Runs of plain numbers, read in one pass, are read as word by word.
+-- A run of plain numbers read in one pass leaves what its words would leave one by one, for src/runs.rt.
 use Rattle.tsp_read.proofs.Prelude.{◌≡◌, ℕ, ◌+◌, ◌<◌, ◌≤◌, Bool, true, false, List, [], ◌∷◌, ◌++◌, length, take, drop, refl, sym, ap, subst, ◌∙◌, arith, inl, inr, Ok, ℤ, pos, ◌*ℤ◌, take-append-drop, Result, Err, IfErr, Option, None, Some, true≢false, le-ltb, or_right, nat_tests, not, ◌&&◌, ◌||◌, ◌⊎◌, unsigned_abs, unit, most_count, plus, minus, point, lower_e, upper_e, IsSign, IsFraction, IsExponent, Numeral, SpellsNumeral, ReadsWhole, ReadsDecimal, whole_of, decimal_of, most_word_bytes, is_blank, is_letter, Numbers, start_filled, place_by, place_of_number, ends_line, is_not_empty, without_start, Item, NumberWord, LineEnd, IsWhole, Place}
 use Rattle.std.proofs.lemmas.Str.Parse.{digit_from_value}
 use Rattle.std.specs.Str.Parse.{AllDigits}

@@ -1,4 +1,4 @@
--- What a text made of lines has as items: those of its lines, one after the other.
+-- The items of a text made of lines are those of its lines, one after the other.
 use Rattle.tsp_read.proofs.Prelude.{◌≡◌, ℕ, Bool, true, false, cond, List, [], ◌∷◌, ◌++◌, map, refl, sym, ap, ◌∙◌, arith, append_assoc, append-nil, not, ◌&&◌, nat_le, list_all, filter, slice_split, onto_first, flat_map, false≢true, and_from, and_parts, not-true, nat_tests, list_all-append, is_blank, is_letter, number_line, ends_line, lines_of, is_not_empty, words_in, without_start, is_word_line, Item, Line, NumberWord, LineEnd, line_item, items_in, items_by, items_of, has_no_line_end}
 
 -- ---- pieces

@@ -1,4 +1,4 @@
--- The result of reading the canonical text of a file.
+-- What may come of reading the canonical text of a file: that file, or that memory was refused.
 use Rattle.tsp_read.specs.Prelude.{Result, Ok, Err, Fields, ReadFault}
 use Rattle.std.specs.Prelude.{◌≡◌}
 use Rattle.tsp_text.specs.declared.fault.ReadFault.TheVariants as faults

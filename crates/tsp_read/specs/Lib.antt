@@ -1,4 +1,4 @@
--- The files of definitions of this crate. Crates above may import them.
+-- Definitions of what reading returns (Reads, Answers) and of the reader's state on the way (`states`).
 pub mod Prelude
 pub mod states
 pub mod Reads

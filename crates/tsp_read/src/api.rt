@@ -1,5 +1,6 @@
-//! The public calls that read a file: from bytes, from a reader, or from pieces. Each returns the
-//! fault of the text, or that memory was refused.
+//! The public calls of this crate: a file from bytes in memory, from a reader, or from pieces.
+//! `Reads`, `ReadsFrom` and `Feeds` in `specs/Reads.antt` say what each returns and how many bytes
+//! it takes, which users rely on when they read from a pipe.
 
 ghost use Rattle.std.specs.Prelude.{◌≡◌, Err, false, []};
 ghost use Rattle.tsp_io.specs.states.Watched.{read_trace_of, has_failed};
@@ -20,12 +21,12 @@ use tsp_text::ReadFault;
 ///
 /// # Errors
 ///
-/// - `Line`: the first line that has a fault, in a number line its first word with one.
-/// - `TooLong`: there are more bytes than a file may have, and those that it may have decide
-///   nothing.
-/// - `End`: no line has a fault, and the lines together are no file.
-/// - `OutOfMemory`: memory was refused. It may come in place of any answer, but for a text of
-///   blanks and bytes 10 alone.
+/// - `Line`: the first line with a fault, and in a number line the first word with one.
+/// - `TooLong`: there are more bytes than a file may have, and so far neither a fault nor a line
+///   EOF.
+/// - `End`: no line has a fault, but the lines together are no file.
+/// - `OutOfMemory`: out of memory. This can replace any other answer, except for a text that
+///   consists of blanks and bytes 10.
 pub fn read_bytes(alloc: Global, bytes: &[u8]) -> Result<File, ReadFault>
     ensures answer { Reads bytes.now result }
     ensures memory { result ≡ Err OutOfMemory → is_bare bytes.now ≡ false }
@@ -33,20 +34,20 @@ pub fn read_bytes(alloc: Global, bytes: &[u8]) -> Result<File, ReadFault>
     Ok(file_of_bytes(alloc, bytes)?)
 }
 
-/// Reads a file from a reader, in pieces of at most 4,096 bytes: up to an end, to an end line, to a
-/// fault, or past the most bytes that a file may have.
+/// Reads a file from a reader, in pieces of at most 4,096 bytes, until the reader ends, a line EOF
+/// or a fault is found, or the limit on the bytes of a file is exceeded.
 ///
-/// The answer is that of `read_bytes` for the bytes that the reader delivered, and for all that it
-/// has. At most 4,096 bytes are taken past 1,073,741,824, or past an end line or a fault that is
-/// settled. A reader that had failed before is not read, and it fails by an error of a read alone,
-/// which is the last one.
+/// The answer is that of `read_bytes` for the bytes that the reader delivered, and also for all
+/// bytes that it has. At most 4,096 bytes are taken past 1,073,741,824, past a line EOF, or past a
+/// fault that is settled. A reader that had failed before isn't read. The reader fails only if a
+/// read returns an error, and that read is the last one.
 ///
 /// # Errors
 ///
 /// - `Line`, `End` and `TooLong`: as `read_bytes` says.
 /// - `Device`: a read failed, or had failed before.
-/// - `OutOfMemory`: memory was refused. It may come in place of any answer but `Device`, if the
-///   reader delivered more than blanks and bytes 10.
+/// - `OutOfMemory`: out of memory. This can replace any answer except `Device`, if the reader
+///   delivered more than blanks and bytes 10.
 pub fn read_from<R: Gives>(alloc: Global, reader: &mut Watched<R>) -> Result<File, ReadFault>
     ensures answer { ReadsFrom (read_trace_of R.remaining reader.old reader.new) result }
     ensures asked { IsReadOn R.gives reader.old reader.new }
@@ -63,16 +64,16 @@ impl Feed {
     ghost use Rattle.tsp_read.specs.Reads.{Reads};
     ghost use Rattle.tsp_read.specs.Reads.{HasTaken, refusal, Feeds};
 
-    /// Takes the next piece. After an end line everything is taken, and nothing is looked at.
+    /// Takes the next piece. After a line EOF every piece is taken, and nothing in it is looked at.
     ///
     /// # Errors
     ///
-    /// After a refusal every later call returns the same, and no bytes are those so far.
+    /// After a refusal every later call returns the same fault, and takes no bytes.
     ///
-    /// - `Line`: a line or a word that has come whole, or is too long already, has the first fault.
-    /// - `TooLong`: there are more bytes than a file may have, and those that it may have decide
-    ///   nothing.
-    /// - `OutOfMemory`: memory was refused.
+    /// - `Line`: a line or a word that is complete, or already too long, has the first fault.
+    /// - `TooLong`: there are more bytes than a file may have, and so far neither a fault nor a
+    ///   line EOF.
+    /// - `OutOfMemory`: out of memory.
     pub fn feed(&mut self, piece: &[u8]) -> Result<(), ReadFault>
         ensures taken { (bytes : List ℕ) → HasTaken self.old bytes
             → Feeds (bytes ++ piece.now) self.new result }
@@ -85,15 +86,15 @@ impl Feed {
         Ok(self.take(piece)?)
     }
 
-    /// The file that the bytes so far parse to, or why they don't.
+    /// Ends the text, and returns the file that its bytes parse to.
     ///
     /// # Errors
     ///
-    /// A refusal of `feed` is returned again. Else:
+    /// A refusal by `feed` is returned again. Otherwise:
     ///
     /// - `Line`: the last line, or its last word, has the first fault.
-    /// - `End`: no line has a fault, and the lines together are no file.
-    /// - `OutOfMemory`: memory was refused. If a line EOF is settled none is wanted.
+    /// - `End`: no line has a fault, but the lines together are no file.
+    /// - `OutOfMemory`: out of memory. After a settled line EOF no memory is needed.
     pub fn finish(self) -> Result<File, ReadFault>
         ensures read { (bytes : List ℕ) → HasTaken self bytes → Reads bytes result }
         ensures memory { (bytes : List ℕ) → HasTaken self bytes → result ≡ Err OutOfMemory
@@ -108,7 +109,7 @@ impl Feed {
 
 // ---- reads a whole text, or a reader to its end
 
-/// Reads a file from the bytes of a text, as `read_bytes` does.
+/// What `read_bytes` does, with a `ReadError` as its error.
 ///
 /// # Errors
 ///
@@ -127,7 +128,7 @@ pub fn file_of_bytes(alloc: Global, bytes: &[u8]) -> Result<File, ReadError>
     }
 }
 
-/// Reads a file from a reader, in pieces. The error is that of [`read_from`], as a `ReadError`.
+/// What [`read_from`] does, with a `ReadError` as its error.
 ///
 /// # Errors
 ///
@@ -152,11 +153,11 @@ pub fn file_of_reader<R: Gives>(alloc: Global, reader: &mut Watched<R>) -> Resul
 
 // ---- reads a reader in pieces of 4,096 bytes and feeds them to a `Feed`
 
-/// The most bytes that a reader is asked for at once.
+/// The size of a piece: the most bytes that a reader is asked for at once.
 const MOST_AT_ONCE: usize = 4_096;
 
-/// Feeds the bytes of a reader: up to its end, to an end line, to a fault, or past the most bytes
-/// that a file may have.
+/// Feeds the bytes of a reader until it ends, a line EOF or a fault is found, or the limit on the
+/// bytes of a file is exceeded.
 fn feed_all<R: Gives>(feed: &mut Feed, reader: &mut Watched<R>) -> Result<(), ReadError>
     requires start { HasTaken feed.old [] }
     requires sound { has_failed reader.old ≡ false }

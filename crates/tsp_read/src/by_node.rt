@@ -1,5 +1,7 @@
-//! The lists that take the words of a section by node: a point for each node, of the plane or in space,
-//! or a whole number for each.
+//! Reads the sections with a line for each node: NODE_COORD_SECTION and DISPLAY_DATA_SECTION as
+//! points, DEMAND_SECTION and the sections of potentials as whole numbers. Nodes may come in any
+//! order, so each value is stored at the place of its node (`HoldsPoints` and `HoldsNumbers` in
+//! `specs/states/HeldParts.antt`).
 
 ghost use Rattle.tsp_read.specs.Prelude.{ForSome, None, Some, Ok, [], ℕ, List, length, vec_len, IfOk, IfErr, Err, is_some, true, false, pos, slice_index_or, replicate, Bool, ℤ, points_of};
 ghost use Rattle.std.specs.Prelude.{◌≡◌, ◌<◌, ◌≤◌, ◌^◌, ◌∷◌, ◌++◌, ◌≢◌, ◌-◌, ◌≤ℤ◌};
@@ -14,8 +16,7 @@ use tsp_io::{Refused, filled};
 use tsp_number::{Decimal, PlanePoint, Point, parse_decimal, parse_whole};
 use tsp_text::LineFault;
 
-/// What was read of a section of groups of a node and its coordinates, two or three by the kind of
-/// the points.
+/// A section of points so far: its words come in groups of a node and its two or three coordinates.
 #[derive(Drop)]
 pub struct PointList {
     seen: Vec<bool>,
@@ -29,11 +30,11 @@ pub struct PointList {
     ghost within: { ForSome begun (λ k. (1 ≤ k) × (k ≤ vec_len seen)) },
 }
 
-/// The points of `n` nodes, each with coordinates 0.
+/// `n` points, all with coordinates 0.
 ///
 /// # Errors
 ///
-/// Memory was refused.
+/// Out of memory.
 fn at_origin(alloc: Global, n: u32, in_space: bool) -> Result<Coords, Refused>
     ensures { IfOk result (λ coords. (are_in_space coords ≡ in_space)
         × (points_of coords ≡ replicate n origin)) }
@@ -61,7 +62,7 @@ impl PointList {
     ///
     /// # Errors
     ///
-    /// Memory was refused.
+    /// Out of memory.
     pub fn open(alloc: Global, n: u32, in_space: bool) -> Result<PointList, Refused>
         ensures { IfOk result (λ part. HoldsPoints part in_space n []) }
     {
@@ -79,9 +80,9 @@ impl PointList {
     ///
     /// # Errors
     ///
-    /// `Fault`: the word is no node, or no coordinate (`Number`), the node has a group
-    /// (`RepeatedNode`), or every node has one (`Surplus`). The list has the words from before
-    /// then. No memory is taken.
+    /// `Fault`: the word isn't a node, or isn't a coordinate (`Number`); the node already has a
+    /// group (`RepeatedNode`); or every node has one (`Surplus`). The list then has the words from
+    /// before. No memory is taken.
     pub fn push(&mut self, word: &[u8]) -> Result<(), StepFault>
         ensures takes { (in_space : Bool) (n : ℕ) (words : List (List ℕ))
             → HoldsPoints self.old in_space n words → Takes n (place_by (shape_of_points in_space)
@@ -160,7 +161,7 @@ impl PointList {
         self.begun.is_some()
     }
 
-    /// Takes a number as the node of a new group, and returns whether it was taken.
+    /// Takes a number as the node of a new group, if possible, and returns whether it did.
     #[inline(always)]
     pub fn push_read(&mut self, number: i64) -> bool
         ensures taken { result ≡ true → (in_space : Bool) (n : ℕ) (words : List (List ℕ))
@@ -185,7 +186,7 @@ impl PointList {
         }
     }
 
-    /// Takes a coordinate of the open group, and returns whether it was taken.
+    /// Takes a coordinate of the open group, if there is one, and returns whether it did.
     #[inline(always)]
     pub fn push_coordinate(&mut self, coordinate: Decimal) -> bool
         ensures taken { result ≡ true
@@ -206,7 +207,7 @@ impl PointList {
         }
     }
 
-    /// The list by node, and whether a group is still to come.
+    /// The list by node, and whether a group is still missing.
     pub fn finish(self) -> (Coords, bool)
         ensures { (in_space : Bool) (n : ℕ) (words : List (List ℕ)) → HoldsPoints self
             in_space n words → (points_of result.0 ≡ coords_by_node in_space n words)
@@ -219,7 +220,7 @@ impl PointList {
 
 // ---- the list that takes the words of a section with a whole number for each node
 
-/// What was read of a section of groups of a node and a whole number.
+/// A section of numbers so far: its words come in groups of a node and a whole number.
 #[derive(Drop)]
 pub struct NumberList {
     seen: Vec<bool>,
@@ -239,12 +240,12 @@ impl NumberList {
     ghost use Rattle.tsp_read.specs.states.Parts.{Takes, IsNodeOf};
     ghost use Rattle.tsp_read.specs.states.HeldParts.{HoldsNumbers};
 
-    /// The section with no words so far, in a file of `n` nodes. Its numbers are from `low` to
-    /// `high`.
+    /// The list at the opening of the section, in a file of `n` nodes. Its numbers are from `low`
+    /// to `high`.
     ///
     /// # Errors
     ///
-    /// Memory was refused.
+    /// Out of memory.
     pub fn open(alloc: Global, n: u32, low: i64, high: i64) -> Result<NumberList, Refused>
         ensures { IfOk result (λ part. HoldsNumbers part low high n []) }
     {
@@ -262,9 +263,9 @@ impl NumberList {
     ///
     /// # Errors
     ///
-    /// `Fault`: the word is no node, or no number from `low` to `high` (`Number`), the node has a
-    /// group (`RepeatedNode`), or every node has one (`Surplus`). The list has the words from
-    /// before then. No memory is taken.
+    /// `Fault`: the word isn't a node, or isn't a number from `low` to `high` (`Number`); the node
+    /// already has a group (`RepeatedNode`); or every node has one (`Surplus`). The list then has
+    /// the words from before. No memory is taken.
     pub fn push(&mut self, word: &[u8]) -> Result<(), StepFault>
         ensures takes { (low high : ℤ) (n : ℕ) (words : List (List ℕ))
             → HoldsNumbers self.old low high n words
@@ -301,7 +302,7 @@ impl NumberList {
         }
     }
 
-    /// Takes a number as the node or the value of a group. Returns whether it was taken.
+    /// Takes a number as the node or the value of a group, if possible, and returns whether it did.
     #[inline(always)]
     pub fn push_read(&mut self, number: i64) -> bool
         ensures taken { result ≡ true
@@ -339,7 +340,7 @@ impl NumberList {
         }
     }
 
-    /// The list by node, and whether a group is still to come.
+    /// The list by node, and whether a group is still missing.
     pub fn finish(self) -> (Vec<i64>, bool)
         ensures { (low high : ℤ) (n : ℕ) (words : List (List ℕ)) → HoldsNumbers self
             low high n words → (result.0.items ≡ numbers_by_node low high n words)

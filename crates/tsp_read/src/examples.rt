@@ -1,5 +1,5 @@
-//! Laws that state values of the definitions in `specs/`, worked out by hand: which texts are
-//! blank, how many bytes a read takes at most, when the reader is read on.
+//! Values of the definitions in `specs/Reads.antt`, worked out by hand: which texts are blank, how
+//! many bytes a read takes at most, and when the reader is read on.
 
 ghost use Rattle.std.specs.Prelude.{◌≡◌, ◌+◌, ◌^◌, true, false, [], ◌∷◌, replicate};
 ghost use Rattle.tsp_read.specs.states.Onward.{is_bare};
@@ -7,9 +7,9 @@ ghost use Rattle.tsp_read.specs.Reads.{most_taken, before_last, may_go_on};
 ghost use Rattle.tsp_read.specs.declared.feed.Stage.TheVariants as stages;
 ghost use Rattle.tsp_text.specs.declared.fault.ReadFault.{ReadFault};
 
-/// Which texts are of blanks and line ends alone, how many bytes are taken at most, and what the
-/// bytes but for the last piece are: none up to 4,096, and of one more the first. A reader is read
-/// on while the text goes on, and not after its end line or a refusal.
+/// Which texts consist of blanks and line ends, how many bytes are taken at most, and which bytes
+/// come before the last piece: none up to 4,096 bytes, and the first one if there is one more. A
+/// reader is read on while the text goes on, and not after its line EOF or a refusal.
 pub fn examples_of_reading()
     ensures nothing { is_bare [] ≡ true }
     ensures blanks { is_bare (9 ∷ 10 ∷ 11 ∷ 12 ∷ 13 ∷ 32 ∷ []) ≡ true }

@@ -1,4 +1,6 @@
-//! `Feed`, which reads a file in pieces and finds the fault as soon as no later byte can change it.
+//! `Feed` takes a file in pieces of any size and reports a fault as soon as no later byte can
+//! change it. It decides only whether reading goes on (`Stage`): lines and words are cut in
+//! `items.rt`. `HasTaken` in `specs/Reads.antt` is what it knows after each piece.
 
 ghost use Rattle.tsp_read.specs.Prelude.{[], List, ℕ, length, Ok, true, false, most_file_bytes, is_not_empty};
 ghost use Rattle.std.specs.Prelude.{◌≡◌, ◌+◌, ◌≤◌, ◌++◌};
@@ -11,7 +13,7 @@ use tsp_file::File;
 use tsp_format::MOST_FILE_BYTES;
 
 /// Reads a piece that is within the limit on the bytes of a file. An item that it cuts is kept for
-/// the next piece. Returns whether the line EOF was taken.
+/// the next piece. Returns whether the line EOF was found.
 fn read_on(
     intake: &mut Intake,
     begun: &mut Begun,
@@ -41,7 +43,7 @@ fn read_on(
     }
 }
 
-/// A text up to at most this many bytes, and the rest.
+/// At most this many bytes from the front of a text, and the rest.
 fn split_at_most(text: &[u8], most: usize) -> (&[u8], &[u8])
     ensures parts { text.now ≡ result.0.now ++ result.1.now }
     ensures front { length result.0.now ≤ most }
@@ -54,7 +56,7 @@ fn split_at_most(text: &[u8], most: usize) -> (&[u8], &[u8])
     }
 }
 
-/// How far a text is after a piece, by whether all of it could be read.
+/// The stage after a piece, from the result of reading it.
 fn stage_after(all: bool, read: Result<bool, ReadError>) -> Stage
     ensures { result ≡ stage_after all read }
 {
@@ -76,9 +78,9 @@ fn outcome(stage: Stage) -> Result<(), ReadError>
     }
 }
 
-/// A file that is read in pieces. How they are cut doesn't matter.
+/// A file that is read in pieces, however these are cut.
 ///
-/// It keeps no bytes but those of a line or a word whose end hasn't come yet, at most 4,096.
+/// It keeps only the bytes of a line or word whose end hasn't come yet, at most 4,096.
 ///
 /// ```text
 /// let mut feed = Feed::new(alloc);
@@ -99,7 +101,8 @@ pub struct Feed {
     ghost read: { ∥ HasBytes stage intake begun count ∥₁ },
 }
 
-/// As a derive would do it. A function that drops a feed calls this.
+/// Drops each field, as a derive would. Functions that drop a feed call this one function, so that
+/// they are proved faster.
 impl Drop for Feed {
     fn drop(self) {
         let Feed {
@@ -123,7 +126,7 @@ impl Feed {
     ghost use Rattle.tsp_read.specs.Reads.{may_go_on};
     ghost use Rattle.tsp_read.specs.Reads.{IsGoing, HasTaken, refusal, Feeds, ComesTo, EndsReading, EndsClosed};
 
-    /// The start of a file. It takes no memory.
+    /// A feed that has taken nothing yet. No memory is taken.
     pub fn new(alloc: Global) -> Feed
         ensures { HasTaken result [] }
     {
@@ -136,7 +139,7 @@ impl Feed {
         }
     }
 
-    /// Goes on with a piece: up to the most bytes that a file may have.
+    /// Goes on with a piece, up to the limit on the bytes of a file.
     fn go_on(&mut self, piece: &[u8])
         requires { self.old.stage ≡ Going }
         ensures { (bytes : List ℕ) → IsGoing self.old bytes
@@ -148,7 +151,7 @@ impl Feed {
         self.stage = stage_after(over.is_empty(), read);
     }
 
-    /// Whether what follows is looked at.
+    /// Whether the next piece will be looked at.
     pub(crate) fn may_go_on(&self) -> bool
         ensures { result ≡ may_go_on self.now.stage }
     {
@@ -180,7 +183,7 @@ impl Feed {
         }
     }
 
-    /// All that was read, once the line or word that has begun is taken as the last.
+    /// All that was read, after the line or word that has begun is taken as the last.
     fn end(self) -> Result<Reading, ReadError>
         ensures ends { (bytes : List ℕ) → HasTaken self bytes → EndsReading bytes result }
         ensures again { (found : ReadFault) → refusal self ≡ Some found → result ≡ Err found }
@@ -232,7 +235,7 @@ impl Feed {
 
 // ---- how far a text is that comes in pieces
 
-/// How far a text is: it goes on, its end line was taken, or it was refused.
+/// How far a text has come: it goes on, its line EOF was found, or it was refused.
 #[derive(Clone, Copy)]
 pub(crate) enum Stage {
     Going,

@@ -1,5 +1,6 @@
-//! Cuts a text into items: word lines, words of number lines, line ends. `Intake` takes the items
-//! of a piece and counts lines and words; `Begun` keeps an item that the end of a piece has cut.
+//! Cuts the bytes of a piece into lines and words, and keeps the one that the piece's end has cut
+//! in two (`Begun`). `Intake` hands each to `reading.rt` and counts lines and words, so the places
+//! in printed faults come from here.
 
 ghost use Rattle.tsp_read.specs.Prelude.{position, [], List, ℕ, length, IfOk, IfSome, Err, true, IsTrue, Ok, false, MatchOption, most_file_bytes, Item, NumberWord, line_item, WordLine, Line, is_end_line, line_number, words_before, word_number, without_start};
 ghost use Rattle.std.specs.Prelude.{◌≡◌, ◌+◌, ◌≤◌, ◌<◌, ◌∷◌};
@@ -20,13 +21,13 @@ use tsp_text::LineFault;
 /// A word that is too long.
 const LONG_WORD: [u8; MOST_WORD_BYTES + 1] = [b'1'; MOST_WORD_BYTES + 1];
 
-/// The state of the reader at a place of a text, with the numbers of the line and the word there.
+/// The state of the reader at a place in a text, with the numbers of the line and word there.
 #[derive(Drop)]
 pub(crate) struct Intake {
     pub(crate) reading: Reading,
     /// The number of the line, from 1 on.
     pub(crate) line: u32,
-    /// How many of its words were taken.
+    /// How many words of the line were taken.
     pub(crate) words: u32,
     /// An item of the line was taken.
     pub(crate) inside: bool,
@@ -63,7 +64,7 @@ impl Intake {
         reading
     }
 
-    /// Takes the next item. Returns whether it is an end line.
+    /// Takes the next item. Returns whether it is the line EOF.
     pub(crate) fn take_next(&mut self, alloc: Global, next: &Next<'_>) -> Result<bool, ReadError>
         requires line { self.old.line ≤ most_file_bytes }
         requires words { self.old.words < most_file_bytes }
@@ -104,7 +105,7 @@ impl Intake {
     {
         match self.take_next(alloc, &Next::Word(&LONG_WORD)) {
             Err(fault) => fault,
-            // No such word is taken.
+            // Such a word is never taken.
             Ok(_) => {
                 let fault = LineFault::Number(NumberFault::LongWord);
                 ReadError::at(self.line, self.words, fault)
@@ -128,7 +129,7 @@ impl Intake {
 
     /// Takes the complete items of a piece, and returns the rest of the piece.
     ///
-    /// An item is complete if no further byte can change it. `None` after the line EOF.
+    /// An item is complete if no further byte can change it. Returns `None` after the line EOF.
     ///
     /// # Errors
     ///
@@ -161,7 +162,7 @@ impl Intake {
 
 // ---- takes one item: a word line, a word or a line end
 
-/// Takes an item into the state. Returns whether it is an end line.
+/// Takes an item into the state. Returns whether it is the line EOF.
 fn take(reading: &mut Reading, alloc: Global, next: &Next<'_>) -> Result<bool, StepFault>
     ensures item { (earlier : List Item) → Holds reading.old earlier
         → TakesItem earlier (item_next next.now) reading.new result }
@@ -190,7 +191,8 @@ fn is_end(key: Keyword) -> bool
     }
 }
 
-/// Takes a word line, from its first byte that isn't blank on. Returns whether it is an end line.
+/// Takes a word line, given from its first byte that isn't blank. Returns whether it is the line
+/// EOF.
 fn take_line(reading: &mut Reading, alloc: Global, text: &[u8]) -> Result<bool, StepFault>
     ensures { (earlier : List Item) → Holds reading.old earlier
         → TakesItem earlier (line_item text.now) reading.new result }
@@ -200,7 +202,7 @@ fn take_line(reading: &mut Reading, alloc: Global, text: &[u8]) -> Result<bool, 
     Ok(is_end(line.key))
 }
 
-/// The number of the word that an item is, after this many words of its line; 0 if it is none.
+/// The number of the word that an item is, after this many words of its line; 0 if it isn't a word.
 fn word_of(words: u32, next: &Next<'_>) -> u32
     requires { words ≤ most_file_bytes }
     ensures number { (earlier : List Item) → words ≡ words_before earlier
@@ -235,7 +237,7 @@ pub(crate) enum Next<'a> {
     Line(&'a [u8]),
     /// A word of a number line.
     Word(&'a [u8]),
-    /// A line's end.
+    /// The end of a line.
     LineEnd,
 }
 
@@ -252,7 +254,7 @@ impl<'a> Next<'a> {
         }
     }
 
-    /// Whether what follows is of the same line.
+    /// Whether what follows is in the same line.
     #[inline(always)]
     pub(crate) fn is_inside(&self) -> bool
         ensures { result ≡ is_in_line self.now }
@@ -264,11 +266,10 @@ impl<'a> Next<'a> {
     }
 }
 
-/// The next part of the rest of a text, and the rest after it; nothing at its end.
+/// The next part of a text, and what is left after it; `None` at its end.
 ///
-/// `inside` says that an item of the first line was already taken. `goes_on` says that the text
-/// goes on after these bytes; then an item counts only if no further byte can change it, or if it
-/// is already too long.
+/// `inside` says that an item of the first line was already taken. `goes_on` says that more bytes
+/// follow. Then an item counts only if no further byte can change it, or if it is already too long.
 #[inline(always)]
 fn next_item(text: &[u8], inside: bool, goes_on: bool) -> Option<(Next<'_>, &[u8])>
     ensures items { MatchOption result (items_left goes_on inside text.now ≡ [])
@@ -302,8 +303,8 @@ pub(crate) enum Token {
 }
 
 impl Token {
-    /// What a byte that isn't blank begins: a word line if it is a letter, and the first of its
-    /// line.
+    /// What a byte that isn't blank begins: a word line if it is a letter and the first in its
+    /// line, otherwise a word.
     #[inline(always)]
     pub(crate) fn begun_by(first: u8, inside: bool) -> Token
         ensures { result ≡ token_at inside first }
@@ -315,7 +316,7 @@ impl Token {
         }
     }
 
-    /// How many bytes it may have.
+    /// The most bytes that it may have.
     #[inline(always)]
     pub(crate) fn most_bytes(self) -> usize
         ensures { result ≡ most_bytes self }
@@ -326,8 +327,8 @@ impl Token {
         }
     }
 
-    /// Where it ends in a text that it begins, or goes on in: at a byte 10, and a word at a blank
-    /// too.
+    /// Where it ends in a text that it begins, or in which it goes on: at a byte 10, and a word
+    /// also at a blank.
     #[inline(always)]
     fn end(self, text: &[u8]) -> Option<usize>
         ensures { result ≡ position (ends_token self) text.now }
@@ -340,7 +341,7 @@ impl Token {
         }
     }
 
-    /// A text up to its end, and from there on.
+    /// The text up to its end, and the rest.
     #[inline(always)]
     pub(crate) fn cut(self, text: &[u8]) -> (&[u8], &[u8])
         ensures before { result.0.now ≡ up_to_first (ends_token self) text.now }
@@ -352,8 +353,8 @@ impl Token {
         }
     }
 
-    /// The parts of `cut`; or nothing if the text goes on and the end isn't in it, unless it is
-    /// longer than it may be.
+    /// The parts that `cut` returns; `None` if the text goes on and doesn't contain the end, unless
+    /// it is already too long.
     #[inline(always)]
     pub(crate) fn take(self, text: &[u8], goes_on: bool) -> Option<(&[u8], &[u8])>
         ensures { MatchOption result (is_settled (most_bytes self) goes_on
@@ -371,11 +372,11 @@ impl Token {
 
 // ---- a line or a word that the end of a piece has cut, until the next piece brings its end
 
-/// The bytes so far of a word line or of a word whose end has not come, from the first that isn't
-/// blank on; none if nothing has begun.
+/// The bytes so far of a word line or word whose end hasn't come, from its first byte that isn't
+/// blank; empty if nothing has begun.
 #[derive(Drop)]
 pub(crate) struct Begun {
-    /// What has begun, if something has.
+    /// What has begun, if anything has.
     pub(crate) token: Token,
     pub(crate) bytes: ArrayVec<u8, MOST_LINE_BYTES>,
 }
@@ -384,7 +385,7 @@ impl Begun {
     ghost use Rattle.tsp_read.specs.states.Onward.{IsPaused, TakesAll};
     ghost use Rattle.tsp_read.specs.states.Onward.{HasBegun, kept, IsFedTo, IsJoinedTo, most_lines, most_words, KeepRoom};
 
-    /// The start, if no line or word has begun.
+    /// Nothing has begun.
     pub(crate) fn new() -> Begun
         ensures { kept result ≡ [] }
     {
@@ -394,7 +395,7 @@ impl Begun {
         }
     }
 
-    /// Keeps what is left of a piece: nothing but blanks, or a line or a word without its end.
+    /// Keeps what is left of a piece: either only blanks, or a line or word without its end.
     pub(crate) fn keep(&mut self, rest: &[u8], inside: bool)
         requires { items_left true inside rest.now ≡ [] }
         ensures begins { HasBegun inside self.new.token self.new.bytes.items }
@@ -406,7 +407,7 @@ impl Begun {
             return;
         };
         self.token = Token::begun_by(*first, inside);
-        // It fits: a longer one has been taken.
+        // It fits, because a longer one has been refused.
         let _ = self.bytes.try_extend_from_slice(filled);
     }
 
@@ -439,7 +440,7 @@ impl Begun {
         if self.bytes.len() + front.len() > self.token.most_bytes() {
             return Err(intake.too_long(alloc, self.token));
         }
-        // It fits: nothing may be longer than a line.
+        // It fits, because nothing may be longer than a line.
         let _ = self.bytes.try_extend_from_slice(front);
         if rest.is_empty() {
             return Ok(Some(rest));
@@ -451,7 +452,7 @@ impl Begun {
         Ok(Some(rest))
     }
 
-    /// Takes the item that was cut, if there is one, as the last of the text.
+    /// Takes the item that was cut, if there is one, as the last item of the text.
     ///
     /// Returns whether it is the line EOF.
     ///

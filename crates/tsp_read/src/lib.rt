@@ -4,7 +4,7 @@
 //! lines and words from the bytes, `runs` takes runs of numbers at once, `reading` puts them into
 //! the draft of a file, and `section_builder` holds the list of the open section. The law
 //! [`canonical_texts_are_read_back`] says that the canonical text of a valid file parses to that
-//! file. This crate judges nothing, and opens no files.
+//! file. This crate judges nothing and opens no files.
 //!
 //! As example_check does it, with a text in memory:
 //!

@@ -1,5 +1,6 @@
-//! A word line: its keyword, colon and value (`CutLine`), what the value is read as, and the field
-//! of the draft that it sets. Also `StepFault`, why a line or a word isn't taken.
+//! A line that begins with a keyword: `CutLine` divides it into keyword, colon and value, reads the
+//! value, and sets a field of the draft. `cut_item`, `SetsNamed` and the definitions next to them
+//! in `specs/states/Holds.antt` say what each step does.
 
 ghost use Rattle.tsp_read.specs.Prelude.{position, prefix_len, option_map, cond, drop, not, map, IfOk, is_blank, is_keyword_byte, is_too_long_to_keep, line_item, first_word, keyword_in, is_colon, begins, without_start, without_end, is_left_out, says_space};
 ghost use Rattle.std.specs.Prelude.{◌≡◌};
@@ -21,9 +22,9 @@ use tsp_text::LineFault;
 /// A word line, cut into its parts.
 #[derive(Clone, Copy)]
 pub struct CutLine<'a> {
-    /// How many bytes it has from the first that isn't blank to the line's end.
+    /// Its number of bytes, from the first that isn't blank to the end of the line.
     pub size: usize,
-    /// What the keyword is.
+    /// The keyword.
     pub key: Keyword,
     /// The bytes of the keyword.
     pub keyword: &'a [u8],
@@ -33,7 +34,7 @@ pub struct CutLine<'a> {
     pub value: &'a [u8],
 }
 
-/// Where the keyword at the front ends.
+/// Where the keyword at the front of a line ends.
 #[inline(always)]
 fn keyword_end(text: &[u8]) -> Option<usize>
     ensures { result ≡ position (λ b. not (is_keyword_byte b)) text.now }
@@ -41,7 +42,7 @@ fn keyword_end(text: &[u8]) -> Option<usize>
     text.iter().position(|byte| !is_keyword_byte(*byte))
 }
 
-/// The keyword at the beginning of a word line, and the rest.
+/// The keyword at the front of a word line, and the rest.
 fn split_keyword(text: &[u8]) -> (&[u8], &[u8])
     ensures keyword { result.0.now ≡ keyword_in text.now }
     ensures rest { result.1.now ≡ drop (prefix_len is_keyword_byte text.now) text.now }
@@ -52,7 +53,7 @@ fn split_keyword(text: &[u8]) -> (&[u8], &[u8])
     }
 }
 
-/// Whether the text begins with a colon, and the rest after it; all of it if there is none.
+/// Whether the text begins with a colon, and what follows it; the whole text if there is none.
 fn split_colon(text: &[u8]) -> (bool, &[u8])
     ensures colon { result.0 ≡ begins is_colon text.now }
     ensures rest { result.1.now ≡ drop (cond (begins is_colon text.now) 1 0) text.now }
@@ -64,7 +65,7 @@ fn split_colon(text: &[u8]) -> (bool, &[u8])
 }
 
 impl<'a> CutLine<'a> {
-    /// The parts of a word line: of its bytes from the first that isn't blank to its end.
+    /// The parts of a word line, given from its first byte that isn't blank to its end.
     pub fn of(text: &'a [u8]) -> CutLine<'a>
         ensures { cut_item result ≡ line_item text.now }
     {
@@ -80,14 +81,14 @@ impl<'a> CutLine<'a> {
     }
 }
 
-/// Where the first blank of a value is.
+/// Where the first blank in a value is.
 fn first_blank(value: &[u8]) -> Option<usize>
     ensures { result ≡ position is_blank value.now }
 {
     value.iter().position(|byte| is_blank(*byte))
 }
 
-/// The first word of a value, or nothing of an empty one.
+/// The first word of a value; empty if the value is.
 fn first_word(value: &[u8]) -> &[u8]
     ensures { result.now ≡ first_word value.now }
 {
@@ -100,7 +101,7 @@ fn first_word(value: &[u8]) -> &[u8]
     }
 }
 
-/// Whether a word is one of TSPLIB 95 that the keyword doesn't take here.
+/// Whether a word is a value of TSPLIB 95 that this profile leaves out for the keyword.
 fn is_left_out(field: Field, word: &[u8]) -> bool
     ensures { result ≡ is_left_out field word.now }
 {
@@ -111,7 +112,7 @@ fn is_left_out(field: Field, word: &[u8]) -> bool
     }
 }
 
-/// Whether a word is a weight kind of TSPLIB 95 that isn't taken here.
+/// Whether a word is a weight type of TSPLIB 95 that this profile leaves out.
 fn is_weight_kind_left_out(word: &[u8]) -> bool
     ensures { result ≡ is_left_out EdgeWeightTypeKey word.now }
 {
@@ -121,7 +122,7 @@ fn is_weight_kind_left_out(word: &[u8]) -> bool
         || word == b"SPECIAL".as_slice()
 }
 
-/// Whether a keyword's line says that nodes have three coordinates.
+/// Whether a keyword's line says that the nodes have three coordinates.
 pub fn says_space(field: Field, value: &[u8]) -> bool
     ensures { result ≡ says_space field (first_word value.now) }
 {
@@ -138,7 +139,7 @@ pub fn says_space(field: Field, value: &[u8]) -> bool
     }
 }
 
-/// The value that the first word of a keyword's value names.
+/// The value of a keyword that the first word of its line's value names.
 fn named<V: Word>(field: Field, value: &[u8]) -> Result<V, LineFault>
     ensures { NamesValue V.text V.values field (first_word value.now) result }
 {
@@ -152,12 +153,12 @@ fn named<V: Word>(field: Field, value: &[u8]) -> Result<V, LineFault>
     }
 }
 
-/// The number that a line has, of a keyword that hasn't come yet.
+/// The number in the line of a keyword that hasn't come yet.
 ///
 /// # Errors
 ///
-/// The keyword has come (`Repeated`), the line has no value (`BadValue`), or its first word is no
-/// whole number from `low` to `high` (`Number`).
+/// The keyword has come before (`Repeated`), the line has no value (`BadValue`), or its first word
+/// isn't a whole number from `low` to `high` (`Number`).
 pub fn number_of(stands: bool, value: &[u8], low: i64, high: i64) -> Result<i64, LineFault>
     ensures { GivesNumber stands low high value.now result }
 {
@@ -173,14 +174,14 @@ pub fn number_of(stands: bool, value: &[u8], low: i64, high: i64) -> Result<i64,
     }
 }
 
-/// The number of nodes of a section that a line may open: one of this shape that hasn't come yet,
-/// whose line has no value, and but for tours after DIMENSION. If there is no DIMENSION the
-/// result for tours is 0.
+/// The number of nodes for a section of this shape that a line may open: it hasn't come yet, its
+/// line has no value, and, except for tours, DIMENSION came before. For tours without DIMENSION the
+/// result is 0.
 ///
 /// # Errors
 ///
-/// The section has come (`Repeated`), its line has a value (`SectionValue`), no line of DIMENSION
-/// came before it (`SectionEarly`), or the file has more nodes than a matrix may have
+/// The section has come before (`Repeated`), its line has a value (`SectionValue`), DIMENSION
+/// hasn't come (`SectionEarly`), or the file has more nodes than a matrix may have
 /// (`TooManyNodes`).
 pub fn may_open(
     shape: Shape,
@@ -208,7 +209,7 @@ pub fn may_open(
 
 // ---- texts without the blanks at their ends
 
-/// Where the first byte is that isn't blank.
+/// Where the first byte that isn't blank is.
 #[inline(always)]
 fn first_filled(text: &[u8]) -> Option<usize>
     ensures { result ≡ position (λ b. not (is_blank b)) text.now }
@@ -216,7 +217,7 @@ fn first_filled(text: &[u8]) -> Option<usize>
     text.iter().position(|byte| !is_blank(*byte))
 }
 
-/// A text from its first byte that isn't blank on.
+/// A text without blanks at its front.
 #[inline(always)]
 #[tactic(auto, using(crate::proofs::ListSteps::start_none, crate::proofs::ListSteps::start_some, crate::proofs::ListSteps::position_within))]
 pub fn without_start(text: &[u8]) -> &[u8]
@@ -228,7 +229,7 @@ pub fn without_start(text: &[u8]) -> &[u8]
     }
 }
 
-/// A text up to its last byte that isn't blank.
+/// A text without blanks at its end.
 #[tactic(auto, using(tsp_text::proofs::SettledItems::end_blank, tsp_text::proofs::SettledItems::end_filled, tsp_text::proofs::SettledItems::end_none))]
 fn without_end(text: &[u8]) -> &[u8]
     ensures { result.now ≡ without_end text.now }
@@ -245,12 +246,13 @@ fn without_end(text: &[u8]) -> &[u8]
 
 // ---- sets a field of the draft by a keyword line
 
-/// Sets the value that a line names, if none is set yet; `late` is whether it comes too late.
+/// Sets the value that a line names, if none is set yet. `late` says that the value would come too
+/// late.
 ///
 /// # Errors
 ///
-/// `Fault`: one is set (`Repeated`), the value's first word is one of TSPLIB 95 that is left out
-/// (`Outside`), or none that the keyword accepts (`BadValue`), or it comes too late (`LateSpace`).
+/// `Fault`: one is set (`Repeated`), the first word is a value of TSPLIB 95 that is left out
+/// (`Outside`) or that the keyword doesn't accept (`BadValue`), or it comes too late (`LateSpace`).
 pub fn set_named<V: Word + Drop>(
     slot: &mut Option<V>,
     field: Field,
@@ -284,9 +286,9 @@ fn is_too_long_to_keep(line: &CutLine<'_>) -> bool
 /// # Errors
 ///
 /// - `Fault`: one is set (`Repeated`), or the line is too long to be kept (`BadValue`).
-/// - `Memory`: memory was refused.
+/// - `Memory`: out of memory.
 ///
-/// The slot is as it was then.
+/// The slot is then as it was.
 pub fn set_name(
     alloc: Global,
     slot: &mut Option<Vec<u8>>,
@@ -305,15 +307,15 @@ pub fn set_name(
     Ok(())
 }
 
-/// Puts the value of a line COMMENT behind those before it.
+/// Adds the value of a COMMENT line to those before it.
 ///
 /// # Errors
 ///
 /// - `Fault`: the line is too long to be kept (`BadValue`), or there are as many comments as a file
 ///   may have (`Surplus`).
-/// - `Memory`: memory was refused.
+/// - `Memory`: out of memory.
 ///
-/// The comments are as they were then.
+/// The comments are then as they were.
 pub fn add_comment(
     alloc: Global,
     comments: &mut Vec<Vec<u8>>,
@@ -338,9 +340,9 @@ pub fn add_comment(
 ///
 /// - `Fault`: no colon follows the keyword (`UnknownLine`), the line is too long to be kept
 ///   (`BadValue`), or there are as many such lines as a file may have (`Surplus`).
-/// - `Memory`: memory was refused.
+/// - `Memory`: out of memory.
 ///
-/// The lines are as they were then.
+/// The lines are then as they were.
 pub fn add_other(
     alloc: Global,
     others: &mut Vec<(Vec<u8>, Vec<u8>)>,

@@ -1,4 +1,5 @@
-//! The lists that take the words of DEPOT_SECTION and FIXED_EDGES_SECTION.
+//! Reads DEPOT_SECTION and FIXED_EDGES_SECTION, a word at a time, up to the -1 that ends the list.
+//! Every fault is a row of `specs/FaultRows.antt` in tsp_text.
 
 ghost use Rattle.std.specs.Prelude.{◌≡◌, [], ℕ, List, ◌∷◌, ◌++◌, IfErr, false, None, Some};
 
@@ -9,7 +10,7 @@ use tsp_format::{MOST_DEPOTS, MOST_FIXED};
 use tsp_io::push;
 use tsp_text::LineFault;
 
-/// What was read of the depots.
+/// DEPOT_SECTION so far.
 #[derive(Drop)]
 pub struct DepotList {
     n: u32,
@@ -22,7 +23,7 @@ impl DepotList {
     ghost use Rattle.tsp_read.specs.states.Parts.{Takes};
     ghost use Rattle.tsp_read.specs.states.HeldParts.{HoldsDepots};
 
-    /// The section with no words so far, in a file of `n` nodes.
+    /// The list at the opening of the section, in a file of `n` nodes.
     pub fn open(alloc: Global, n: u32) -> DepotList
         ensures { HoldsDepots result n [] }
     {
@@ -39,9 +40,9 @@ impl DepotList {
     ///
     /// - `Fault`: the word is neither a node nor a -1 (`Number`), there are as many depots as a
     ///   file may have (`Surplus`), or the list has ended (`AfterEnd`).
-    /// - `Memory`: memory was refused.
+    /// - `Memory`: out of memory.
     ///
-    /// The list has the words from before then.
+    /// The list then has the words from before.
     pub fn push(&mut self, word: &[u8]) -> Result<(), StepFault>
         ensures takes { (n : ℕ) (words : List (List ℕ)) → HoldsDepots self.old n words
             → Takes n (place_of_depot n words) word.now
@@ -77,7 +78,7 @@ impl DepotList {
 
 // ---- the list that takes the words of FIXED_EDGES_SECTION: pairs of nodes
 
-/// What was read of the fixed pairs.
+/// FIXED_EDGES_SECTION so far.
 #[derive(Drop)]
 pub struct FixedList {
     n: u32,
@@ -91,7 +92,7 @@ impl FixedList {
     ghost use Rattle.tsp_read.specs.states.Parts.{Takes};
     ghost use Rattle.tsp_read.specs.states.HeldParts.{HoldsFixed};
 
-    /// The section with no words so far, in a file of `n` nodes.
+    /// The list at the opening of the section, in a file of `n` nodes.
     pub fn open(alloc: Global, n: u32) -> FixedList
         ensures { HoldsFixed result n [] }
     {
@@ -107,12 +108,12 @@ impl FixedList {
     ///
     /// # Errors
     ///
-    /// - `Fault`: the word is no node, and no -1 where the list may end (`Number`), the pair is of
-    ///   a node and itself (`SelfEdge`), there are as many pairs as a file may have (`Surplus`), or
+    /// - `Fault`: the word isn't a node, nor a -1 where the list may end (`Number`); the pair joins
+    ///   a node to itself (`SelfEdge`); there are as many pairs as a file may have (`Surplus`); or
     ///   the list has ended (`AfterEnd`).
-    /// - `Memory`: memory was refused.
+    /// - `Memory`: out of memory.
     ///
-    /// The list has the words from before then.
+    /// The list then has the words from before.
     pub fn push(&mut self, word: &[u8]) -> Result<(), StepFault>
         ensures takes { (n : ℕ) (words : List (List ℕ)) → HoldsFixed self.old n words
             → Takes n (place_of_fixed n words) word.now
@@ -170,7 +171,7 @@ impl FixedList {
         Ok(())
     }
 
-    /// The pairs, and whether one is cut short.
+    /// The pairs, and whether the last one is incomplete.
     pub fn finish(self) -> (Vec<(u32, u32)>, bool)
         ensures { (n : ℕ) (words : List (List ℕ)) → HoldsFixed self n words
             → (result.0.items ≡ fixed_in n words)

@@ -1,4 +1,6 @@
-//! The lists that take the words of TOUR_SECTION and EDGE_WEIGHT_SECTION.
+//! Reads TOUR_SECTION and EDGE_WEIGHT_SECTION, which can have millions of words. Each list takes
+//! single words like any other; `gather` also lends it to a run of plain numbers (`runs.rt`), and
+//! `put_back` takes it back.
 
 ghost use Rattle.tsp_read.specs.Prelude.{[], ℕ, List, Ok, OnOk, IfOk, IfErr, map, vec_len, vec_capacity, true, false, most_tour_nodes, IsWhole};
 ghost use Rattle.std.specs.Prelude.{◌≡◌, ◌+◌, ◌-◌, ◌≤◌, ◌∷◌, ◌++◌};
@@ -12,11 +14,11 @@ use tsp_io::{Refused, push};
 use tsp_number::parse_whole;
 use tsp_text::LineFault;
 
-/// The fewest nodes that a run reserves memory for.
+/// A run reserves memory for at least this many nodes.
 const FEWEST: usize = 8;
 
-/// What was read of the tours: those that are done, the run of nodes that is open, and how many
-/// nodes came in all.
+/// TOUR_SECTION so far: the tours that have ended, the run of nodes that is open, and how many
+/// nodes have come in all.
 #[derive(Drop)]
 pub struct TourList {
     done: Vec<Vec<u32>>,
@@ -29,7 +31,7 @@ impl TourList {
     ghost use Rattle.tsp_read.specs.states.Parts.{Takes};
     ghost use Rattle.tsp_read.specs.states.HeldParts.{HoldsTours, EndsRunOf};
 
-    /// The section with no words so far.
+    /// The list at the opening of the section.
     pub fn open(alloc: Global) -> TourList
         ensures { HoldsTours result [] }
     {
@@ -40,15 +42,15 @@ impl TourList {
         }
     }
 
-    /// Takes the next word. How many nodes the file has doesn't matter.
+    /// Takes the next word. The number of nodes of the file doesn't matter.
     ///
     /// # Errors
     ///
-    /// - `Fault`: the word is neither a node of some file nor a -1 (`Number`), or the tours have as
-    ///   many nodes as a file may have in tours (`Surplus`).
-    /// - `Memory`: memory was refused.
+    /// - `Fault`: the word is neither a node that some file can have nor a -1 (`Number`), or the
+    ///   tours have as many nodes as the tours of a file may have (`Surplus`).
+    /// - `Memory`: out of memory.
     ///
-    /// The list has the words from before then.
+    /// The list then has the words from before.
     pub fn push(&mut self, alloc: Global, word: &[u8]) -> Result<(), StepFault>
         ensures takes { (n : ℕ) (words : List (List ℕ)) → HoldsTours self.old words
             → Takes n (place_of_tour words) word.now
@@ -67,8 +69,8 @@ impl TourList {
         Ok(())
     }
 
-    /// The list for a run of words, with capacity for some nodes more; for none if memory was
-    /// refused, or the tours have as many nodes as a file may have.
+    /// Lends the list to a run of words, with room for some more nodes; for none if memory was
+    /// refused, or if the tours have as many nodes as a file may have.
     #[inline(always)]
     pub fn gather(&mut self, alloc: Global) -> GatheredNodes
         ensures { (words : List (List ℕ)) → HoldsTours self.old words
@@ -77,7 +79,7 @@ impl TourList {
         GatheredNodes::of(mem::replace(self, TourList::open(alloc)))
     }
 
-    /// Goes on with the list of a run.
+    /// Takes the list back from a run.
     #[inline(always)]
     pub fn put_back(&mut self, gathered: GatheredNodes)
         ensures { self.new ≡ gathered.list }
@@ -87,7 +89,7 @@ impl TourList {
         drop(before);
     }
 
-    /// Ends the run that is open, if one is.
+    /// Ends the open run, if there is one.
     fn end_run(&mut self, alloc: Global) -> Result<(), Refused>
         ensures done { OnOk result ((words : List (List ℕ)) → HoldsTours self.old words
             → EndsRunOf self.new words) }
@@ -105,7 +107,7 @@ impl TourList {
     ///
     /// # Errors
     ///
-    /// Memory was refused. The tours are gone then.
+    /// Out of memory. The tours are then dropped.
     pub fn finish(mut self, alloc: Global) -> Result<Vec<Vec<u32>>, Refused>
         ensures tours { (words : List (List ℕ)) → HoldsTours self words
             → IfOk result (λ tours. map (λ tour. tour.items) tours.items ≡ tours_in words) }
@@ -115,13 +117,13 @@ impl TourList {
     }
 }
 
-/// The nodes in a run of words, which has reserved memory for some at once.
+/// The nodes of TOUR_SECTION during a run of words, with memory reserved for several more.
 ///
-/// By value its vector is in no other place, so a push is a store and three counts.
+/// It owns its vector, so that a push is a store and three counts.
 #[derive(Drop)]
 pub struct GatheredNodes {
     list: TourList,
-    /// The free capacity for nodes, in memory and among those that tours may have.
+    /// How many more nodes fit, in the memory and into the limit on tours.
     room: usize,
     ghost reserved: { vec_len list.run + room ≤ vec_capacity list.run },
     ghost within: { room ≤ most_tour_nodes - list.count },
@@ -132,9 +134,9 @@ impl GatheredNodes {
     ghost use Rattle.tsp_read.specs.states.Parts.{Takes};
     ghost use Rattle.tsp_read.specs.states.HeldParts.{HoldsTours};
 
-    /// A list with capacity for some nodes more; for none if memory was refused.
+    /// The list with room for some more nodes; for none if memory was refused.
     ///
-    /// If it grows, it doubles, as it does word by word.
+    /// If it grows, it doubles, as it does when words come one by one.
     #[inline(always)]
     fn of(mut list: TourList) -> GatheredNodes
         ensures { (words : List (List ℕ)) → HoldsTours list words → HoldsTours result.list words }
@@ -151,7 +153,7 @@ impl GatheredNodes {
         GatheredNodes { list, room }
     }
 
-    /// Takes a number as a node, if there is room, and returns whether it was taken.
+    /// Takes a number as a node, if there is room, and returns whether it did.
     #[inline(always)]
     pub fn push_read(&mut self, number: i64) -> bool
         ensures taken { result ≡ true → (n : ℕ) (words : List (List ℕ)) (word : List ℕ)
@@ -175,7 +177,7 @@ impl GatheredNodes {
 
 // ---- the list that takes the words of EDGE_WEIGHT_SECTION
 
-/// What was read of the weights.
+/// EDGE_WEIGHT_SECTION so far.
 #[derive(Drop)]
 pub struct WeightList {
     weights: Vec<i64>,
@@ -188,7 +190,7 @@ impl WeightList {
     ghost use Rattle.tsp_read.specs.states.Parts.{Takes};
     ghost use Rattle.tsp_read.specs.states.HeldParts.{HoldsWeights};
 
-    /// The section with no words so far, in a file of `n` nodes.
+    /// The list at the opening of the section, in a file of `n` nodes.
     pub fn open(alloc: Global, n: u32) -> WeightList
         requires { n ≤ MOST_MATRIX_NODES }
         ensures { HoldsWeights result n [] }
@@ -203,10 +205,10 @@ impl WeightList {
     ///
     /// # Errors
     ///
-    /// - `Fault`: the word is no weight (`Number`), or there are `n * n` weights (`Surplus`).
-    /// - `Memory`: memory was refused.
+    /// - `Fault`: the word isn't a weight (`Number`), or there are `n * n` weights (`Surplus`).
+    /// - `Memory`: out of memory.
     ///
-    /// The list has the words from before then.
+    /// The list then has the words from before.
     pub fn push(&mut self, word: &[u8]) -> Result<(), StepFault>
         ensures takes { (n : ℕ) (words : List (List ℕ)) → HoldsWeights self.old n words
             → Takes n (place_of_weight n words) word.now
@@ -222,7 +224,7 @@ impl WeightList {
         Ok(())
     }
 
-    /// The list for a run of weights, with memory reserved for `more` of them.
+    /// Lends the list to a run of weights, with memory reserved for `more` of them.
     ///
     /// It reserves no more than the matrix still needs, and nothing if memory was refused.
     #[inline(always)]
@@ -237,7 +239,7 @@ impl WeightList {
         Gathered::of(mem::replace(self, empty), more)
     }
 
-    /// Goes on with the list of a run.
+    /// Takes the list back from a run.
     #[inline(always)]
     pub fn put_back(&mut self, gathered: Gathered)
         ensures { self.new ≡ gathered.list }
@@ -256,13 +258,13 @@ impl WeightList {
     }
 }
 
-/// The weights in a run of words, which has reserved memory for many at once.
+/// The weights of EDGE_WEIGHT_SECTION during a run of words, with memory reserved for many more.
 ///
-/// By value its vector is in no other place, so a push is a store and two counts.
+/// It owns its vector, so that a push is a store and two counts.
 #[derive(Drop)]
 pub struct Gathered {
     list: WeightList,
-    /// The free capacity for weights, in memory and in the matrix.
+    /// How many more weights fit, in the memory and into the matrix.
     room: usize,
     ghost reserved: { vec_len list.weights + room ≤ vec_capacity list.weights },
     ghost within: { vec_len list.weights + room ≤ list.most },
@@ -274,11 +276,11 @@ impl Gathered {
     ghost use Rattle.tsp_read.specs.states.Parts.{Takes};
     ghost use Rattle.tsp_read.specs.states.HeldParts.{HoldsWeights};
 
-    /// A list with capacity for this many more weights, or for all that the matrix still needs; for
+    /// The list with room for this many more weights, or for all that the matrix still needs; for
     /// none if memory was refused.
     ///
-    /// If it grows, it doubles, and never past the matrix's size. So the request depends on the
-    /// weights that have come and on `more`, and not on the dimension alone.
+    /// If it grows, it doubles, but not beyond the size of the matrix. So a request depends on the
+    /// weights that have come and on `more`, and DIMENSION alone can't make it large.
     #[inline(always)]
     fn of(mut list: WeightList, more: usize) -> Gathered
         ensures { (n : ℕ) (words : List (List ℕ)) → HoldsWeights list n words
@@ -296,7 +298,7 @@ impl Gathered {
         Gathered { list, room }
     }
 
-    /// Takes a number as a weight, if there is room, and returns whether it was taken.
+    /// Takes a number as a weight, if there is room, and returns whether it did.
     #[inline(always)]
     pub fn push_read(&mut self, weight: i64) -> bool
         ensures taken { result ≡ true → (n : ℕ) (words : List (List ℕ)) (word : List ℕ)

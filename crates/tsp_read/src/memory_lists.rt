@@ -1,5 +1,6 @@
-//! The lists that take the words of MEMORY_SECTION, lists of nodes, and of SUBSET_ROW_SECTION, subset
-//! rows.
+//! Reads MEMORY_SECTION, lists of nodes, and SUBSET_ROW_SECTION, two lists of nodes for each row.
+//! Both are this project's own sections, for certificates of routes; `specs/MemoryWords.antt` in
+//! tsp_text says which words they may have.
 
 ghost use Rattle.std.specs.Prelude.{◌≡◌, [], ℕ, List, ◌∷◌, ◌++◌, ◌<◌, length, OnOk, IfErr, false};
 
@@ -11,8 +12,8 @@ use tsp_format::{MOST_FAMILY_NODES, MOST_ROWS, RowSets};
 use tsp_io::{Refused, push};
 use tsp_text::LineFault;
 
-/// What was read of a memory: the whole lists, of a list that has begun the nodes, and how many nodes
-/// came in all.
+/// MEMORY_SECTION so far: the lists that have ended, the nodes of the one that has begun, and how
+/// many nodes have come in all.
 #[derive(Drop)]
 pub struct MemoryList {
     n: u32,
@@ -27,7 +28,7 @@ impl MemoryList {
     ghost use Rattle.tsp_read.specs.states.Parts.{Takes};
     ghost use Rattle.tsp_read.specs.states.HeldParts.{memories_held, HoldsMemories};
 
-    /// The section with no words so far, in a file of `n` nodes.
+    /// The list at the opening of the section, in a file of `n` nodes.
     pub fn open(alloc: Global, n: u32) -> MemoryList
         ensures { HoldsMemories result n [] }
     {
@@ -46,9 +47,9 @@ impl MemoryList {
     ///
     /// - `Fault`: the word is neither a node nor a -1 (`Number`), there are as many nodes as a file
     ///   may have (`Surplus`), or the section has ended (`AfterEnd`).
-    /// - `Memory`: memory was refused.
+    /// - `Memory`: out of memory.
     ///
-    /// The list has the words from before then.
+    /// The list then has the words from before.
     pub fn push(&mut self, alloc: Global, word: &[u8]) -> Result<(), StepFault>
         ensures takes { (n : ℕ) (words : List (List ℕ)) → HoldsMemories self.old n words
             → Takes n (place_of_memory n words) word.now
@@ -74,7 +75,7 @@ impl MemoryList {
         Ok(())
     }
 
-    /// Whether the limit leaves no place for one more node.
+    /// Whether the limit allows no more nodes.
     fn is_full(&self) -> bool
         ensures full { result ≡ is_past_families (is_not_empty self.now.nodes.items) 0 self.now.count }
         ensures room { result ≡ false → self.now.count < MOST_FAMILY_NODES }
@@ -82,7 +83,7 @@ impl MemoryList {
         self.count >= MOST_FAMILY_NODES
     }
 
-    /// Takes a -1: it ends the list that has begun, else the section.
+    /// Takes a -1, which ends the list that has begun, or else the section.
     fn push_end(&mut self, alloc: Global) -> Result<(), Refused>
         ensures done { OnOk result (memories_held self.new ≡ with_list_end (memories_held self.old)) }
         ensures kept { IfErr result (λ _. memories_held self.new ≡ memories_held self.old) }
@@ -104,7 +105,7 @@ impl MemoryList {
         move_to_end(alloc, &mut self.lists, &mut self.nodes)
     }
 
-    /// The lists, and whether one is cut short.
+    /// The lists, and whether the last one is incomplete.
     pub fn finish(self) -> (Vec<Vec<u32>>, bool)
         ensures { (n : ℕ) (words : List (List ℕ)) → HoldsMemories self n words
             → (map (λ list. list.items) result.0.items ≡ whole_memories n words)
@@ -117,8 +118,8 @@ impl MemoryList {
 
 // ---- the list that takes the words of SUBSET_ROW_SECTION
 
-/// What was read of the subset rows: the whole rows, of a row that has begun its set, which is empty
-/// as long as it isn't whole, of a list that has begun the nodes, and how many nodes came in all.
+/// SUBSET_ROW_SECTION so far: the rows that have ended; the set of a row that has begun, empty
+/// until it has ended; the nodes of the list that has begun; and how many nodes have come in all.
 #[derive(Drop)]
 pub struct RowList {
     n: u32,
@@ -134,7 +135,7 @@ impl RowList {
     ghost use Rattle.tsp_read.specs.states.Parts.{Takes};
     ghost use Rattle.tsp_read.specs.states.HeldParts.{rows_held, HoldsSubsetRows};
 
-    /// The section with no words so far, in a file of `n` nodes.
+    /// The list at the opening of the section, in a file of `n` nodes.
     pub fn open(alloc: Global, n: u32) -> RowList
         ensures { HoldsSubsetRows result n [] }
     {
@@ -152,12 +153,12 @@ impl RowList {
     ///
     /// # Errors
     ///
-    /// - `Fault`: the word is neither a node nor a -1 (`Number`), there are as many nodes of rows as a
-    ///   file may have, or it would begin a row after as many as a file may have (`Surplus`), or the
-    ///   section has ended (`AfterEnd`).
-    /// - `Memory`: memory was refused.
+    /// - `Fault`: the word is neither a node nor a -1 (`Number`); the rows have as many nodes as a
+    ///   file may have, or the word would begin one row too many (`Surplus`); or the section has
+    ///   ended (`AfterEnd`).
+    /// - `Memory`: out of memory.
     ///
-    /// The list has the words from before then.
+    /// The list then has the words from before.
     pub fn push(&mut self, alloc: Global, word: &[u8]) -> Result<(), StepFault>
         ensures takes { (n : ℕ) (words : List (List ℕ)) → HoldsSubsetRows self.old n words
             → Takes n (place_of_row n words) word.now
@@ -190,7 +191,7 @@ impl RowList {
         !self.set.is_empty() || !self.nodes.is_empty()
     }
 
-    /// Whether the limit leaves no place for one more node.
+    /// Whether the limit allows no more nodes.
     fn is_full(&self) -> bool
         ensures full { result ≡ is_past_families (has_begun_row (rows_held self.now))
             (length (rows_held self.now).rows) self.now.count }
@@ -199,7 +200,7 @@ impl RowList {
         self.count >= MOST_FAMILY_NODES || (!self.has_begun() && self.rows.len() >= MOST_ROWS)
     }
 
-    /// Takes a -1: after the set of a row it ends the row, else the set that has begun, else the
+    /// Takes a -1, which ends the row if its set has ended, or the set that has begun, or else the
     /// section.
     fn push_end(&mut self, alloc: Global) -> Result<(), Refused>
         ensures done { OnOk result (rows_held self.new ≡ with_row_end (rows_held self.old)) }
@@ -239,7 +240,7 @@ impl RowList {
         Ok(())
     }
 
-    /// The rows, and whether one is cut short.
+    /// The rows, and whether the last one is incomplete.
     pub fn finish(self) -> (Vec<RowSets>, bool)
         ensures { (n : ℕ) (words : List (List ℕ)) → HoldsSubsetRows self n words
             → (subset_rows_of result.0.items ≡ whole_rows n words)

@@ -1,5 +1,7 @@
-//! `Reading`, the state of the reader: the draft of the lines and words so far, and the section
-//! that is open. Also the end of a text, and `ReadError`, why a file wasn't read.
+//! `Reading`, the state between two lines: the draft so far, and the open section. It decides what
+//! a line or a word means where it stands, and at the end whether the fields make a file (`Holds`
+//! and `Finishes` in `specs/states/Holds.antt`). `ReadError` is here too: an error that can say
+//! `out of memory` only after a refusal.
 
 ghost use Rattle.tsp_read.specs.Prelude.{[], List, Some, IfErr, OnOk, is_some, true, ℕ, Bool, IfOk, None, Err, shape_of, fields_in_order, spatial, fields_of, AreCut, Item, NumberWord, same_field, place_in, wants_more};
 ghost use Rattle.std.specs.Prelude.{◌≡◌};
@@ -20,22 +22,23 @@ use tsp_format::{Field, Keyword, MOST_LINE_BYTES, Shape, ValueShape};
 use tsp_io::Refused;
 use tsp_text::{LineFault, ReadFault};
 
-/// The section that is open, and the part that takes its words.
+/// The section that is open, and the list that takes its words.
 #[derive(Drop)]
 pub(crate) struct OpenSection {
     pub(crate) field: Field,
     pub(crate) part: SectionBuilder,
 }
 
-/// What was read so far: the fields of the lines and of the sections that are closed, the first of
-/// these in canonical order that is incomplete, and the section that is open.
+/// What was read so far: the fields from lines and closed sections, the first of those sections in
+/// canonical order that is incomplete, and the section that is open.
 pub(crate) struct Reading {
     pub(crate) draft: Draft,
     pub(crate) incomplete: Option<Field>,
     pub(crate) opened: Option<OpenSection>,
 }
 
-/// As a derive would do it. A function that drops a reading calls this.
+/// Drops each field, as a derive would. Functions that drop a reading call this one function, so
+/// that they are proved faster.
 impl Drop for Reading {
     fn drop(self) {
         let Reading {
@@ -46,14 +49,14 @@ impl Drop for Reading {
     }
 }
 
-/// The one of a section and another, if there is another, that comes first in canonical order.
+/// Whichever of two sections comes first in canonical order, if there are two.
 fn first_of(section: Field, other: Option<Field>) -> Option<Field>
     ensures { result ≡ first_of section other fields_in_order }
 {
     first_among(&Field::ALL, section, other)
 }
 
-/// The first of some fields that is this one, or the other.
+/// The first among some fields that is one of these two.
 fn first_among(fields: &[Field], section: Field, other: Option<Field>) -> Option<Field>
     ensures { result ≡ first_of section other fields.now }
 {
@@ -65,7 +68,7 @@ fn first_among(fields: &[Field], section: Field, other: Option<Field>) -> Option
     None
 }
 
-/// Whether a field is this section, or the other.
+/// Whether a field is one of these two sections.
 fn is_either(field: Field, section: Field, other: Option<Field>) -> bool
     ensures { result ≡ is_either section other field }
 {
@@ -75,7 +78,7 @@ fn is_either(field: Field, section: Field, other: Option<Field>) -> bool
     }
 }
 
-/// Whether two fields have the same word, which no two have.
+/// Whether two fields are the same. They are compared by their words, which are all different.
 fn is_same(field: Field, other: Field) -> bool
     ensures { result ≡ same_field field other }
 {
@@ -96,8 +99,7 @@ impl Reading {
         }
     }
 
-    /// The fields of what was read, and the first section that is incomplete, of those that are
-    /// closed.
+    /// The fields that were read, and the first closed section that is incomplete.
     pub(crate) fn into_draft(self) -> (Draft, Option<Field>)
         ensures { result ≡ (self.draft, self.incomplete) }
     {
@@ -109,7 +111,7 @@ impl Reading {
         (draft, incomplete)
     }
 
-    /// Begins with a section that a line opens. The one before it was closed.
+    /// Opens a section. The one before it was closed.
     pub(crate) fn begin(&mut self, section: OpenSection)
         ensures draft { self.new.draft ≡ self.old.draft }
         ensures incomplete { self.new.incomplete ≡ self.old.incomplete }
@@ -130,7 +132,7 @@ impl Reading {
         }
     }
 
-    /// Closes the section that is open, if one is: what it has goes into the draft.
+    /// Closes the open section, if there is one, and puts its list into the draft.
     pub(crate) fn close(&mut self, alloc: Global) -> Result<(), Refused>
         ensures closed { OnOk result ((earlier : List Item) → Holds self.old earlier
             → Closed self.new earlier) }
@@ -179,7 +181,8 @@ impl Reading {
         }
     }
 
-    /// Whether a line says that the nodes have three coordinates, after a section of two of each.
+    /// Whether a line says that the nodes have three coordinates, after a NODE_COORD_SECTION with
+    /// two for each.
     fn is_late(&self, field: Field, value: &[u8]) -> bool
         ensures { result ≡ (says_space field (first_word value.now) && is_some
             (fields_of self.now.draft).coords && not (spatial (fields_of self.now.draft))) }
@@ -187,8 +190,8 @@ impl Reading {
         says_space(field, value) && self.draft.coords.is_some() && !self.draft.is_spatial()
     }
 
-    /// Takes the line of a keyword, if no section is open. Those with numbers are taken by their
-    /// range, the others each by its own place in the draft.
+    /// Takes the line of a keyword, with no section open. Numbers are read by their range, other
+    /// values by the field.
     fn known(&mut self, alloc: Global, field: Field, line: &CutLine<'_>) -> Result<(), StepFault>
         requires { shape_of (spatial (fields_of self.old.draft)) field ≡ None }
         ensures { LineAnswers self.old field (seen line.now) self.new result }
@@ -211,7 +214,7 @@ impl Reading {
         }
     }
 
-    /// Takes the line of a keyword with a number from `low` to `high`, if no section is open.
+    /// Takes the line of a keyword with a number from `low` to `high`, with no section open.
     fn number(
         &mut self,
         field: Field,
@@ -235,7 +238,7 @@ impl Reading {
 // ---- what a line that opens a section does to the state of the reader
 
 impl Reading {
-    /// Opens the section of a field, which has this shape, if no section is open.
+    /// Opens the section of a field, which has this shape, with no section open.
     pub(crate) fn open(
         &mut self,
         alloc: Global,
@@ -328,16 +331,16 @@ fn store(draft: &mut Draft, alloc: Global, section: OpenSection) -> Result<bool,
 
 // ---- the end of a text
 
-/// Why what was read is no file.
+/// Why the fields that were read are no file.
 #[derive(Clone, Copy)]
 pub(crate) enum FinishFault {
-    /// Memory was refused.
+    /// Out of memory.
     Memory(Refused),
-    /// The lines together have this fault.
+    /// The lines have no fault, but together they have this one.
     End(EndFault),
 }
 
-/// The file of the fields that were read, or the fault of the end table.
+/// The file with the fields that were read, or the first fault by the end table.
 fn file_of(draft: Draft, incomplete: Option<Field>) -> Result<File, EndFault>
     requires { end_fault (standing_of (fields_of draft)) incomplete ≡ None
         → fault_of (fields_of draft) ≡ None }
@@ -360,8 +363,7 @@ impl Reading {
     ///
     /// # Requires
     ///
-    /// Lines and words that it was read from: the fields of such are valid, so that they aren't
-    /// judged again.
+    /// Fields that were read from lines and words. These are valid, so they aren't judged again.
     pub(crate) fn finish(mut self, alloc: Global) -> Result<File, FinishFault>
         requires { IsReadFrom self }
         ensures file { (earlier : List Item) → Holds self earlier → AreCut earlier
@@ -406,8 +408,8 @@ pub(crate) fn completed(reading: Reading, alloc: Global) -> Result<File, ReadErr
 
 /// Why a file wasn't read. Contracts see the fault.
 ///
-/// Only a reading makes one, and out of memory only of the token of a refusal. So a function whose
-/// error this is can't report out of memory of a file on its own.
+/// Only reading makes one, and one that says out of memory only from the token of a refusal. So a
+/// function with this error can't claim on its own to be out of memory.
 #[derive(Clone, Copy, Debug, Drop)]
 pub struct ReadError {
     found: ReadFault,
@@ -424,14 +426,14 @@ impl Model for ReadError {
 }
 
 impl ReadError {
-    /// Why nothing was read, without the token of a refusal.
+    /// The fault alone, without the token of a refusal.
     pub fn fault(self) -> ReadFault
         ensures { result ≡ self }
     {
         self.found
     }
 
-    /// Out of memory, by the token of a refusal.
+    /// Out of memory, which the token of a refusal proves.
     pub(crate) fn refused(_refused: Refused) -> ReadError
         ensures { result ≡ OutOfMemory }
     {
@@ -440,7 +442,7 @@ impl ReadError {
         }
     }
 
-    /// A line has this fault, by its word with this number; 0 for the line itself.
+    /// A line has this fault, at the word with this number, or 0 for the line itself.
     pub(crate) fn at(line: u32, word: u32, fault: LineFault) -> ReadError
         ensures { result ≡ Line line word fault }
     {
@@ -449,7 +451,7 @@ impl ReadError {
         }
     }
 
-    /// The lines together have this fault.
+    /// The lines have no fault, but together they have this one.
     pub(crate) fn at_end(fault: EndFault) -> ReadError
         ensures { result ≡ End fault }
     {

@@ -1,5 +1,5 @@
-//! Laws: each number of a canonical text is read back, and the text of a valid file parses to that
-//! file. They are a promise to users of `tsp convert`; no code calls them.
+//! The promise to users of `tsp convert`: the canonical text of a valid file parses to that file,
+//! and each number in it is read back as it was. No code calls these laws.
 
 ghost use Rattle.tsp_read.specs.Prelude.{ℕ, ℤ, List, true, None, Result, Ok, unsigned_abs, decimal_of, whole_of, spelling, Fields, ReadFault, ParsesTo};
 ghost use Rattle.std.specs.Prelude.{◌≡◌, ◌≤◌, ◌<◌, ◌^◌};
@@ -15,8 +15,8 @@ use tsp_file::a_valid_text_is_short;
 use tsp_number::{number_word_laws, spelling_laws};
 use tsp_text::{spelled_files_are_valid, texts_have_one_answer};
 
-/// Each number that the canonical text writes is read back: a whole number of less than 2^63 in
-/// size if one of its range is wanted, and a coordinate of at most 10^18 counts of 10^-9.
+/// Each number that a canonical text contains is read back: a whole number of less than 2^63 in
+/// size if its range is wanted, and a coordinate of at most 10^18 counts of 10^-9.
 pub fn written_numbers_are_read_back()
     ensures whole { (z low high : ℤ) → unsigned_abs z < 2 ^ 63 → is_from_to low high z ≡ true
         → whole_of (signed_decimal z) low high ≡ Ok z }
@@ -28,8 +28,8 @@ pub fn written_numbers_are_read_back()
 
 /// The canonical text of every valid file parses to that file, and to no other.
 ///
-/// So reading it returns that file, or out of memory. No two valid files have the same canonical
-/// text. The canonical text of the file that a text parses to parses to the same file.
+/// So reading it returns that file, or out of memory. Two valid files never have the same canonical
+/// text. If a text parses to a file, so does the canonical text of that file.
 pub fn canonical_texts_are_read_back()
     ensures spelled { (f : Fields) → fault_of f ≡ None → ParsesTo (text_of f) f }
     ensures alone { (f other : Fields) → fault_of f ≡ None → ParsesTo (text_of f) other → other ≡ f }

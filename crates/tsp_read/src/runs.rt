@@ -1,12 +1,11 @@
-//! The fast path of `Intake::take_items`: a run of plain numbers in a matrix, in tours, in points
-//! or in numbers by node.
+//! The fast path for long sections (`Intake::take_items`): takes a run of plain numbers in a
+//! matrix, in tours, in points or in numbers by node. It may leave any word to `Intake::take_next`,
+//! which reads everything, so it affects only speed.
 //!
 //! Most words of these sections are plain numbers, in a matrix mostly of a few digits. They are
-//! read in a single pass, which finds the end of a word while it reads the digits. Everything else
-//! is left to `Intake::take_next`.
-//!
-//! A run looks up the list of its section once. One loop serves all lists (`RunList`), with the
-//! counts of lines and words in one struct (`Count`), so that they can stay in registers.
+//! read in a single pass, which finds the end of a word while it reads the digits. A run looks up
+//! the list of its section once. One loop serves all lists (`RunList`), with the counts of lines
+//! and words in one struct (`Count`), so that they can stay in registers.
 
 ghost use Rattle.tsp_read.specs.Prelude.{option_map, ℕ, Bool, true, List, length, Some, IfSome, Ok, pos, slice_index_or, false, decimal_of, most_file_bytes, NumberWord, IsWhole};
 ghost use Rattle.std.specs.Prelude.{◌≡◌, ◌+◌, ◌<◌, ◌≤◌, ◌-◌};
@@ -33,11 +32,11 @@ use tsp_number::{Decimal, front_decimal, front_few, front_whole};
 pub(crate) enum End<'a> {
     /// A blank.
     Blank(&'a [u8]),
-    /// A byte 10, which ends the line too.
+    /// A byte 10, which also ends the line.
     Line(&'a [u8]),
 }
 
-/// The end of a word that a text begins with. Nothing if no word ends here.
+/// What ends a word in front of a text; `None` if no word ends here.
 #[inline(always)]
 fn word_end(rest: &[u8]) -> Option<End<'_>>
     ensures left { IfSome result (λ end. LeavesEnd rest.now (left_from end)) }
@@ -50,7 +49,7 @@ fn word_end(rest: &[u8]) -> Option<End<'_>>
     }
 }
 
-/// The end of a word that a text begins with, if a byte 10 ends it. Nothing if none does.
+/// What ends a word in front of a text, if it is a byte 10; `None` if it isn't.
 #[inline(always)]
 fn line_end(rest: &[u8]) -> Option<End<'_>>
     ensures left { IfSome result (λ end. LeavesEnd rest.now (left_from end)) }
@@ -62,8 +61,8 @@ fn line_end(rest: &[u8]) -> Option<End<'_>>
     }
 }
 
-/// The whole number of a few digits that a text begins with, and the end of its word; or nothing
-/// if the text begins with no such word whose end has come.
+/// The whole number of a few digits at the front of a text, and the end of its word; `None` if
+/// there is no such word, or if its end hasn't come.
 #[inline(always)]
 fn few_number(text: &[u8]) -> Option<(i64, End<'_>)>
     ensures { IfSome result (λ found.
@@ -79,7 +78,7 @@ fn few_number(text: &[u8]) -> Option<(i64, End<'_>)>
     }
 }
 
-/// The result of `few_number`, for a word that a byte 10 ends.
+/// What `few_number` returns, for words that a byte 10 ends.
 #[inline(always)]
 fn last_number(text: &[u8]) -> Option<(i64, End<'_>)>
     ensures { IfSome result (λ found.
@@ -95,8 +94,8 @@ fn last_number(text: &[u8]) -> Option<(i64, End<'_>)>
     }
 }
 
-/// The whole number at the beginning of a text, and the end of its word. Nothing if the text
-/// begins with no word of at most 18 digits whose end has come.
+/// The whole number at the front of a text, and the end of its word; `None` if there is no word of
+/// at most 18 digits, or if its end hasn't come.
 #[inline(never)]
 fn front_number(text: &[u8]) -> Option<(i64, End<'_>)>
     ensures { IfSome result (λ found.
@@ -113,8 +112,8 @@ fn front_number(text: &[u8]) -> Option<(i64, End<'_>)>
     }
 }
 
-/// The coordinate at the beginning of a text, and the end of its word. Nothing if the text
-/// begins with no word of at most nine digits, a point and nine more whose end has come.
+/// The coordinate at the front of a text, and the end of its word; `None` if there is no word of at
+/// most nine digits, a point and nine more digits, or if its end hasn't come.
 #[inline(always)]
 fn front_coordinate(text: &[u8]) -> Option<(Decimal, End<'_>)>
     ensures { IfSome result (λ found.
@@ -133,7 +132,7 @@ fn front_coordinate(text: &[u8]) -> Option<(Decimal, End<'_>)>
 
 // ---- one item, taken
 
-/// Counts a word that was taken, and the line's end if that ends it. The result is the text
+/// Counts a word that was taken, and the end of the line if that ends the word. Returns the text
 /// after it.
 #[inline(always)]
 fn count_word<'a>(count: &mut Count, end: End<'a>) -> &'a [u8]
@@ -159,8 +158,8 @@ fn count_word<'a>(count: &mut Count, end: End<'a>) -> &'a [u8]
     }
 }
 
-/// Takes the whole number that was found at the beginning of a text, if one was, if the list
-/// takes it, and returns the rest.
+/// Takes the whole number that was found at the front of a text, if there is one and the list
+/// accepts it, and returns the rest.
 #[inline(always)]
 fn take_number<'a, L: RunList>(
     list: &mut L,
@@ -184,8 +183,7 @@ fn take_number<'a, L: RunList>(
     Some(count_word(count, end))
 }
 
-/// Takes the coordinate that a text begins with, if the list takes it, and gives what follows
-/// it.
+/// Takes the coordinate at the front of a text, if the list accepts it, and returns the rest.
 #[inline(always)]
 fn take_coordinate<'a, L: RunList>(
     list: &mut L,
@@ -206,7 +204,7 @@ fn take_coordinate<'a, L: RunList>(
     Some(count_word(count, found.1))
 }
 
-/// Counts the line's end that a text begins with, and gives what follows it.
+/// Counts the end of a line at the front of a text, and returns the rest.
 #[inline(always)]
 fn take_line_end<'a>(count: &mut Count, text: &'a [u8]) -> Option<&'a [u8]>
     requires { count.old.line + length text.now ≤ most_file_bytes + 1 }
@@ -224,7 +222,7 @@ fn take_line_end<'a>(count: &mut Count, text: &'a [u8]) -> Option<&'a [u8]>
     }
 }
 
-/// Takes the line's end or the number that a text begins with, if it is no number of a few
+/// Takes the end of a line or the number at the front of a text, if it isn't a number of a few
 /// digits.
 #[inline(always)]
 fn take_other<'a, L: RunList>(list: &mut L, count: &mut Count, text: &'a [u8]) -> Option<&'a [u8]>
@@ -239,9 +237,9 @@ fn take_other<'a, L: RunList>(list: &mut L, count: &mut Count, text: &'a [u8]) -
     }
 }
 
-/// Takes the number of a few digits that a text begins with. If most words end their line
-/// (`by_line`), such a word is tried first.
-// (so that its line is counted without a look at what else may end a word)
+/// Takes the number of a few digits at the front of a text. If most words end their line
+/// (`by_line`), it first tries a word that does.
+// (so that the line is counted without testing for other ends of the word)
 #[inline(always)]
 fn take_few<'a, L: RunList>(
     list: &mut L,
@@ -263,8 +261,8 @@ fn take_few<'a, L: RunList>(
     }
 }
 
-/// Takes the word or the line's end that a text begins with, if the list takes it, and gives
-/// what follows it.
+/// Takes the word or the end of a line at the front of a text, if the list accepts it, and returns
+/// the rest.
 #[inline(always)]
 fn take_one<'a, L: RunList>(
     list: &mut L,
@@ -288,8 +286,8 @@ fn take_one<'a, L: RunList>(
 
 // ---- a run
 
-/// Takes the words and line ends at the beginning of a text, as many as the list takes. The result
-/// is their count and the rest of the text.
+/// Takes words and line ends at the front of a text, as many as the list accepts. Returns the new
+/// counts and the rest.
 #[inline(always)]
 fn take_all<'a, L: RunList>(
     list: &mut L,
@@ -309,8 +307,8 @@ fn take_all<'a, L: RunList>(
     (counted, rest)
 }
 
-/// Does what `take_all` does, over a list that is passed by value.
-// (so that all that changes in the loop can stay in registers)
+/// What `take_all` does, for a list that is passed by value.
+// (so that everything that changes in the loop can stay in registers)
 #[inline(never)]
 fn take_gathered<'a, L: RunList>(
     list: L,
@@ -327,8 +325,8 @@ fn take_gathered<'a, L: RunList>(
     (own, counted, rest)
 }
 
-/// Does what `take_all` does, over the weights of a matrix, which reserve memory first: a word and
-/// its end are two bytes at least.
+/// What `take_all` does, for the weights of a matrix, with memory reserved first: a word and its
+/// end take at least two bytes.
 fn take_weights<'a>(
     list: &mut WeightList,
     alloc: Global,
@@ -346,7 +344,7 @@ fn take_weights<'a>(
     (counted, rest)
 }
 
-/// Does what `take_all` does, over the nodes of tours, which reserve memory too.
+/// What `take_all` does, for the nodes of tours, with memory reserved first.
 fn take_tours<'a>(
     list: &mut TourList,
     alloc: Global,
@@ -364,8 +362,7 @@ fn take_tours<'a>(
     (counted, rest)
 }
 
-/// Does what `take_all` does, for the part of any section. A section whose words come in no run
-/// takes none.
+/// What `take_all` does, for the list of any section. Sections without runs take nothing.
 fn take_part<'a>(
     part: &mut SectionBuilder,
     alloc: Global,
@@ -390,7 +387,7 @@ impl Reading {
     ghost use Rattle.tsp_read.specs.states.Onward.{IsReadTo};
     ghost use Rattle.tsp_read.specs.states.ReadingRun.{counted};
 
-    /// Does what `take_part` does, for the section that is open, if one is.
+    /// What `take_part` does, for the open section, if there is one.
     fn take_run<'a>(&mut self, alloc: Global, count: Count, text: &'a [u8]) -> (Count, &'a [u8])
         requires line { count.line + length text.now ≤ most_file_bytes + 1 }
         requires words { count.words + length text.now ≤ most_file_bytes }
@@ -413,8 +410,7 @@ impl Intake {
 
     /// Takes a run of plain numbers at the front of a text, and returns the rest.
     ///
-    /// The open section has to be one of weights, tours, points or numbers by node; if it isn't,
-    /// the whole text is the rest.
+    /// Nothing is taken unless the open section lists weights, tours, points or numbers by node.
     pub(crate) fn take_run<'a>(&mut self, alloc: Global, text: &'a [u8]) -> &'a [u8]
         requires line { self.old.line + length text.now ≤ most_file_bytes + 1 }
         requires words { self.old.words + length text.now ≤ most_file_bytes }
@@ -439,12 +435,12 @@ impl Intake {
 
 // ---- the number of the line and of its words, while many words are taken at once
 
-/// The counts of an `Intake`, in a run of words.
+/// The counts of an `Intake` during a run of words.
 #[derive(Clone, Copy)]
 pub(crate) struct Count {
     /// The number of the line, from 1 on.
     pub(crate) line: u32,
-    /// How many of its words were taken.
+    /// How many words of the line were taken.
     pub(crate) words: u32,
     /// An item of the line was taken.
     pub(crate) inside: bool,
@@ -452,17 +448,16 @@ pub(crate) struct Count {
 
 // ---- the trait of lists that take the numbers of many words in one pass
 
-/// A list that takes the numbers of a run of words, each read already.
+/// A list that takes the numbers of a run of words, which have been read already.
 pub trait RunList {
-    /// The part of the section that it is.
+    /// The list as the `SectionBuilder` of its section.
     ghost part: { Self → SectionBuilder };
 
     /// Whether the next word is a coordinate.
     fn awaits_coordinate(&self) -> bool
         ensures { result ≡ in_group (part self.now) };
 
-    /// Takes the number of a word, if the list takes it at its place. Returns whether it was
-    /// taken.
+    /// Takes the number of a word, if the list accepts it at its place, and returns whether it did.
     fn take_whole(&mut self, number: i64) -> bool
         ensures taken { result ≡ true → (word : List ℕ) → IsWhole word number
             → TakesRead (part self.old) (part self.new) word }
@@ -472,8 +467,7 @@ pub trait RunList {
             → IsNodeOf (length (marks_of (part self.old))) k
             → slice_index_or (marks_of (part self.old)) (k - 1) false ≡ true };
 
-    /// Takes the coordinate of a word, if a group of points has begun. Returns whether it was
-    /// taken.
+    /// Takes the coordinate of a word, if a group of points has begun, and returns whether it did.
     fn take_coordinate(&mut self, coordinate: Decimal) -> bool
         ensures taken { result ≡ true → (word : List ℕ) → decimal_of word ≡ Ok coordinate
             → TakesRead (part self.old) (part self.new) word }

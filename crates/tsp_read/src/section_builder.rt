@@ -1,6 +1,6 @@
-//! `SectionBuilder`, the list that takes the words of the open section: one variant for each shape.
-//! Also what the lists share, reading a word as a node or an index, and the list for
-//! FIXED_EDGE_POTENTIAL_SECTION.
+//! `SectionBuilder`, the list that the open section fills: a variant for each shape of section, and
+//! the one `match` that passes a word on. Also what all lists share, reading a word as a node or an
+//! index, and the list for FIXED_EDGE_POTENTIAL_SECTION.
 
 ghost use Rattle.tsp_read.specs.Prelude.{ForSome, [], ℕ, List, IfOk, IfErr, pos, true, false, length, slice_index_or, Ok, None, IfSome, MatchResult, Some, whole_of, node, node_or_end, is_minus_one, IsWhole};
 ghost use Rattle.std.specs.Prelude.{◌≡◌, ◌≤◌, ◌∷◌, ◌++◌, ◌<◌, ◌-◌, ◌^◌};
@@ -19,7 +19,7 @@ use tsp_io::{Refused, push};
 use tsp_number::{NumberFault, parse_whole};
 use tsp_text::LineFault;
 
-/// What was read of a section, by its shape.
+/// A section so far, by its shape.
 #[derive(Drop)]
 pub enum SectionBuilder {
     Numbers(NumberList),
@@ -43,11 +43,11 @@ impl SectionBuilder {
 
     /// An empty list for a section of this shape, in a file of `n` nodes.
     ///
-    /// `n` is at most the number of nodes that a file may have.
+    /// `n` is at most the limit on the nodes of a file.
     ///
     /// # Errors
     ///
-    /// Memory was refused.
+    /// Out of memory.
     pub fn open(alloc: Global, shape: Shape, n: u32) -> Result<SectionBuilder, Refused>
         requires { shape ≡ shapes.Weights → n ≤ MOST_MATRIX_NODES }
         ensures { IfOk result (λ part. n ≤ MOST_NODES → HoldsShape shape part n []) }
@@ -74,10 +74,11 @@ impl SectionBuilder {
     ///
     /// # Errors
     ///
-    /// - `Fault`: the first fault of the word at its place, in the order of the rows of FaultRows.
-    /// - `Memory`: memory was refused.
+    /// - `Fault`: the first fault of the word at its place, in the order of `specs/FaultRows.antt`
+    ///   in tsp_text.
+    /// - `Memory`: out of memory.
     ///
-    /// The list keeps the words from before.
+    /// The list then has the words from before.
     pub fn push(&mut self, alloc: Global, word: &[u8]) -> Result<(), StepFault>
         ensures takes { (n : ℕ) (words : List (List ℕ)) → HoldsPart self.old n words
             → Takes n (place_by (shape_by self.old) n words) word.now
@@ -135,7 +136,7 @@ pub(crate) fn read_index_or_leaf(word: &[u8], last: u32) -> Result<Option<u32>, 
     }
 }
 
-/// The node of a new group: one without a mark.
+/// The node of a new group, read from a word: a node without a mark.
 pub(crate) fn new_node(seen: &[bool], word: &[u8]) -> Result<u32, LineFault>
     requires { length seen.now < 2 ^ 32 }
     ensures { IsNewNode seen.now word.now result }
@@ -151,7 +152,7 @@ pub(crate) fn new_node(seen: &[bool], word: &[u8]) -> Result<u32, LineFault>
     }
 }
 
-/// The node with this number, to begin a group, if there is one without a mark.
+/// The node of a new group, given as a number: `None` if there is no such node without a mark.
 #[inline(always)]
 pub(crate) fn unmarked_node(seen: &[bool], number: i64) -> Option<u32>
     requires { length seen.now < 2 ^ 32 }
@@ -179,9 +180,9 @@ pub(crate) fn is_minus_one(word: &[u8]) -> bool
 
 // ---- moves a finished list into a list of lists
 
-/// Moves a list to the end of others, and leaves an empty one in its place.
+/// Moves a list to the end of a list of lists, and leaves an empty one in its place.
 ///
-/// Its place is made first, so that nothing has moved if memory is refused.
+/// Room is made first, so nothing has moved if memory is refused.
 ///
 /// # Errors
 ///
@@ -205,7 +206,7 @@ pub(crate) fn move_to_end<T: Drop>(
 
 // ---- the list that takes the words of FIXED_EDGE_POTENTIAL_SECTION
 
-/// What was read of the multipliers: triples of two nodes and the multiplier of their edge.
+/// FIXED_EDGE_POTENTIAL_SECTION so far: triples of two nodes and the multiplier of their edge.
 #[derive(Drop)]
 pub struct TripleList {
     n: u32,
@@ -220,7 +221,7 @@ impl TripleList {
     ghost use Rattle.tsp_read.specs.states.Parts.{Takes};
     ghost use Rattle.tsp_read.specs.states.HeldParts.{HoldsTriples};
 
-    /// The section with no words so far, in a file of `n` nodes.
+    /// The list at the opening of the section, in a file of `n` nodes.
     pub fn open(alloc: Global, n: u32) -> TripleList
         ensures { HoldsTriples result n [] }
     {
@@ -237,12 +238,12 @@ impl TripleList {
     ///
     /// # Errors
     ///
-    /// - `Fault`: the word is no node, no -1 where the list may end, or no number that a multiplier
-    ///   may have (`Number`), the triple is of a node and itself (`SelfEdge`), there are as many
-    ///   triples as a file may have (`Surplus`), or the list has ended (`AfterEnd`).
-    /// - `Memory`: memory was refused.
+    /// - `Fault`: the word isn't a node, a -1 where the list may end, or a number that a multiplier
+    ///   may have (`Number`); the triple joins a node to itself (`SelfEdge`); there are as many
+    ///   triples as a file may have (`Surplus`); or the list has ended (`AfterEnd`).
+    /// - `Memory`: out of memory.
     ///
-    /// The list has the words from before then.
+    /// The list then has the words from before.
     pub fn push(&mut self, word: &[u8]) -> Result<(), StepFault>
         ensures takes { (n : ℕ) (words : List (List ℕ)) → HoldsTriples self.old n words
             → Takes n (place_of_triple n words) word.now
@@ -316,7 +317,7 @@ impl TripleList {
         Ok(())
     }
 
-    /// The triples, and whether one is cut short.
+    /// The triples, and whether the last one is incomplete.
     pub fn finish(self) -> (Vec<(u32, u32, i64)>, bool)
         ensures { (n : ℕ) (words : List (List ℕ)) → HoldsTriples self n words
             → (result.0.items ≡ fixed_triples_in n words)

@@ -1,4 +1,5 @@
-//! Why a line or a word isn't taken: a fault of the text, or no memory.
+//! Why a line or a word isn't taken: the text has a fault, or memory was refused. The lists return
+//! it by `?` from either, and the caller adds the place.
 
 ghost use Rattle.std.specs.Prelude.{◌≡◌};
 ghost use Rattle.tsp_text.specs.declared.fault.LineFault.TheVariants.{Number};
@@ -11,9 +12,9 @@ use tsp_text::LineFault;
 /// Why a line or a word isn't taken.
 #[derive(Clone, Copy, Debug)]
 pub enum StepFault {
-    /// Memory was refused.
+    /// Out of memory.
     Memory(Refused),
-    /// It has this fault.
+    /// The line or word has this fault.
     Fault(LineFault),
 }
 

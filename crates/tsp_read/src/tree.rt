@@ -1,5 +1,7 @@
-//! The lists that take the words of a branches file: `FamilyList` those of COMB_SECTION, families
-//! of sets of nodes, and `TreeList` those of BRANCH_SECTION, the steps of a tree of cases.
+//! Reads the two sections of a branches file: COMB_SECTION, families of sets of nodes
+//! (`FamilyList`), and BRANCH_SECTION, the steps of a tree of cases (`TreeList`). Whether the tree
+//! and the families are any good is for the judges to say; here only words, limits and the end of
+//! each list count.
 
 ghost use Rattle.std.specs.Prelude.{◌≡◌, [], ℕ, List, ◌∷◌, ◌++◌, ◌<◌, length, OnOk, IfErr, false, ◌≢◌, ◌+◌, ◌≤◌, None, Some, true};
 
@@ -17,8 +19,8 @@ use tsp_io::{Refused, push};
 use tsp_number::parse_whole;
 use tsp_text::LineFault;
 
-/// What was read of the families: those that are whole, of a family that has begun the whole sets, of a
-/// set that has begun the nodes, and how many nodes came in all.
+/// COMB_SECTION so far: the families that have ended, the sets of the family that has begun, the
+/// nodes of the set that has begun, and how many nodes have come in all.
 #[derive(Drop)]
 pub struct FamilyList {
     n: u32,
@@ -34,7 +36,7 @@ impl FamilyList {
     ghost use Rattle.tsp_read.specs.states.Parts.{Takes};
     ghost use Rattle.tsp_read.specs.states.HeldParts.{families_held, HoldsFamilies};
 
-    /// The section with no words so far, in a file of `n` nodes.
+    /// The list at the opening of the section, in a file of `n` nodes.
     pub fn open(alloc: Global, n: u32) -> FamilyList
         ensures { HoldsFamilies result n [] }
     {
@@ -52,12 +54,12 @@ impl FamilyList {
     ///
     /// # Errors
     ///
-    /// - `Fault`: the word is neither a node nor a -1 (`Number`), there are as many nodes of families
-    ///   as a file may have, or it would begin a family after as many as a file may have (`Surplus`),
-    ///   or the section has ended (`AfterEnd`).
-    /// - `Memory`: memory was refused.
+    /// - `Fault`: the word is neither a node nor a -1 (`Number`); the families have as many nodes
+    ///   as a file may have, or the word would begin one family too many (`Surplus`); or the
+    ///   section has ended (`AfterEnd`).
+    /// - `Memory`: out of memory.
     ///
-    /// The list has the words from before then.
+    /// The list then has the words from before.
     pub fn push(&mut self, alloc: Global, word: &[u8]) -> Result<(), StepFault>
         ensures takes { (n : ℕ) (words : List (List ℕ)) → HoldsFamilies self.old n words
             → Takes n (place_of_family n words) word.now
@@ -90,7 +92,7 @@ impl FamilyList {
         !self.nodes.is_empty() || !self.sets.is_empty()
     }
 
-    /// Whether the limit leaves no place for one more node.
+    /// Whether the limit allows no more nodes.
     fn is_full(&self) -> bool
         ensures full { result ≡ is_past_families (has_begun_family (families_held self.now))
             (length (families_held self.now).families) self.now.count }
@@ -100,7 +102,7 @@ impl FamilyList {
             || (!self.has_begun() && self.families.len() >= MOST_FAMILIES)
     }
 
-    /// Takes a -1: it ends the set that has begun, else the family, else the section.
+    /// Takes a -1, which ends the set that has begun, or else the family, or else the section.
     fn push_end(&mut self, alloc: Global) -> Result<(), Refused>
         ensures done { OnOk result (families_held self.new ≡ with_end (families_held self.old)) }
         ensures kept { IfErr result (λ _. families_held self.new ≡ families_held self.old) }
@@ -134,7 +136,7 @@ impl FamilyList {
         move_to_end(alloc, &mut self.families, &mut self.sets)
     }
 
-    /// The families, and whether one is cut short.
+    /// The families, and whether the last one is incomplete.
     pub fn finish(self) -> (Vec<Vec<Vec<u32>>>, bool)
         ensures { (n : ℕ) (words : List (List ℕ)) → HoldsFamilies self n words
             → (families_of result.0.items ≡ whole_families n words)
@@ -147,8 +149,8 @@ impl FamilyList {
 
 // ---- the list that takes the words of BRANCH_SECTION
 
-/// What was read of a tree: its whole steps, the first number of a branch or of a difference that
-/// has begun, whether a leaf has begun and its whole differences, how many trees are still to come,
+/// BRANCH_SECTION so far: the steps that have ended, the first number of a branch or difference
+/// that has begun, whether a leaf has begun and its differences, how many trees are still missing,
 /// and how many branches and differences have begun in all.
 #[derive(Drop)]
 pub struct TreeList {
@@ -170,8 +172,8 @@ impl TreeList {
     ghost use Rattle.tsp_read.specs.states.Parts.{Takes};
     ghost use Rattle.tsp_read.specs.states.HeldParts.{tree_held, HoldsTree};
 
-    /// The section with no words so far, in a file of `n` nodes, of which there are no more than a
-    /// file may have.
+    /// The list at the opening of the section, in a file of `n` nodes, which is within the limit on
+    /// the nodes of a file.
     pub fn open(alloc: Global, n: u32) -> TreeList
         ensures { n ≤ MOST_NODES → HoldsTree result n [] }
     {
@@ -193,12 +195,12 @@ impl TreeList {
     ///
     /// # Errors
     ///
-    /// - `Fault`: the word isn't a number of the kind that its place requires (`Number`), a branch
-    ///   is on a node and itself (`SelfEdge`), there are as many branches or differences as a file
-    ///   may have, or the tree is whole (`Surplus`).
-    /// - `Memory`: memory was refused.
+    /// - `Fault`: the word isn't a number that its place requires (`Number`); a branch joins a node
+    ///   to itself (`SelfEdge`); there are as many branches or differences as a file may have, or
+    ///   the tree is complete (`Surplus`).
+    /// - `Memory`: out of memory.
     ///
-    /// The list has the words from before then.
+    /// The list then has the words from before.
     pub fn push(&mut self, alloc: Global, word: &[u8]) -> Result<(), StepFault>
         ensures takes { (n : ℕ) (words : List (List ℕ)) → HoldsTree self.old n words
             → Takes n (place_of_step n words) word.now
@@ -281,7 +283,7 @@ impl TreeList {
         Ok(())
     }
 
-    /// Ends the leaf that has begun, and with it a tree that was to come.
+    /// Ends the leaf that has begun, and with it one of the missing trees.
     fn end_leaf(&mut self, alloc: Global) -> Result<(), Refused>
         ensures done { OnOk result (tree_held self.new ≡ with_leaf (tree_held self.old)) }
         ensures few { OnOk result ((n : ℕ) (words : List (List ℕ)) → HoldsTree self.old n words
@@ -314,7 +316,7 @@ impl TreeList {
         Ok(())
     }
 
-    /// The steps, and whether the tree isn't whole.
+    /// The steps, and whether the tree is incomplete.
     pub fn finish(self) -> (Vec<TreeStep>, bool)
         ensures { (n : ℕ) (words : List (List ℕ)) → HoldsTree self n words
             → (steps_of result.0.items ≡ whole_steps n words)

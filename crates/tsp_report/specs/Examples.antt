@@ -8,7 +8,7 @@ use Rattle.tsp_format.specs.declared.kinds.WeightKind.TheVariants.{Explicit}
 use Rattle.tsp_format.specs.declared.layout.Layout.TheVariants.{FullMatrix}
 use Rattle.tsp_file.specs.Fields.{Fields, blank_fields}
 use Rattle.tsp_report.specs.declared.verdict.Reason.{Reason}
-use Rattle.tsp_report.specs.declared.verdict.Reason.TheVariants.{NotASolution, TooFewNodes, NotSymmetric, Dimension, TourCount, TourLength, DepotCount, DepotDemand, FixedEdgesInRoutes, DepotInRoute, NodeOutOfRange, RepeatedNode, FixedEdgeUnused, Unserved, Overload, LengthClaimed, NotPotentials, PotentialsDimension, PotentialsKind, MultiplierNotFixed, MultiplierRepeated, DualInfeasible, NotBranches, BranchesDimension, BadFamily, BadBranch, BranchTwice, BadLeaf, TooManyLoads, NotJudged, NotUsed}
+use Rattle.tsp_report.specs.declared.verdict.Reason.TheVariants.{NotASolution, TooFewNodes, NotSymmetric, Dimension, TourCount, TourLength, DepotCount, DepotDemand, FixedEdgesInRoutes, DepotInRoute, NodeOutOfRange, RepeatedNode, FixedEdgeUnused, Unserved, Overload, LengthClaimed, NotPotentials, PotentialsDimension, PotentialsKind, MultiplierNotFixed, MultiplierRepeated, DualInfeasible, NotBranches, BranchesDimension, BadFamily, BadMemory, BadRow, BadBranch, BranchTwice, BadLeaf, TooManyLoads, TooManyStates, NotJudged, NotUsed}
 
 -- one line of an unknown keyword
 abbrev pub foo : List (List ℕ × List ℕ)
@@ -73,5 +73,5 @@ each_reason =
     NotASolution ∷ TooFewNodes ∷ NotSymmetric 1 20 ∷ Dimension ∷ TourCount ∷ TourLength ∷ DepotCount ∷ DepotDemand
     ∷ FixedEdgesInRoutes ∷ DepotInRoute 2 ∷ NodeOutOfRange 3 ∷ RepeatedNode 4 ∷ FixedEdgeUnused 5 ∷ Unserved 6 ∷ Overload 7
     ∷ LengthClaimed (negsuc 4) ∷ NotPotentials ∷ PotentialsDimension ∷ PotentialsKind ∷ MultiplierNotFixed 8
-    ∷ MultiplierRepeated 9 ∷ DualInfeasible 10 30 ∷ NotBranches ∷ BranchesDimension ∷ BadFamily 11 ∷ BadBranch 12 ∷ BranchTwice 13
-    ∷ BadLeaf 14 ∷ TooManyLoads ∷ NotJudged ∷ NotUsed CapacityKey ∷ []
+    ∷ MultiplierRepeated 9 ∷ DualInfeasible 10 30 ∷ NotBranches ∷ BranchesDimension ∷ BadFamily 11 ∷ BadMemory 15
+    ∷ BadRow 16 ∷ BadBranch 12 ∷ BranchTwice 13 ∷ BadLeaf 14 ∷ TooManyLoads ∷ TooManyStates 17 ∷ NotJudged ∷ NotUsed CapacityKey ∷ []

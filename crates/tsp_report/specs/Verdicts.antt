@@ -8,7 +8,7 @@ use Rattle.tsp_report.specs.declared.verdict.KnownBound.TheVariants as known_bou
 use Rattle.tsp_report.specs.declared.verdict.BoundVerdict.{BoundVerdict}
 use Rattle.tsp_report.specs.declared.verdict.BoundVerdict.TheVariants as bounds
 use Rattle.tsp_report.specs.declared.verdict.Reason.{Reason}
-use Rattle.tsp_report.specs.declared.verdict.Reason.TheVariants.{NotASolution, TooFewNodes, NotSymmetric, Dimension, TourCount, TourLength, DepotCount, DepotDemand, FixedEdgesInRoutes, DepotInRoute, NodeOutOfRange, RepeatedNode, FixedEdgeUnused, Unserved, Overload, LengthClaimed, NotPotentials, PotentialsDimension, PotentialsKind, MultiplierNotFixed, MultiplierRepeated, DualInfeasible, NotBranches, BranchesDimension, BadFamily, BadBranch, BranchTwice, BadLeaf, TooManyLoads, NotJudged, NotUsed}
+use Rattle.tsp_report.specs.declared.verdict.Reason.TheVariants.{NotASolution, TooFewNodes, NotSymmetric, Dimension, TourCount, TourLength, DepotCount, DepotDemand, FixedEdgesInRoutes, DepotInRoute, NodeOutOfRange, RepeatedNode, FixedEdgeUnused, Unserved, Overload, LengthClaimed, NotPotentials, PotentialsDimension, PotentialsKind, MultiplierNotFixed, MultiplierRepeated, DualInfeasible, NotBranches, BranchesDimension, BadFamily, BadMemory, BadRow, BadBranch, BranchTwice, BadLeaf, TooManyLoads, TooManyStates, NotJudged, NotUsed}
 use Rattle.tsp_report.specs.declared.verdict.Verdict.{Verdict}
 use Rattle.tsp_report.specs.declared.verdict.Verdict.TheVariants.{Tour, Routes, No}
 
@@ -81,11 +81,14 @@ row_of_reason (DualInfeasible i j) = row (codes "DualInfeasible") 22 Potentials 
 row_of_reason NotBranches = row (codes "NotBranches") 23 Branches no_numbers
 row_of_reason BranchesDimension = row (codes "BranchesDimension") 24 Branches no_numbers
 row_of_reason (BadFamily index) = row (codes "BadComb") 25 Branches (one_number (pos index))
-row_of_reason (BadBranch index) = row (codes "BadBranch") 26 Branches (one_number (pos index))
-row_of_reason (BranchTwice index) = row (codes "BranchTwice") 27 Branches (one_number (pos index))
-row_of_reason (BadLeaf index) = row (codes "BadLeaf") 28 Branches (one_number (pos index))
-row_of_reason TooManyLoads = row (codes "TooManyLoads") 29 Branches no_numbers
-row_of_reason NotJudged = row (codes "NotJudged") 30 Instance no_numbers
+row_of_reason (BadMemory node) = row (codes "BadMemory") 26 Branches (one_number (pos node))
+row_of_reason (BadRow index) = row (codes "BadRow") 27 Branches (one_number (pos index))
+row_of_reason (BadBranch index) = row (codes "BadBranch") 28 Branches (one_number (pos index))
+row_of_reason (BranchTwice index) = row (codes "BranchTwice") 29 Branches (one_number (pos index))
+row_of_reason (BadLeaf index) = row (codes "BadLeaf") 30 Branches (one_number (pos index))
+row_of_reason TooManyLoads = row (codes "TooManyLoads") 31 Branches no_numbers
+row_of_reason (TooManyStates index) = row (codes "TooManyStates") 32 Branches (one_number (pos index))
+row_of_reason NotJudged = row (codes "NotJudged") 33 Instance no_numbers
 row_of_reason (NotUsed field) = row (codes "NotUsed") 34 Instance no_numbers
 
 -- the file that a reason is about
@@ -95,3 +98,17 @@ role_of reason = (row_of_reason reason).role
 -- its place in the order of judging
 abbrev pub rank_of : Reason → ℕ
 rank_of reason = (row_of_reason reason).rank
+
+-- ---- the number of a reason for C
+
+-- Reasons that came later have the next free numbers, wherever they are judged.
+abbrev pub number_of_reason : Reason → ℕ
+number_of_reason (BadBranch index) = 26
+number_of_reason (BranchTwice index) = 27
+number_of_reason (BadLeaf index) = 28
+number_of_reason TooManyLoads = 29
+number_of_reason NotJudged = 30
+number_of_reason (BadMemory node) = 31
+number_of_reason (BadRow index) = 32
+number_of_reason (TooManyStates index) = 33
+number_of_reason reason = rank_of reason

@@ -18,7 +18,7 @@ ghost use Rattle.tsp_text.specs.declared.fault.ReadFault.TheVariants as read_fau
 ghost use Rattle.tsp_report.specs.Report.{head_of, solution_line, not_judged, type_line, nodes_line, gap_lines, bound_lines, reason_text, verdict_lines, bound_found_lines, report_of, bound_report_of};
 ghost use Rattle.tsp_report.specs.Examples.{matrix, shown_routes, shown_tours, shown_potentials, shown_tree, untyped, each_reason};
 ghost use Rattle.tsp_report.specs.Tasks.{files_of, files_of_task, numbered, IsMapped, IsMappedTask};
-ghost use Rattle.tsp_report.specs.Verdicts.{rank_of, row_of_reason, role_of};
+ghost use Rattle.tsp_report.specs.Verdicts.{rank_of, row_of_reason, role_of, number_of_reason};
 ghost use Rattle.tsp_report.specs.Show.{name_line, weights_line, canonical_line, fixed_line, all_tour_lines, scale_line, load_unit_line, families_line, memory_line, rows_line, leaves_line, shown};
 ghost use Rattle.tsp_report.specs.declared.task.CertificateKind.{CertificateKind};
 ghost use Rattle.tsp_report.specs.declared.task.CertificateKind.TheVariants as certificates;
@@ -259,10 +259,12 @@ pub fn examples_of_names()
         ∷ codes "NodeOutOfRange" ∷ codes "RepeatedNode" ∷ codes "FixedEdgeUnused" ∷ codes "Unserved" ∷ codes "Overload"
         ∷ codes "LengthClaimed" ∷ codes "NotPotentials" ∷ codes "PotentialsDimension" ∷ codes "PotentialsKind"
         ∷ codes "MultiplierNotFixed" ∷ codes "MultiplierRepeated" ∷ codes "DualInfeasible" ∷ codes "NotBranches"
-        ∷ codes "BranchesDimension" ∷ codes "BadComb" ∷ codes "BadBranch" ∷ codes "BranchTwice" ∷ codes "BadLeaf"
-        ∷ codes "TooManyLoads" ∷ codes "NotJudged" ∷ codes "NotUsed" ∷ [] }
+        ∷ codes "BranchesDimension" ∷ codes "BadComb" ∷ codes "BadMemory" ∷ codes "BadRow" ∷ codes "BadBranch"
+        ∷ codes "BranchTwice" ∷ codes "BadLeaf" ∷ codes "TooManyLoads" ∷ codes "TooManyStates" ∷ codes "NotJudged" ∷ codes "NotUsed" ∷ [] }
     ensures ranks { map rank_of each_reason ≡ 1 ∷ 2 ∷ 3 ∷ 4 ∷ 5 ∷ 6 ∷ 7 ∷ 8 ∷ 9 ∷ 10 ∷ 11 ∷ 12 ∷ 13 ∷ 14 ∷ 15 ∷ 16 ∷ 17
-        ∷ 18 ∷ 19 ∷ 20 ∷ 21 ∷ 22 ∷ 23 ∷ 24 ∷ 25 ∷ 26 ∷ 27 ∷ 28 ∷ 29 ∷ 30 ∷ 34 ∷ [] }
+        ∷ 18 ∷ 19 ∷ 20 ∷ 21 ∷ 22 ∷ 23 ∷ 24 ∷ 25 ∷ 26 ∷ 27 ∷ 28 ∷ 29 ∷ 30 ∷ 31 ∷ 32 ∷ 33 ∷ 34 ∷ [] }
+    ensures for_c { map number_of_reason each_reason ≡ 1 ∷ 2 ∷ 3 ∷ 4 ∷ 5 ∷ 6 ∷ 7 ∷ 8 ∷ 9 ∷ 10 ∷ 11 ∷ 12 ∷ 13 ∷ 14 ∷ 15 ∷ 16
+        ∷ 17 ∷ 18 ∷ 19 ∷ 20 ∷ 21 ∷ 22 ∷ 23 ∷ 24 ∷ 25 ∷ 31 ∷ 32 ∷ 26 ∷ 27 ∷ 28 ∷ 29 ∷ 33 ∷ 30 ∷ 34 ∷ [] }
 {}
 
 /// The numbers of the reasons. A length that is claimed may be below 0.
@@ -270,10 +272,12 @@ pub fn examples_of_numbers()
     ensures first { map (λ reason. (row_of_reason reason).numbers.0) each_reason
         ≡ None ∷ None ∷ Some (pos 1) ∷ None ∷ None ∷ None ∷ None ∷ None ∷ None ∷ Some (pos 2) ∷ Some (pos 3) ∷ Some (pos 4)
         ∷ Some (pos 5) ∷ Some (pos 6) ∷ Some (pos 7) ∷ Some (negsuc 4) ∷ None ∷ None ∷ None ∷ Some (pos 8) ∷ Some (pos 9)
-        ∷ Some (pos 10) ∷ None ∷ None ∷ Some (pos 11) ∷ Some (pos 12) ∷ Some (pos 13) ∷ Some (pos 14) ∷ None ∷ None ∷ None ∷ [] }
+        ∷ Some (pos 10) ∷ None ∷ None ∷ Some (pos 11) ∷ Some (pos 15) ∷ Some (pos 16) ∷ Some (pos 12) ∷ Some (pos 13)
+        ∷ Some (pos 14) ∷ None ∷ Some (pos 17) ∷ None ∷ None ∷ [] }
     ensures second { map (λ reason. (row_of_reason reason).numbers.1) each_reason
         ≡ None ∷ None ∷ Some (pos 20) ∷ None ∷ None ∷ None ∷ None ∷ None ∷ None ∷ None ∷ None ∷ None ∷ None ∷ None ∷ None
-        ∷ None ∷ None ∷ None ∷ None ∷ None ∷ None ∷ Some (pos 30) ∷ None ∷ None ∷ None ∷ None ∷ None ∷ None ∷ None ∷ None ∷ None ∷ [] }
+        ∷ None ∷ None ∷ None ∷ None ∷ None ∷ None ∷ Some (pos 30) ∷ None ∷ None ∷ None ∷ None ∷ None ∷ None ∷ None ∷ None ∷ None ∷ None
+        ∷ None ∷ None ∷ [] }
 {}
 
 /// The file that each reason is about.
@@ -288,5 +292,6 @@ pub fn examples_of_roles()
         ∷ reasons.PotentialsDimension ∷ reasons.PotentialsKind ∷ reasons.MultiplierNotFixed 1
         ∷ reasons.MultiplierRepeated 1 ∷ reasons.DualInfeasible 1 2 ∷ []) }
     ensures branches { All (λ reason. role_of reason ≡ Branches) (reasons.NotBranches ∷ reasons.BranchesDimension
-        ∷ reasons.BadFamily 1 ∷ reasons.BadBranch 1 ∷ reasons.BranchTwice 1 ∷ reasons.BadLeaf 1 ∷ reasons.TooManyLoads ∷ []) }
+        ∷ reasons.BadFamily 1 ∷ reasons.BadMemory 1 ∷ reasons.BadRow 1 ∷ reasons.BadBranch 1 ∷ reasons.BranchTwice 1
+        ∷ reasons.BadLeaf 1 ∷ reasons.TooManyLoads ∷ reasons.TooManyStates 1 ∷ []) }
 {}

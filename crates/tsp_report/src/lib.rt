@@ -29,4 +29,6 @@ pub use examples::{
 pub use report::{write_bound, write_report};
 pub use shown::write_shown;
 pub use task::{CertificateKind, Comparison, FileTask, Role, Task, blamed, role_by};
-pub use verdict::{BoundVerdict, KnownBound, Reason, ReasonRow, Verdict, row_of_reason};
+pub use verdict::{
+    BoundVerdict, KnownBound, Reason, ReasonRow, Verdict, number_of_reason, row_of_reason,
+};

@@ -2,7 +2,7 @@
 //! finds them, tsp_report prints them, tsp_explain explains them.
 
 ghost use Rattle.std.specs.Prelude.{◌≡◌, None, Some, pos};
-ghost use Rattle.tsp_report.specs.Verdicts.{row_of_reason};
+ghost use Rattle.tsp_report.specs.Verdicts.{row_of_reason, number_of_reason};
 ghost use Rattle.tsp_report.specs.declared.task.Role.TheVariants.{Potentials};
 
 use crate::task::Role::{self, Branches, Instance, Potentials, Solution};
@@ -10,7 +10,7 @@ use tsp_format::Field;
 
 /// Why a solution is rejected, or why there is no bound, in the order in which reasons are judged.
 ///
-/// Places, routes, fixed pairs, multipliers, families, branches and leaves count from 1: places
+/// Places, routes, fixed pairs, multipliers, families, rows, branches and leaves count from 1: places
 /// through all tours of the solution, one after the other, branches and leaves through their
 /// section.
 #[derive(Clone, Copy, Debug, PartialEq, Eq)]
@@ -76,6 +76,14 @@ pub enum Reason {
     ///
     /// Reports call it `BadComb`, as they did when combs were the only families.
     BadFamily { index: u32 },
+    /// This customer has the first bad list of those that say what customers remember: one with a
+    /// node that isn't a customer, with a customer twice, or whose customer has an earlier list. If
+    /// all lists and subset rows are good, the first customer that keeps more than 64 customers and
+    /// rows. If tours are judged, the first node of the first list.
+    BadMemory { node: u32 },
+    /// This subset row is the first one with fewer than two nodes in its set, with a node that isn't
+    /// a customer, or with a node twice. If tours are judged, the first row.
+    BadRow { index: u32 },
     /// This branch is the first one of the wrong kind: on a family if tours are judged, or if
     /// routes are judged on something else than one of the certificate's families.
     BadBranch { index: u32 },
@@ -86,11 +94,15 @@ pub enum Reason {
     /// families, a potential above 10^15 in size, or multipliers that are too large. For tours
     /// these are at least 0 and sum to at most 9 * 10^17, each times the most sets of its family
     /// that two nodes cross. For routes they may be negative, and their sizes sum to at most 3 *
-    /// 10^17.
+    /// 10^17. If the certificate lists memories or subset rows, the indexes of rows are taken too,
+    /// their charges are in that sum, and no charge is negative.
     BadLeaf { index: u32 },
     /// Routes are judged, and the number of nodes times one more than the capacity, which is
     /// counted in loads, is more than 10^7.
     TooManyLoads,
+    /// Routes are judged, the certificate lists memories or subset rows, and this leaf is the first
+    /// one whose runs have more than 10^7 kept states.
+    TooManyStates { index: u32 },
     /// No other reason applies, a line of the instance has an unknown keyword, and the check asked
     /// for this reason. The report names the first such keyword.
     NotJudged,
@@ -205,7 +217,7 @@ impl KnownBound {
 pub struct ReasonRow {
     /// Its name in a report.
     pub name: &'static str,
-    /// Its place in the order in which reasons are judged, from 1. That is its number for C.
+    /// Its place in the order in which reasons are judged, from 1.
     pub rank: u32,
     /// The file that it is about.
     pub role: Role,
@@ -246,12 +258,32 @@ pub fn row_of_reason(reason: Reason) -> ReasonRow
         Reason::NotBranches => row("NotBranches", 23, Branches, NONE),
         Reason::BranchesDimension => row("BranchesDimension", 24, Branches, NONE),
         Reason::BadFamily { index } => row("BadComb", 25, Branches, one(index)),
-        Reason::BadBranch { index } => row("BadBranch", 26, Branches, one(index)),
-        Reason::BranchTwice { index } => row("BranchTwice", 27, Branches, one(index)),
-        Reason::BadLeaf { index } => row("BadLeaf", 28, Branches, one(index)),
-        Reason::TooManyLoads => row("TooManyLoads", 29, Branches, NONE),
-        Reason::NotJudged => row("NotJudged", 30, Instance, NONE),
+        Reason::BadMemory { node } => row("BadMemory", 26, Branches, one(node)),
+        Reason::BadRow { index } => row("BadRow", 27, Branches, one(index)),
+        Reason::BadBranch { index } => row("BadBranch", 28, Branches, one(index)),
+        Reason::BranchTwice { index } => row("BranchTwice", 29, Branches, one(index)),
+        Reason::BadLeaf { index } => row("BadLeaf", 30, Branches, one(index)),
+        Reason::TooManyLoads => row("TooManyLoads", 31, Branches, NONE),
+        Reason::TooManyStates { index } => row("TooManyStates", 32, Branches, one(index)),
+        Reason::NotJudged => row("NotJudged", 33, Instance, NONE),
         Reason::NotUsed { .. } => row("NotUsed", 34, Instance, NONE),
+    }
+}
+
+/// The number of a reason for C. It stays when reasons come in between, unlike the rank.
+pub fn number_of_reason(reason: Reason) -> u32
+    ensures { result ≡ number_of_reason reason }
+{
+    match reason {
+        Reason::BadBranch { .. } => 26,
+        Reason::BranchTwice { .. } => 27,
+        Reason::BadLeaf { .. } => 28,
+        Reason::TooManyLoads => 29,
+        Reason::NotJudged => 30,
+        Reason::BadMemory { .. } => 31,
+        Reason::BadRow { .. } => 32,
+        Reason::TooManyStates { .. } => 33,
+        _ => row_of_reason(reason).rank,
     }
 }
 

@@ -45,7 +45,7 @@ has_other : (xs : List ℕ) (x y : ℕ) → (x == y) ≡ false → has (xs ++ x 
 has_other [] x y other = ap (λ (b : Bool). b || false) other
 has_other (z ∷ xs) x y other = ap (λ (b : Bool). (z == y) || b) (has_other xs x y other)
 
-has_both : (xs ys : List ℕ) (y : ℕ) → has (xs ++ ys) y ≡ (has xs y || has ys y)
+pub has_both : (xs ys : List ℕ) (y : ℕ) → has (xs ++ ys) y ≡ (has xs y || has ys y)
 has_both [] ys y = refl
 has_both (x ∷ xs) ys y = elim (cases_Bool (x == y)) [
   | inl it ↦ ap (λ (b : Bool). b || has (xs ++ ys) y) it ∙ sym (ap (λ (b : Bool). (b || has xs y) || has ys y) it)

@@ -31,6 +31,8 @@ pub mod StatesAlike
 pub mod RowHalves
 pub mod RouteProducts
 pub mod PlanJudging
+pub mod RunJudging
+pub mod PlanVerdicts
 pub mod QRouteRests
 pub mod SmallCuts
 pub mod SmallLoads

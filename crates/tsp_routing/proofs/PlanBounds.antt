@@ -5,7 +5,6 @@ use Rattle.tsp_routing.proofs.CutNeeds.{routes_are_q_routes}
 use Rattle.tsp_routing.proofs.Plans.{lengths_are_weights, plan_firsts, plan_seconds, count_of_plan, plans_have_few_routes, all_same, plans_cross_cuts, lone_crossings, fewest_routes, least_at, least_between, split_surplus, between_weight}
 use Rattle.tsp_routing.specs.PlanBounds.{surplus, least_times, low_of, high_of, limits_total, q_route_weight, PlanBoundsBoundPlans, least_product, IsPlanBound, IsQRouteBound, IsFoundByQRoutes, PlanTreesBoundPlans, PlanTreeBoundsAreUnique, IsPlanTreeBound}
 use Rattle.tsp_routing.specs.PlanLinks.{part_crossed, set_at, KeepsLimit, KeepsLimitsOfOne, PlansCrossEvenly, PlansKeepEitherLimit, PlansKeepLeaves, IsFewest, plan_links, IsRoutable, IsCutFamily, IsWithinLimit, IsFilledPlan, AreUnits, load_in, capacity_in_parts, KeepsEachLimit}
-use Rattle.tsp_routing.specs.PlanVerdicts.{PlanBoundsFoundAreUnique}
 use Rattle.tsp_routing.specs.QRoutes.{IsLeastAmong, IsQRoute, IsBelowQRoutes}
 
 -- ---- parity
@@ -422,7 +421,7 @@ one_crossed problem sets x y p q =
     let most : x.most ≡ y.most = omega (arith, p_most, q_most) in
     ap₂ (λ (l m : ℕ). let own : Crossings = record { least = l; most = m } in own) least most
 
-all_crossed : (problem : RoutingProblem) (families : List (List (List ℕ))) (xs ys : List Crossings)
+pub all_crossed : (problem : RoutingProblem) (families : List (List (List ℕ))) (xs ys : List Crossings)
     → length xs ≡ length families → length ys ≡ length families
     → AllByRecursion (IsCutFamily problem) (families_with xs families)
     → AllByRecursion (IsCutFamily problem) (families_with ys families) → xs ≡ ys
@@ -440,15 +439,3 @@ one_light problem unit a b p q =
     let first = p.light_is in
     let second = q.light_is in
     omega (arith, ints, first, second)
-
-pub one_plan_bound_found : PlanBoundsFoundAreUnique
-one_plan_bound_found problem scale unit families steps a b p q =
-    let crossed : p.crossed ≡ q.crossed = all_crossed problem families p.crossed q.crossed p.cuts.many q.cuts.many
-    (recursion_from_All (IsCutFamily problem) (families_with p.crossed families) p.cuts.are)
-    (recursion_from_All (IsCutFamily problem) (families_with q.crossed families) q.cuts.are) in
-    let light : p.light ≡ q.light = one_light problem unit p.light q.light p.units q.units in
-    let listed = listed_steps problem.nodes (length families) steps in
-    plan_tree_bounds_are_unique problem scale unit q.light (families_with q.crossed families) listed a b
-    (subst (λ (l : ℕ). IsPlanTreeBound problem scale unit l (families_with q.crossed families) listed a) light
-    (subst (λ (cs : List Crossings). IsPlanTreeBound problem scale unit p.light (families_with cs families) listed a) crossed p.bound))
-    q.bound

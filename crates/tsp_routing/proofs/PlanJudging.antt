@@ -6,14 +6,11 @@ use Rattle.tsp_cases.specs.declared.judged.JudgedLeaf.TheVariants as leaves
 use Rattle.tsp_cases.specs.states.Kept.{AreSmall}
 use Rattle.tsp_routing.proofs.CutNeeds.{apart_from_pairs, held, no_depot}
 use Rattle.tsp_routing.proofs.RouteProducts.{each_small}
-use Rattle.tsp_routing.specs.PlanBounds.{PlanTreesBoundPlans}
-use Rattle.tsp_routing.specs.PlanLinks.{IsCutFamily, AreUnits, IsRoutable}
-use Rattle.tsp_routing.specs.PlanVerdicts.{IsGoodSet, IsFirstBadSet, AreCapacityCuts, most_of_multipliers, ArePlanNumbers, AreGoodBranches, IsPlanVerdict, VerdictBoundsPlans}
+use Rattle.tsp_routing.specs.PlanLinks.{IsCutFamily}
+use Rattle.tsp_routing.specs.PlanVerdicts.{IsGoodSet, IsFirstBadSet, AreCapacityCuts, most_of_multipliers, ArePlanNumbers, AreGoodBranches}
 use Rattle.tsp_routing.specs.declared.units.Demands.{Demands}
-use Rattle.tsp_routing.specs.declared.verdict.PlanVerdict.{PlanVerdict}
-use Rattle.tsp_routing.specs.declared.verdict.PlanVerdict.TheVariants as verdict
 use Rattle.tsp_routing.specs.states.Demands.{loads_problem}
-use Rattle.tsp_routing.specs.states.Judged.{AreCutNumbers, IsLeafVerdict}
+use Rattle.tsp_routing.specs.states.Judged.{AreCutNumbers}
 use Rattle.tsp_routing.specs.states.LeafWeights.{IsPlanStep}
 
 -- ---- how many customers a set has
@@ -224,7 +221,7 @@ few_sets n depot families good = λ k d lt.
 
 -- ---- one leaf
 
-plan_numbers_small : (n families : ℕ) (numbers : List ℤ) → ArePlanNumbers n families (split_at n numbers) → AreSmall numbers
+pub plan_numbers_small : (n families : ℕ) (numbers : List ℤ) → ArePlanNumbers n families (split_at n numbers) → AreSmall numbers
 plan_numbers_small n families numbers good =
     subst AreSmall (take-append-drop n numbers)
     (All-append (IsFromTo (neg_ℤ (pos (2 ^ 64))) (pos (2 ^ 64))) (take n numbers) (drop n numbers)
@@ -312,35 +309,3 @@ single_sets n depot families good = λ k d lt. ap length (sym (get_or_default fa
 pub no_demand_below : (n : ℕ) (demands : List ℤ) → length demands ≡ n → All (IsFromTo (pos 0) (pos most_demand)) demands
     → (node : ℕ) → IsNode n node → pos 0 ≤ℤ demand_of demands node
 no_demand_below n demands each are node inside = (are (node - 1) (pos 0) (omega (arith, each, inside.0, inside.1))).0
-
-module _ (problem : RoutingProblem) (scale : ℤ) (unit : ℕ) (families : List (List (List ℕ))) (steps : List listed.Step) where
-  pub verdict_of_leaves : (light : ℕ) (crossed : List Crossings) (found : PlanVerdict) → AreUnits problem unit light
-      → AreCapacityCuts problem families crossed → AreGoodBranches problem.nodes (length families) steps
-      → IsLeafVerdict problem scale unit light (length families) (families_with crossed families) steps found
-      → IsPlanVerdict problem scale unit families steps found
-  verdict_of_leaves light crossed (verdict.BadFamily family) units cuts branches is = absurd is
-  verdict_of_leaves light crossed (verdict.BadBranch branch) units cuts branches is = absurd is
-  verdict_of_leaves light crossed (verdict.BadLeaf leaf) units cuts branches is = (((crossed, cuts), branches), is)
-  verdict_of_leaves light crossed verdict.TooManyLoads units cuts branches is =
-      (((crossed, cuts), branches), is.0, record { light = light; units = units; many = is.1 })
-  verdict_of_leaves light crossed (verdict.Bound found) units cuts branches is = record {
-    crossed = crossed;
-    cuts = cuts;
-    branches = branches;
-    leaves = is.0;
-    light = light;
-    units = units;
-    few = is.1;
-    bound = is.2;
-  }
-
-  pub verdict_bounds : PlanTreesBoundPlans → IsRoutable problem → IsScale scale → are_whole 1 steps ≡ true
-      → (found : PlanVerdict) → IsPlanVerdict problem scale unit families steps found → VerdictBoundsPlans problem found
-  verdict_bounds bounds routing scale_in whole (verdict.BadFamily family) is = tt
-  verdict_bounds bounds routing scale_in whole (verdict.BadBranch branch) is = tt
-  verdict_bounds bounds routing scale_in whole (verdict.BadLeaf leaf) is = tt
-  verdict_bounds bounds routing scale_in whole verdict.TooManyLoads is = tt
-  verdict_bounds bounds routing scale_in whole (verdict.Bound found) is =
-      bounds problem scale unit is.light (families_with is.crossed families)
-      (listed_steps problem.nodes (length families) steps) found routing scale_in is.units is.cuts.are
-      (sym (whole_trees problem.nodes (no_numbers_of problem.nodes (length families)) 1 steps) ∙ whole) is.bound

@@ -1,3 +1,4 @@
+-- Circle 3 of docs/trust.md.
 -- Kept states: the states of runs that a programme over states has to keep, by completion bounds. The completions are
 -- plain: a way home may visit customers in any order, also back and forth between two of them.
 use Rattle.tsp_routing.specs.Prelude.{ℕ, false, List, [], length, Some, ℤ, All, AllPairs, IsCustomer}

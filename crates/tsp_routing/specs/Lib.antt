@@ -12,4 +12,5 @@ pub mod Memories
 pub mod Starts
 pub mod PlanVerdicts
 pub mod RunTrees
+pub mod RunVerdicts
 pub mod Examples

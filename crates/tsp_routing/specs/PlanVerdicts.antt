@@ -1,12 +1,10 @@
 -- Circle 3 of docs/trust.md.
--- The verdict on a certificate for routes: its first bad set, branch or leaf, or its bound.
-use Rattle.tsp_routing.specs.Prelude.{All, ℕ, List, unsigned_abs, length, ℤ, pos, [], slice_index_or, IfSome, Option, Step, ArePotentials, IsBoundSized, sum_int_by, RoutingProblem, IsCustomer, demand_of, LeafNumbers, families_with, HasEachOnce, BeginsWithin, branch_pairs, IsFirstBadBranch, AreGoodLeavesBy, IsFirstBadLeafBy, listed_steps}
+-- What makes a certificate for routes good: its sets, branches and leaves; and its bound by q-routes.
+use Rattle.tsp_routing.specs.Prelude.{All, ℕ, List, unsigned_abs, length, ℤ, pos, [], slice_index_or, Option, Step, ArePotentials, sum_int_by, RoutingProblem, IsCustomer, demand_of, LeafNumbers, families_with, HasEachOnce, BeginsWithin, branch_pairs, IsFirstBadBranch, AreGoodLeavesBy, IsFirstBadLeafBy, listed_steps}
 use Rattle.std.specs.Prelude.{◌+◌, ◌≡◌, ◌≤ℤ◌, ◌≢◌, ◌≤◌, ◌<◌, ◌∷◌, ◌*◌}
 use Rattle.tsp_cases.specs.declared.family.Crossings.{Crossings}
-use Rattle.tsp_routing.specs.PlanBounds.{IsPlanTreeBound, BoundsPlansIfAny}
+use Rattle.tsp_routing.specs.PlanBounds.{IsPlanTreeBound}
 use Rattle.tsp_routing.specs.PlanLinks.{IsCutFamily, AreUnits, capacity_in_parts}
-use Rattle.tsp_routing.specs.declared.verdict.PlanVerdict.{PlanVerdict}
-use Rattle.tsp_routing.specs.declared.verdict.PlanVerdict.TheVariants as verdict
 
 -- each branch begins with the number of a family
 abbrev pub AreGoodBranches : ℕ → ℕ → List Step → Type 0
@@ -64,7 +62,7 @@ pub record AreCapacityCuts (problem : RoutingProblem) (families : List (List (Li
   pub good : (place : ℕ) → place < length families → IsGoodSet problem.nodes problem.depot (slice_index_or families place [])
   pub are : All (IsCutFamily problem) (families_with crossed families)
 
--- ---- the verdict on a certificate for routes: its bound, or the first reason against it
+-- ---- the bound of a certificate for routes by q-routes
 
 -- the routing problem with these nodes, costs, depot, demands and capacity
 abbrev pub routing_with : ℕ → (ℕ → ℕ → ℤ) → ℕ → List ℤ → ℤ → RoutingProblem
@@ -91,7 +89,7 @@ abbrev pub HasGoodTree : RoutingProblem → List (List (List ℕ)) → List Step
 HasGoodTree problem families steps = ((crossed : List Crossings) × AreCapacityCuts problem families crossed)
     × AreGoodBranches problem.nodes (length families) steps
 
--- the bound of a certificate that is good, and whose table isn't too large
+-- the bound by q-routes of a certificate that is good, and whose table isn't too large
 pub record IsBoundFound (problem : RoutingProblem) (scale : ℤ) (unit : ℕ) (families : List (List (List ℕ))) (steps : List Step)
     (found : Option ℤ) : Type 0 where
   pub crossed : List Crossings
@@ -103,37 +101,3 @@ pub record IsBoundFound (problem : RoutingProblem) (scale : ℤ) (unit : ℕ) (f
   pub few : problem.nodes * (capacity_in_parts problem unit light + 1) ≤ most_entries
   pub bound : IsPlanTreeBound problem scale unit light (families_with crossed families)
       (listed_steps problem.nodes (length families) steps) found
-
--- the first bad family; where all are good, the first bad branch; then the first bad leaf; then that there are too many
--- loads; and else the bound
-abbrev pub IsPlanVerdict : RoutingProblem → ℤ → ℕ → List (List (List ℕ)) → List Step → PlanVerdict → Type 0
-IsPlanVerdict problem scale unit families steps (verdict.BadFamily family) = IsFirstBadSet problem.nodes problem.depot families family
-IsPlanVerdict problem scale unit families steps (verdict.BadBranch branch) =
-    ((crossed : List Crossings) × AreCapacityCuts problem families crossed)
-    × IsFirstBadPlanBranch problem.nodes (length families) steps branch
-IsPlanVerdict problem scale unit families steps (verdict.BadLeaf leaf) =
-    HasGoodTree problem families steps × IsFirstBadPlanLeaf problem.nodes (length families) steps leaf
-IsPlanVerdict problem scale unit families steps verdict.TooManyLoads =
-    HasGoodTree problem families steps × AreGoodPlanLeaves problem.nodes (length families) steps × HasTooManyLoads problem unit
-IsPlanVerdict problem scale unit families steps (verdict.Bound found) = IsBoundFound problem scale unit families steps found
-
--- A bound is at most the length of every filled plan; where there is none, there is no filled plan.
-abbrev pub VerdictBoundsPlans : RoutingProblem → PlanVerdict → Type 0
-VerdictBoundsPlans problem (verdict.Bound found) = BoundsPlansIfAny problem found
-VerdictBoundsPlans problem (verdict.BadFamily family) = Unit {0}
-VerdictBoundsPlans problem (verdict.BadBranch branch) = Unit {0}
-VerdictBoundsPlans problem (verdict.BadLeaf leaf) = Unit {0}
-VerdictBoundsPlans problem verdict.TooManyLoads = Unit {0}
-
--- The bound is so small that sums with it fit 128 bits.
-abbrev pub IsSizedPlanVerdict : PlanVerdict → Type 0
-IsSizedPlanVerdict (verdict.Bound found) = IfSome found IsBoundSized
-IsSizedPlanVerdict (verdict.BadFamily family) = Unit {0}
-IsSizedPlanVerdict (verdict.BadBranch branch) = Unit {0}
-IsSizedPlanVerdict (verdict.BadLeaf leaf) = Unit {0}
-IsSizedPlanVerdict verdict.TooManyLoads = Unit {0}
-
--- A certificate has one bound, or none.
-abbrev pub PlanBoundsFoundAreUnique : Type 0
-PlanBoundsFoundAreUnique = (problem : RoutingProblem) (scale : ℤ) (unit : ℕ) (families : List (List (List ℕ))) (steps : List Step)
-    (a b : Option ℤ) → IsBoundFound problem scale unit families steps a → IsBoundFound problem scale unit families steps b → a ≡ b

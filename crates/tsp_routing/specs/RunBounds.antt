@@ -1,3 +1,4 @@
+-- Circle 3 of docs/trust.md.
 -- The bound of a leaf for routes by the least weight of a run: by walks with memory.
 use Rattle.tsp_routing.specs.Prelude.{ℕ, List, ℤ, pos, All, RoutingProblem, plan_length, IsScale, entry, IsLeastBound, Family, Decision, LeafNumbers}
 use Rattle.std.specs.Prelude.{◌≡◌, ◌⊎◌, ◌+◌, ◌*◌, ◌-◌, ◌+ℤ◌, ◌-ℤ◌, ◌*ℤ◌, ◌≤ℤ◌}

@@ -1,3 +1,4 @@
+-- Circle 3 of docs/trust.md.
 -- Runs: walks with memory. A run doesn't come back to a customer that it remembers (ng-routes), and it pays where it
 -- serves most of a small set (limited-memory subset rows). Sources: R. Baldacci, A. Mingozzi and R. Roberti, New route
 -- relaxation and pricing strategies for the vehicle routing problem, 2011; M. Jepsen, B. Petersen, S. Spoorendonk and

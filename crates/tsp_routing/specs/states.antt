@@ -9,4 +9,5 @@ pub mod KeptCounts
 pub mod GivenMemories
 pub mod LeastKept
 pub mod JudgedMemory
+pub mod RunJudged
 pub mod RowHalves

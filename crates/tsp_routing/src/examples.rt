@@ -9,7 +9,23 @@ ghost use Rattle.tsp_routing.specs.PlanBounds.{least_product, least_times, low_o
 ghost use Rattle.tsp_routing.specs.PlanLinks.{IsFewest, IsCapacityCut, IsCutFamily, IsWithinLimit, AreUnits, load_in, capacity_in_parts};
 ghost use Rattle.tsp_routing.specs.PlanVerdicts.{AreGoodBranches, IsFirstBadPlanBranch, most_of_multipliers, most_entries, HasTooManyLoads};
 ghost use Rattle.tsp_routing.specs.RunExamples.{of_three, of_four, AreRun, AreNoRun, RunWeighs, KeptRunWeighs, KeepsKeys, HasMember, HasWord, StartWeighs, RectangleHas};
+ghost use Rattle.tsp_routing.specs.RunTrees.{number_place};
+ghost use Rattle.tsp_routing.specs.RunVerdicts.{is_by_runs};
 ghost use Rattle.tsp_routing.specs.Runs.{half};
+
+/// Which certificates are judged by runs, and the places of the numbers of a leaf with 4 nodes and 2
+/// families: rows follow on families, and an index between them is none.
+pub fn examples_of_places()
+    ensures neither { is_by_runs [] [] ≡ false }
+    ensures list { is_by_runs ([] ∷ []) [] ≡ true }
+    ensures row { is_by_runs [] (of_three ∷ []) ≡ true }
+    ensures node { number_place 4 2 4 ≡ 4 }
+    ensures family { number_place 4 2 6 ≡ 6 }
+    ensures between { number_place 4 2 7 ≡ 0 }
+    ensures last_between { number_place 4 2 10004 ≡ 0 }
+    ensures first_row { number_place 4 2 10005 ≡ 7 }
+    ensures second_row { number_place 4 2 10006 ≡ 8 }
+{}
 
 /// How many routes carry a demand of 12, how many a set of these customers needs, and how often a
 /// plan crosses the set at least.

@@ -4,10 +4,10 @@
 ghost use Rattle.tsp_routing.specs.KeptStates.{CompletionsTellKeptStates, CompletionsAreBelowRests, RunsBelowAreKept, KeptStartsGiveLeastRuns, EqualStatesGoOnAlike};
 ghost use Rattle.tsp_routing.specs.PlanBounds.{PlanBoundsBoundPlans, PlanTreesBoundPlans, PlanTreeBoundsAreUnique};
 ghost use Rattle.tsp_routing.specs.PlanLinks.{LengthsAreWeights, PlanSums, PlansHaveFewRoutes, PlansLeaveCuts, PlansCrossCuts, PlansCrossEvenly, PlansKeepEitherLimit, PlansKeepLeaves, RoutesFitCapacity, LoadsAreSome};
-ghost use Rattle.tsp_routing.specs.PlanVerdicts.{PlanBoundsFoundAreUnique};
 ghost use Rattle.tsp_routing.specs.QRoutes.{RoutesAreQRoutes};
 ghost use Rattle.tsp_routing.specs.RunBounds.{RunBoundsBoundPlans, RunBoundsAreUnique};
 ghost use Rattle.tsp_routing.specs.RunTrees.{RunTreesBoundPlans};
+ghost use Rattle.tsp_routing.specs.RunVerdicts.{PlanBoundsFoundAreUnique};
 ghost use Rattle.tsp_routing.specs.Runs.{ApartCustomersAreRuns, RoutesAreRuns, RunsWeighLinksAndCharges, RowsAreChargedForTwo, PlansAreChargedHalf, PlansWeighAtMost};
 ghost use Rattle.tsp_routing.specs.Starts.{KeptStartsAreStarts, StartsAreKeptStarts};
 

@@ -4,8 +4,9 @@
 //! even number of times. Each of its routes is a walk within the capacity, a q-route. So the bound
 //! of a tree of cases, with least q-routes at its leaves, holds for every plan.
 //!
-//! `leaf_run_bound` and the modules below it bound a leaf by walks that remember customers, with
-//! subset-row cuts. Nothing calls them yet.
+//! A certificate may also list customers to remember, and subset rows. Then each leaf is bounded by
+//! its least run: a q-route that doesn't come back to a customer that it remembers, and that pays
+//! where it serves most of a row's set.
 //!
 //! ```text
 //! let verdict = judge_plans(alloc, &tree)?;
@@ -36,9 +37,13 @@ mod next_entries;
 mod next_entry;
 mod placed_steps;
 mod plan_leaf;
+mod plan_numbers;
+mod plan_tree;
 mod run_bound;
+mod run_judge;
 mod run_leaf;
 mod run_nodes;
+mod run_verdict;
 mod sums;
 mod units;
 mod verdict;
@@ -47,8 +52,8 @@ mod ways_home;
 pub use examples::{
     examples_of_bounds, examples_of_branches, examples_of_halves, examples_of_leaves,
     examples_of_limits, examples_of_loads, examples_of_memories, examples_of_most,
-    examples_of_needs, examples_of_products, examples_of_q_routes, examples_of_run_bounds,
-    examples_of_run_weights, examples_of_runs, examples_of_starts,
+    examples_of_needs, examples_of_places, examples_of_products, examples_of_q_routes,
+    examples_of_run_bounds, examples_of_run_weights, examples_of_runs, examples_of_starts,
 };
 pub use laws::{
     equal_states_go_on_alike, kept_starts_give_least_runs, plan_bounds_are_unique,
@@ -56,4 +61,5 @@ pub use laws::{
     plans_keep_limits, plans_leave_cuts, routes_are_q_routes, routes_are_runs,
     run_bounds_bound_plans, run_trees_bound_plans, starts_are_told_from_both_ends,
 };
-pub use verdict::{PlanTree, PlanVerdict, judge_plans};
+pub use plan_tree::{PlanTree, PlanVerdict};
+pub use verdict::judge_plans;

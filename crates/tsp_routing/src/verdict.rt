@@ -1,58 +1,70 @@
-//! Judges a certificate for routes: its families, then its branches, then its leaves.
+//! Judges a certificate for routes: its families and memories, then its branches, then its leaves.
 
-ghost use Rattle.tsp_routing.specs.Prelude.{All, true, [], length, nat_abs, IfOk, pos, ℕ, ℤ, MatchOption, IsTrue, take, drop, neg_ℤ, most_demand, most_capacity, IsNode, IsFromTo, are_whole, IsScale, families_with, family_with, families_in, AreFamiliesOf, AreSetsOf, lists_of, as_leaf_numbers, IsStepOf, lent_in};
-ghost use Rattle.std.specs.Prelude.{◌≡◌, ◌≤◌, ◌<◌, ◌+◌, ◌*◌, ◌^◌, ◌↔◌};
-ghost use Rattle.tsp_format.specs.states.TreeSteps.{steps_of};
+ghost use Rattle.tsp_routing.specs.Prelude.{All, true, [], length, nat_abs, IfOk, map, ℕ, ℤ, families_with, family_with, families_in, AreSetsOf, lists_of, are_whole, IsStepOf, lent_in};
+ghost use Rattle.std.specs.Prelude.{◌≡◌, ◌≤◌, ◌<◌, ◌+◌, ◌*◌, ◌^◌};
+ghost use Rattle.tsp_format.specs.states.TreeSteps.{steps_of, subset_row_of};
+ghost use Rattle.tsp_cases.specs.Crossings.{AreFamiliesOf};
 ghost use Rattle.tsp_cases.specs.JudgedLeaves.{AreJudgedBy, AreSizedLeaves, IsFoundOfCase, IsSizedLeaf};
 ghost use Rattle.tsp_cases.specs.states.GoodFamilies.{AreUnmarked, AddsNoOther};
 ghost use Rattle.tsp_cases.specs.states.OpenCases.{IsOpenCase, decisions_in};
 ghost use Rattle.tsp_routing.specs.PlanLinks.{IsCutFamily};
-ghost use Rattle.tsp_routing.specs.PlanVerdicts.{ArePlanNumbers, most_of_multipliers, sizes_total, IsGoodSet, routing_with, IsPlanVerdict, VerdictBoundsPlans, IsSizedPlanVerdict};
+ghost use Rattle.tsp_routing.specs.PlanVerdicts.{ArePlanNumbers, AreCapacityCuts, IsGoodSet, routing_with};
 ghost use Rattle.tsp_routing.specs.PlanBounds.{most_capacity_in_parts};
+ghost use Rattle.tsp_routing.specs.RunTrees.{IsGoodMemory};
+ghost use Rattle.tsp_routing.specs.RunVerdicts.{is_by_runs, IsPlanVerdict, VerdictBoundsPlans, IsSizedPlanVerdict};
 ghost use Rattle.tsp_routing.specs.states.Demands.{loads_problem, AreDemands};
-ghost use Rattle.tsp_routing.specs.states.Judged.{AreCutsJudged, AreCutNumbers, IsFoundOfFew, IsLeafVerdict, IsPlanScratch};
-ghost use Rattle.tsp_routing.specs.states.LeafWeights.{IsPlanStep};
+ghost use Rattle.tsp_routing.specs.states.Judged.{AreCutsJudged, AreCutNumbers, IsFewCrossed, IsFoundOfFew, IsLeafVerdict, IsPlanScratch};
+ghost use Rattle.tsp_routing.specs.states.JudgedMemory.{IsNearTable};
+ghost use Rattle.tsp_routing.specs.states.RunTables.{item_lists};
 
 use crate::context::PlanContext;
-use crate::laws::plan_trees_bound_plans;
+use crate::judged_memory::{JudgedMemory, judge_memory};
+use crate::laws::{plan_trees_bound_plans, run_trees_bound_plans};
 use crate::plan_leaf::{PlanLeaf, leaf_bound, moved_of};
+use crate::plan_numbers::judge_numbers;
+use crate::plan_tree::{PlanTree, PlanVerdict};
+use crate::run_verdict::run_leaf_verdict;
 use crate::units::{Demands, unit_loads};
 use std::alloc::Global;
 use tsp_cases::{
     Crossings, Decision, Families, JudgedLeaf, JudgedLeaves, LeafJudge, OpenCase, WholeTree,
-    copy_within, first_bad_branch, judge_leaves, mark_nodes, sets_by_node,
+    first_bad_branch, judge_leaves, mark_nodes, sets_by_node,
 };
-use tsp_format::{MOST_POTENTIAL, TreeStep};
+use tsp_format::{RowSets, TreeStep};
 use tsp_io::{Refused, filled, push};
 use tsp_theory::Costs;
 
 /// The most entries of a table by node and load.
-const MOST_ENTRIES: u128 = 10_000_000;
+pub(crate) const MOST_ENTRIES: u128 = 10_000_000;
 
 /// Judges a certificate for routes: its bound, or what is bad in it first.
 ///
-/// In this order: a family that isn't a single set of customers, a branch that isn't on a family, a
-/// leaf that isn't good, too many loads. The bound is at most the length of every plan whose routes
-/// each have a customer, and sums with it fit 128 bits. If no leaf has a bound, there is no such
-/// plan.
+/// In this order: a family that isn't a single set of customers, a bad list of what a customer
+/// remembers, a bad subset row, a customer that keeps too much, a branch that isn't on a family, a
+/// leaf that isn't good, too many loads, a leaf with too many kept states. The bound is at most the
+/// length of every plan whose routes each have a customer, and sums with it fit 128 bits. If no
+/// leaf has a bound, there is no such plan.
 ///
 /// # Errors
 ///
 /// Out of memory, of which it takes some for each node, each family, each decision of a case, each
-/// pair of up to 5,000 nodes, and each node and load.
+/// pair of up to 5,000 nodes, and each node and load. With lists or rows also for each step, each
+/// node and row, and each kept state of a leaf.
 pub fn judge_plans<C: Costs>(alloc: Global, tree: &PlanTree<C>) -> Result<PlanVerdict, Refused>
     ensures verdict { IfOk result (IsPlanVerdict (routing_with (C.nodes tree.now.costs.now) (C.at tree.now.costs.now)
         tree.now.depot tree.now.demands.now tree.now.capacity) tree.now.scale (nat_abs tree.now.unit)
-        (families_in tree.now.families.now) (steps_of tree.now.steps.now)) }
+        (families_in tree.now.families.now) (item_lists tree.now.near.now) (map subset_row_of tree.now.rows.now)
+        (steps_of tree.now.steps.now)) }
     ensures plans { IfOk result (VerdictBoundsPlans (routing_with (C.nodes tree.now.costs.now) (C.at tree.now.costs.now)
         tree.now.depot tree.now.demands.now tree.now.capacity)) }
     ensures size { IfOk result IsSizedPlanVerdict }
 {
     plan_trees_bound_plans();
+    run_trees_bound_plans();
     judged_plans(alloc, tree)
 }
 
-/// Does what [`judge_plans`] does. That the bound holds for plans is added there, by the law.
+/// Does what [`judge_plans`] does. That the bound holds for plans is added there, by the laws.
 ///
 /// # Errors
 ///
@@ -60,12 +72,12 @@ pub fn judge_plans<C: Costs>(alloc: Global, tree: &PlanTree<C>) -> Result<PlanVe
 fn judged_plans<C: Costs>(alloc: Global, tree: &PlanTree<C>) -> Result<PlanVerdict, Refused>
     ensures verdict { IfOk result (IsPlanVerdict (routing_with (C.nodes tree.now.costs.now) (C.at tree.now.costs.now)
         tree.now.depot tree.now.demands.now tree.now.capacity) tree.now.scale (nat_abs tree.now.unit)
-        (families_in tree.now.families.now) (steps_of tree.now.steps.now)) }
+        (families_in tree.now.families.now) (item_lists tree.now.near.now) (map subset_row_of tree.now.rows.now)
+        (steps_of tree.now.steps.now)) }
     ensures size { IfOk result IsSizedPlanVerdict }
 {
-    let nodes = tree.costs.count();
     let demands = Demands {
-        nodes,
+        nodes: tree.costs.count(),
         depot: tree.depot,
         demands: tree.demands,
         capacity: tree.capacity,
@@ -74,24 +86,69 @@ fn judged_plans<C: Costs>(alloc: Global, tree: &PlanTree<C>) -> Result<PlanVerdi
         JudgedCuts::Good(families, crossed) => (families, crossed),
         JudgedCuts::Bad(family) => return Ok(PlanVerdict::BadFamily(family)),
     };
+    let near = match judge_memory(alloc, &demands, tree.near, tree.rows)? {
+        JudgedMemory::Good(near) => near,
+        JudgedMemory::BadMemory(customer) => return Ok(PlanVerdict::BadMemory(customer)),
+        JudgedMemory::BadRow(row) => return Ok(PlanVerdict::BadRow(row)),
+    };
+    tree_verdict(alloc, tree, demands, &families, &crossed, &near)
+}
+
+/// The verdict on branches and leaves, if families, memories and rows are good.
+///
+/// # Errors
+///
+/// Out of memory.
+fn tree_verdict<C: Costs>(
+    alloc: Global,
+    tree: &PlanTree<C>,
+    demands: Demands,
+    families: &Families,
+    crossed: &[Crossings],
+    near: &[Vec<u32>],
+) -> Result<PlanVerdict, Refused>
+    requires demands { AreDemands demands }
+    requires same { C.nodes tree.now.costs.now ≡ demands.nodes }
+    requires own { families.now.nodes ≡ demands.nodes }
+    requires lent { families.now.lent.now ≡ tree.now.families.now }
+    requires few { All IsFewCrossed crossed.now }
+    requires cuts { AreCapacityCuts (loads_problem demands (C.at tree.now.costs.now)) (families_in tree.now.families.now) crossed.now }
+    requires memory { IsGoodMemory demands.nodes demands.depot (item_lists tree.now.near.now) (map subset_row_of tree.now.rows.now) }
+    requires near { IsNearTable demands.nodes (item_lists tree.now.near.now) near.now }
+    ensures verdict { IfOk result (IsPlanVerdict (loads_problem demands.entry (C.at tree.now.costs.now)) tree.now.scale
+        (nat_abs tree.now.unit) (families_in tree.now.families.now) (item_lists tree.now.near.now)
+        (map subset_row_of tree.now.rows.now) (steps_of tree.now.steps.now)) }
+    ensures size { IfOk result IsSizedPlanVerdict }
+{
+    let nodes = demands.nodes;
     let last = nodes + tree.families.len() as u32;
     if let Some(branch) = first_bad_branch(tree.steps, nodes + 1, last) {
         return Ok(PlanVerdict::BadBranch(branch));
     }
-    let by_node = sets_by_node(alloc, &families)?;
+    let by_node = sets_by_node(alloc, families)?;
     let unit = tree.unit as u64;
     let units = unit_loads(alloc, &demands, unit)?;
-    let context = PlanContext {
+    let context = &PlanContext {
         costs: tree.costs,
         demands,
         scale: tree.scale,
-        families: &families,
-        crossed: &crossed,
+        families,
+        crossed,
         by_node: &by_node,
         unit,
         units: &units,
     };
-    leaf_verdict(alloc, &context, tree.steps)
+    if is_by_runs(tree.near, tree.rows) {
+        return run_leaf_verdict(alloc, context, tree, near);
+    }
+    leaf_verdict(alloc, context, tree.steps)
+}
+
+/// Whether a certificate lists a memory or a subset row.
+fn is_by_runs(near: &[Vec<u32>], rows: &[RowSets]) -> bool
+    ensures { result ≡ is_by_runs (item_lists near.now) (map subset_row_of rows.now) }
+{
+    !near.is_empty() || !rows.is_empty()
 }
 
 /// The verdict on leaves, if families and branches are good.
@@ -125,7 +182,7 @@ fn leaf_verdict<C: Costs>(
 }
 
 /// How many entries a table by node and load has, up to the capacity of a route.
-fn entries(nodes: u32, room: u64) -> u128
+pub(crate) fn entries(nodes: u32, room: u64) -> u128
     ensures { result ≡ nodes * (room + 1) }
 {
     u128::from(nodes) * (u128::from(room) + 1)
@@ -169,61 +226,6 @@ fn judge_all<C: Costs>(
     };
     let judge = PlanJudge { context, few };
     judge_leaves(alloc, &judge, &tree, &mut room, nodes + family_count)
-}
-
-// ---- the verdict on a certificate for routes, as an enum
-
-/// The verdict on a certificate for routes.
-#[derive(Drop)]
-pub enum PlanVerdict {
-    /// The first family that isn't a single set of customers, each once. Families count from 1.
-    BadFamily(usize),
-    /// The first branch that isn't on one of the families, counted from 1.
-    BadBranch(usize),
-    /// The first leaf that isn't good, counted from 1.
-    BadLeaf(usize),
-    /// A table by node and load would have more than 10,000,000 entries.
-    TooManyLoads,
-    /// The bound: no plan whose routes each have a customer is shorter. `None` if no leaf has
-    /// one: then there is no such plan.
-    Bound(Option<i128>),
-}
-
-// ---- a certificate for routes: costs, depot, demands, families and the steps of its tree
-
-/// A tree of cases for routes, and what it is for: costs, a depot, a demand of each node, and what
-/// a route carries at most.
-///
-/// There are two or more nodes. Sets are of these nodes, and the steps are one whole tree.
-#[derive(Drop)]
-pub struct PlanTree<'a, C: Costs> {
-    pub costs: &'a C,
-    /// The depot, a node from 1 on.
-    pub depot: u32,
-    /// The demand of each node, in order: 0 to 10^9.
-    pub demands: &'a [i64],
-    /// What a route carries at most: 1 to 10^12.
-    pub capacity: i64,
-    /// Potentials and multipliers are counts of 1 / scale.
-    pub scale: i64,
-    /// The unit in which loads are counted, 1 to 10^12.
-    pub unit: i64,
-    /// The families, each by its sets.
-    pub families: &'a [Vec<Vec<u32>>],
-    /// The branches and leaves. A branch is on family k if its first number is n + k.
-    pub steps: &'a [TreeStep],
-    pub ghost some: { 2 ≤ C.nodes costs.now },
-    pub ghost depot_in: { IsNode (C.nodes costs.now) depot },
-    pub ghost each: { length demands.now ≡ C.nodes costs.now },
-    pub ghost demands_are: { All (IsFromTo (pos 0) (pos most_demand)) demands.now },
-    pub ghost capacity_is: { IsFromTo (pos 1) (pos most_capacity) capacity },
-    pub ghost scaled: { IsScale scale },
-    pub ghost united: { IsFromTo (pos 1) (pos 1000000000000) unit },
-    pub ghost few_families: { length families.now ≤ 10000 },
-    pub ghost few_steps: { length steps.now < 2 ^ 32 },
-    pub ghost sets_are: { AreFamiliesOf (C.nodes costs.now) families.now },
-    pub ghost steps_are: { ∥ All (IsPlanStep (C.nodes costs.now)) (steps_of steps.now) ∥₁ },
-    pub ghost whole: { are_whole 1 (steps_of steps.now) ≡ true },
 }
 
 // ---- judges the families of a certificate for routes
@@ -413,47 +415,4 @@ fn judge_leaf<C: Costs>(
     };
     let bound = leaf_bound(alloc, &leaf, case, &mut room.row)?;
     Ok(JudgedLeaf::Found(bound))
-}
-
-// ---- whether the potentials and multipliers of a leaf for routes are within their limits
-
-/// The most that the sizes of multipliers sum to.
-const MOST_MULTIPLIERS: i64 = 300_000_000_000_000_000;
-
-/// Whether the numbers, of the nodes and then of the families, are good: no potential is above
-/// 10^15 in size, and the sizes of the multipliers sum to at most 3 * 10^17. Then they are copied.
-fn judge_numbers(numbers: &[i128], potentials: &mut [i64], multipliers: &mut [i64]) -> bool
-    requires long { length numbers.now ≡ length potentials.old + length multipliers.old }
-    ensures good { IsTrue result ↔ ArePlanNumbers (length potentials.old) (length multipliers.old)
-        (as_leaf_numbers (take (length potentials.old) numbers.now) (drop (length potentials.old) numbers.now)) }
-    ensures potentials { result ≡ true → potentials.new ≡ take (length potentials.old) numbers.now }
-    ensures multipliers { result ≡ true → multipliers.new ≡ drop (length potentials.old) numbers.now }
-    ensures potentials_len { length potentials.new ≡ length potentials.old }
-    ensures multipliers_len { length multipliers.new ≡ length multipliers.old }
-{
-    let (of_nodes, of_families) = numbers.split_at(potentials.len());
-    if !copy_within(of_nodes, -MOST_POTENTIAL, MOST_POTENTIAL, potentials) {
-        return false;
-    }
-    if !copy_within(
-        of_families,
-        -MOST_MULTIPLIERS,
-        MOST_MULTIPLIERS,
-        multipliers,
-    ) {
-        return false;
-    }
-    sizes_total(multipliers) <= i128::from(MOST_MULTIPLIERS)
-}
-
-/// The sum of the sizes of multipliers.
-fn sizes_total(multipliers: &[i64]) -> i128
-    requires { All (IsFromTo (neg_ℤ (pos most_of_multipliers)) (pos most_of_multipliers)) multipliers.now }
-    ensures { result ≡ sizes_total multipliers.now }
-{
-    let mut sum = 0;
-    'multipliers: for multiplier in multipliers {
-        sum += i128::from(multiplier.unsigned_abs());
-    }
-    sum
 }

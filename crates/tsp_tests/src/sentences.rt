@@ -17,17 +17,17 @@ fn out_of_memory_has_its_sentences(rt: HostRuntime) -> Result<(), AllocError> {
     same(
         &rt,
         text.as_slice(),
-        b"a.tsp: out of memory\n  There is no memory for what the file holds.\n".as_slice(),
+        b"a.tsp: out of memory\n  There isn't enough memory for the file's contents.\n".as_slice(),
     );
     same(
         &rt,
         relayout_sentence(RelayoutFault::OutOfMemory),
-        "There is no memory for the weights in the new layout.",
+        "There isn't enough memory for the weights in the new layout.",
     );
     same(
         &rt,
         write_sentence(WriteFault::OutOfMemory),
-        "There is no memory for the text.",
+        "There isn't enough memory for the text.",
     );
     Ok(())
 }

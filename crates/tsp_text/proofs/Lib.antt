@@ -1,4 +1,5 @@
--- The files of lemmas of this crate. Crates above may import them.
+-- Lemmas for the laws of this crate: fields of a text without a fault are valid (the files Valid..), and what is
+-- settled stays (the files Settled..).
 mod Prelude
 pub mod ValidKeywords
 pub mod GroupWords

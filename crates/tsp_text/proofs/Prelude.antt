@@ -1,4 +1,4 @@
--- What the proofs of this crate use most of other crates, passed on from one place.
+-- Names from std and other crates that proofs here use often, re-exported so that a file needs one import.
 pub use Rattle.std.proofs.Common.{Bool, Err, List, None, Ok, Option, Result, Some, ap, append_assoc, arith, cond, false, get_or, inl, inr, length, length-append, map, refl, reverse, subst, suc, sym, true, zero, ℕ, [], ◌*◌, ◌++◌, ◌+◌, ◌-◌, ◌<◌, ◌∙◌, ◌∷◌, ◌≡◌, ◌≢◌, ◌≤◌}
 pub use Rattle.std.proofs.Math.ListN.{drop, take}
 pub use Rattle.std.proofs.lemmas.Bool.{and_from, and_parts, eq-eqb, eqb-false, eqb-true, false≢true, le-leb, leb-false, leb-true, lt-leb, lt-ltb, ltb-false, ltb-true, ne_eqb, not_from_false, or_parts, true≢false}

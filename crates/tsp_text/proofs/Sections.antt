@@ -1,4 +1,4 @@
--- A statement of every section, from one proof of it for each section; and the line that opens one.
+-- How to prove something of every section: from one proof for each of them. Also the line that opens a section.
 use Rattle.tsp_text.proofs.Prelude.{◌≡◌, Bool, true, false, cond, List, ◌∷◌, refl, Some, None, ℕ, nat_lt, is_some, option_map_or, Field, NameKey, TypeKey, CommentKey, OtherKey, DimensionKey, CapacityKey, ScaleKey, LoadUnitKey, EdgeWeightTypeKey, EdgeWeightFormatKey, NodeCoordTypeKey, DisplayDataTypeKey, NodeCoordPart, DisplayDataPart, DemandPart, DepotPart, FixedEdgesPart, EdgeWeightPart, TourPart, NodePotentialPart, RowPotentialPart, ColumnPotentialPart, FixedEdgePotentialPart, FamilyPart, MemoryPart, SubsetRowPart, BranchPart, Known, most_line_bytes, shape_of, is_section_field}
 use Rattle.tsp_format.specs.declared.keyword.Shape.{Shape}
 use Rattle.tsp_format.specs.declared.keyword.Shape.TheVariants.{Points, SpacePoints}

@@ -1,4 +1,5 @@
--- The fields of cut items without a fault are valid, field by field.
+-- The fields of items without a fault are valid, field by field; the files named Valid.. have the sections. It is why
+-- tsp_read need not test a field again at the end.
 use Rattle.tsp_text.proofs.Prelude.{◌≡◌, ℕ, Bool, true, false, cond, List, [], ◌∷◌, refl, sym, ap, subst, ◌∙◌, Option, Some, None, ◌++◌, length, arith, ◌*◌, false≢true, and_from, true≢false, le-leb, leb-false, ltb-false, length-map, length_push, list_all-map, list_any, list_all, find, option_or, option_map, pos, ◌&&◌, nat_le, nat_lt, neg_ℤ, not, ◌||◌, is_section_field, most_multiplier, most_matrix_nodes, most_weight, most_demand, most_potential, fields_in_order, Field, DimensionKey, TourPart, FixedEdgePotentialPart, EdgeWeightPart, NameKey, TypeKey, CommentKey, OtherKey, CapacityKey, ScaleKey, LoadUnitKey, EdgeWeightTypeKey, EdgeWeightFormatKey, NodeCoordTypeKey, DisplayDataTypeKey, NodeCoordPart, DisplayDataPart, DemandPart, DepotPart, FixedEdgesPart, NodePotentialPart, RowPotentialPart, ColumnPotentialPart, FamilyPart, MemoryPart, SubsetRowPart, BranchPart, Known, EdgeDataFormat, EdgeDataSection, Eof, Unknown, if_there, with_dimension, is_from_to, is_pair_of, is_triple_of, are_triples, is_within, fit_matrix, is_by_node, is_point, is_demand, are_depots, are_fixed, are_tours, are_family_lists, are_memory_lists, are_subset_rows, are_tree_steps, fits, first_failing, bad_field}
 use Rattle.tsp_number.specs.NumberWord.{whole_of}
 use Rattle.tsp_format.proofs.Basics.{none_map, and_right_from}

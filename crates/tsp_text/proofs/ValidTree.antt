@@ -1,4 +1,4 @@
--- The steps of a section without a fault: no more than may be, each in its range, and a whole tree where no more are
+-- The steps of a section without a fault: each in its range, no more than may be, and a whole tree if no more are
 -- wanted.
 use Rattle.tsp_text.proofs.Prelude.{◌≡◌, ℕ, zero, suc, ◌+◌, ◌-◌, ◌≤◌, Bool, true, false, cond, List, [], ◌∷◌, ◌++◌, length, refl, sym, ap, subst, ◌∙◌, Option, None, Some, Result, Ok, Err, arith, not, ◌==◌, ◌&&◌, ℤ, pos, negsuc, neg_ℤ, nat_le, nat_abs, int_le, list_all, result_err, true≢false, false≢true, and_from, and_parts, not_from_false, le-leb, leb-false, nat_tests, append_assoc, append-nil, length_push, BranchPart, most_families, most_rows, most_branches, most_changes, most_difference, is_from_to, is_within, is_node, is_branch_of, is_change, is_step, are_tree_steps}
 use Rattle.std.specs.Ordering.{int_eq}

@@ -1,4 +1,5 @@
--- Small texts, and what they parse to or their first fault. In them `/` means byte 10.
+-- Small texts for src/examples.rt, and short names for what they parse to or for their first fault. In them `/` means
+-- byte 10.
 use Rattle.tsp_text.specs.Prelude.{ℕ, true, false, cond, List, [], map, replicate, None, Some, codes, pos, negsuc, Field, NumberFault}
 use Rattle.std.specs.Prelude.{◌≡◌, ◌==◌, ◌∷◌, ◌++◌}
 use Rattle.tsp_format.specs.Steps.{Branch, Leaf}

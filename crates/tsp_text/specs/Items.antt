@@ -1,5 +1,6 @@
 -- Circle 2 of docs/trust.md.
--- The lines of a text, cut into items: lines, words and line ends.
+-- The first step from bytes to meaning: the lines of a text, cut into items, which are word lines, words of number
+-- lines, and line ends.
 use Rattle.tsp_text.specs.Prelude.{filter, slice_split, prefix_len, take_while, before_first, list_any, list_all, AllByRecursion, ℕ, Bool, true, false, cond, List, [], drop, reverse, nat_lt, length, map, not, slice_index, keyword_of, most_word_bytes, most_line_bytes}
 use Rattle.std.specs.Prelude.{◌==◌, ◌∷◌, ◌+◌, ◌++◌, ◌≡◌, ◌-◌}
 use Rattle.tsp_format.specs.Words.{is_blank, is_letter, is_keyword_byte}

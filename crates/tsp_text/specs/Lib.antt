@@ -1,4 +1,5 @@
--- The files of definitions of this crate. Crates above may import them.
+-- Definitions from the bytes of a text to its file or its first fault, in this order: Items, Earlier, SectionWords,
+-- Groups and MemoryWords, FaultRows, ParsesTo.
 pub mod Prelude
 pub mod ParsesTo
 pub mod Items

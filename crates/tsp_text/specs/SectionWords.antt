@@ -1,5 +1,6 @@
 -- Circle 2 of docs/trust.md.
--- The words of each section at their places, and the numbers that they are: tours, weights, and the steps of a tree.
+-- The words of a section one by one: what may come at each place, and the numbers that the words are read as. Here for
+-- tours, weights, and the steps of a tree.
 use Rattle.tsp_text.specs.Prelude.{slice_split, filter, fold, ℕ, ℤ, Bool, List, false, cond, Result, Ok, Err, pos, negsuc, neg_ℤ, codes, not, length, map, nat_abs, nat_le, true, [], Option, None, Some, whole_of, NumberFault, most_nodes, most_weight, most_families, most_rows, most_difference}
 use Rattle.std.specs.Ordering.{int_eq}
 use Rattle.std.specs.Prelude.{◌≡◌, ◌≤ℤ◌, ◌*◌, ◌+◌, ◌-◌, ◌==◌, ◌∷◌, ◌++◌}

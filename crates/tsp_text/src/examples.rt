@@ -1,5 +1,6 @@
-//! Laws that state values of the definitions in `specs/`, worked out by hand: the first faults of
-//! small texts, the limits of lines and sections, the files of texts, texts of faults.
+//! Small texts, each with its file or its first fault, worked out by hand from docs/format.md and
+//! stated as laws. They hold the rows of `specs/FaultRows.antt` in place; a new fault or limit
+//! belongs in here too.
 
 ghost use Rattle.tsp_text.specs.Prelude.{codes, decimal, ℕ, List, length, IsTrue, true, false, IsShort, most_coordinate, most_word_bytes};
 ghost use Rattle.std.specs.Prelude.{◌≡◌, ◌≤◌, ◌++◌};
@@ -14,7 +15,7 @@ ghost use Rattle.tsp_text.specs.Examples.{FaultAt, IsNumberFault, MissingAtEnd, 
 ghost use Rattle.tsp_text.specs.FaultRows.{is_surplus_at};
 ghost use Rattle.tsp_text.specs.SectionWords.{DepotAfter, FirstAfter, TourNode, SetNode, StepAfter, IndexAfter};
 
-/// The first faults of some texts of word lines. In the texts `/` parts lines.
+/// The first faults of some texts of word lines. In the texts, `/` separates lines.
 #[tactic(auto, unfolding(tsp_number::specs::NumberWord::decimal_of, tsp_number::specs::NumberWord::whole_of))]
 pub fn faults_of_word_lines()
     ensures unknown { FaultAt (codes "TYPE : TSP/FOO") 2 0 faults.UnknownLine }
@@ -281,8 +282,8 @@ pub fn fields_of_texts()
         (codes "DIMENSION : 1/EDGE_WEIGHT_TYPE : MAN_2D/NODE_COORD_SECTION/1 1.5 -2") }
 {}
 
-/// What tsp_number says of itself are the limits of a file: the most bytes of a number word, and
-/// the largest coordinate.
+/// The limits that tsp_number has are those of a file: the most bytes of a number word, and the
+/// largest coordinate.
 pub fn limits_agree()
     ensures coordinate { most_count ≡ most_coordinate }
     ensures no_more_bytes { (word : List ℕ) → IsShort word → length word ≤ most_word_bytes }

@@ -1,15 +1,15 @@
-//! The faults of a text: `LineFault` of a line or a word, and `ReadFault` of a read. tsp_read
-//! returns them.
+//! Why a text isn't a file: `LineFault` for a line or a word, `ReadFault` for the whole read. Their
+//! texts are printed, and listed in docs/format.md.
 //!
-//! A variant is also in specs/FaultRows.antt and specs/ParsesTo.antt. tsp_report, tsp_explain
-//! and tsp_c name each, too.
+//! A new variant needs its row in `specs/FaultRows.antt` and its text in `specs/ParsesTo.antt`.
+//! tsp_report, tsp_explain and tsp_c name every variant, too.
 
 use std::fmt;
 use thiserror::Error;
 use tsp_file::EndFault;
 use tsp_number::NumberFault;
 
-/// What is wrong with a line, in the order of the rows in which it is judged.
+/// What is wrong with a line or a word, in the order in which it is judged.
 #[derive(Clone, Copy, Debug, PartialEq, Eq, Error)]
 pub enum LineFault {
     /// A word line has more than 4,096 bytes from its first byte that isn't blank to its end.
@@ -18,30 +18,30 @@ pub enum LineFault {
     UnknownLine,
     /// An earlier line has this keyword, other than COMMENT, or this section.
     Repeated,
-    /// The line has a value of TSPLIB 95 that this profile leaves out.
+    /// The value is one of TSPLIB 95's that this profile leaves out.
     Outside,
-    /// The value isn't one of those that the keyword accepts, is missing, or is too long to be
-    /// kept.
+    /// The value isn't one that the keyword accepts, is missing, or is too long to be kept.
     BadValue,
     /// The line of a section has a value.
     SectionValue,
     /// A section other than TOUR_SECTION comes before DIMENSION.
     SectionEarly,
-    /// EDGE_WEIGHT_SECTION is present if DIMENSION is larger than 5,000.
+    /// EDGE_WEIGHT_SECTION is present although DIMENSION is larger than 5,000.
     TooManyNodes,
-    /// A number appears if no section is open.
+    /// A number appears while no section is open.
     StrayNumber,
-    /// A word that is wanted as a number isn't read as one.
+    /// A number is wanted, and the word isn't one that is accepted here.
     Number(NumberFault),
-    /// A group's node has an earlier group.
+    /// The node of a group has an earlier group.
     RepeatedNode,
     /// The two nodes of a fixed pair, of a triple with its multiplier, or of a branch are equal.
     SelfEdge,
-    /// There are more lines or words than the file can have.
+    /// There are more lines or words than a file may have.
     Surplus,
     /// A word other than `-1` appears after the -1 that ended the list, the families or the rows.
     AfterEnd,
-    /// The line says that the nodes have three coordinates, after a NODE_COORD_SECTION of two each.
+    /// The line says that the nodes have three coordinates, after a NODE_COORD_SECTION with two for
+    /// each.
     LateSpace,
 }
 
@@ -72,11 +72,11 @@ impl fmt::Display for LineFault {
     }
 }
 
-/// Why a file isn't read, in the order of their numbers.
+/// Why a file isn't read.
 #[derive(Clone, Copy, Debug, PartialEq, Eq, Error)]
 pub enum ReadFault {
-    /// The first line with a fault, from 1 on, and in a number line its first word with one, from
-    /// 1 on; `word` is 0 for a word line.
+    /// The first line with a fault, counted from 1, and in a number line its first word with one,
+    /// also counted from 1. In a word line `word` is 0.
     Line {
         line: u32,
         word: u32,
@@ -84,11 +84,12 @@ pub enum ReadFault {
     },
     /// No line has a fault, but the lines together are no file.
     End(EndFault),
-    /// Memory was refused.
+    /// Out of memory.
     OutOfMemory,
     /// A read failed.
     Device,
-    /// There are more than 1,073,741,824 bytes, and those decide nothing.
+    /// There are more than 1,073,741,824 bytes, and the first of them have neither a fault nor a
+    /// line EOF.
     TooLong,
 }
 

@@ -1,5 +1,6 @@
-//! Laws of texts: each has exactly one answer, its file or its first fault; the fields of a file are
-//! valid; and what is settled stays so, whatever bytes follow.
+//! Why a text may be read in pieces: it has exactly one answer, its file or its first fault, and
+//! what is settled stays settled whatever bytes follow. Nothing runs here; tsp_read cites these
+//! laws in its proofs.
 
 ghost use Rattle.tsp_text.specs.Prelude.{ℕ, List, Some, true, None, false, Field, BranchPart};
 ghost use Rattle.std.specs.Prelude.{◌≡◌, ◌≢◌, ◌++◌};
@@ -12,9 +13,11 @@ ghost use Rattle.tsp_text.specs.Items.{Item, AreCut, has_end_line};
 ghost use Rattle.tsp_text.specs.ParsesTo.{fault_in, IsClean, IsFirstFault, fault, ParsesTo, NoneHasRow, HasOneAnswer, is_of_text, spelled, is_incomplete, fault_at_end, part, settled_part, settled_fault};
 ghost use Rattle.tsp_text.specs.declared.fault.ReadFault.{ReadFault};
 
-/// The first fault of items is that of the first item to which a row applies, and of its first row.
+/// The first fault of a list of items belongs to the first item to which a row applies, and to the
+/// first such row.
 ///
-/// No code calls it. It shows a reader that `fault_in`, which computes the fault, finds the first.
+/// No code calls it. It is here for readers: `fault_in`, which computes a fault, finds the first
+/// one.
 pub fn first_faults()
     ensures found { (items : List Item) (found : ReadFault)
         → fault_in items ≡ Some found → IsFirstFault items found }
@@ -24,7 +27,7 @@ pub fn first_faults()
     ensures none { (items : List Item) → NoneHasRow items → IsClean items }
 {}
 
-/// Every text has exactly one answer, the file that it parses to or its first fault. So it never
+/// Every text has exactly one answer: the file that it parses to, or its first fault. So it never
 /// has both, and parses to at most one file.
 pub fn texts_have_one_answer()
     ensures one { (bytes : List ℕ) → HasOneAnswer bytes }
@@ -36,10 +39,10 @@ pub fn texts_have_one_answer()
         → fault bytes ≡ Some found → is_of_text found ≡ true }
 {}
 
-/// The fields of items without a fault are valid, field by field, if the tree of cases, if there
-/// is one, is whole.
+/// The fields of items without a fault are valid, field by field, provided that the tree of cases,
+/// if there is one, is whole.
 ///
-/// No code calls it. It shows a reader that a text whose lines have no fault has no bad field.
+/// No code calls it. It is here for readers: a text whose lines have no fault has no invalid field.
 pub fn clean_fields_are_valid()
     ensures of_items { (items : List Item) → AreCut items → IsClean items
         → is_incomplete items BranchPart ≡ false → bad_field (spelled items) ≡ None }
@@ -47,7 +50,8 @@ pub fn clean_fields_are_valid()
         → is_incomplete (part bytes) BranchPart ≡ false → bad_field (spelled (part bytes)) ≡ None }
 {}
 
-/// The fields of a text are a file: no field of it, nor its fields together, have a fault.
+/// The fields that a text parses to are a file: neither a field nor the fields together have a
+/// fault.
 pub fn spelled_files_are_valid()
     ensures of_items { (items : List Item) → AreCut items
         → IsClean items → fault_at_end items ≡ None → fault_of (spelled items) ≡ None }
@@ -72,8 +76,7 @@ pub fn settled_ends_stay()
         → fault (bytes ++ more) ≡ fault bytes }
 {}
 
-/// A section by node that is present, has no fault and isn't incomplete has one group for each
-/// node.
+/// A section by node that is present, complete and without a fault has one group for each node.
 pub fn each_node_has_one_group()
     ensures { (items : List Item) (field : Field)
         → IsClean items → is_by_node_field field ≡ true → has_line field items ≡ true

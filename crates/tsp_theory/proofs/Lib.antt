@@ -1,4 +1,4 @@
--- The files of lemmas of this crate. Crates above may import them.
+-- The proofs of the theorems, in the order of docs/proof.md: sums, then the exchange and least trees, then cycles.
 mod Prelude
 pub mod Sums
 pub mod Neighbours

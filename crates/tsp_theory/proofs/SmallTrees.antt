@@ -1,4 +1,4 @@
--- Least 1-trees of four nodes in which node 3 joins node 2, and node 4 one of both; and least pairs at a node.
+-- Least 1-trees of four nodes, for the rows of src/examples.rt that can't be settled by evaluation alone.
 use Rattle.tsp_theory.proofs.Prelude.{◌≡◌, ◌≢◌, ℕ, zero, suc, ◌==◌, true, false, List, [], ◌∷◌, rules, arith, refl, sym, subst, ℤ, ◌≤ℤ◌, both_ways, eq-eqb, eqb-true}
 use Rattle.tsp_theory.specs.Tree.{weight_of, IsInner, IsLeastOneTree, and_node, IsLeastLeaving, grown_by, AreNearest, IsWholeGrowth, tree_of}
 use Rattle.tsp_theory.specs.Bounds.{weight_between, IsBoundOfPotentials, IsNodeBound}

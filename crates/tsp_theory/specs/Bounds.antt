@@ -1,6 +1,6 @@
 -- Circle 3 of docs/trust.md.
--- The lower bounds that numbers on nodes give: least 1-trees under potentials, with numbers on pairs or without, and
--- duals of an assignment.
+-- The lower bounds that numbers on nodes give: by least 1-trees under potentials, with numbers on pairs or without, and
+-- by duals of an assignment. The statements of the theorems are here, too; src/laws.rt proves them.
 use Rattle.std.specs.List.{All, AllPairs}
 use Rattle.std.specs.Prelude.{◌≡◌, ◌≢◌, ℕ, ◌-◌, ◌^◌, ◌*◌, ◌≤◌, List, length, slice_index_or, ℤ, pos, neg_ℤ, ◌*ℤ◌, ◌≤ℤ◌, ◌+◌, ◌+ℤ◌, ◌-ℤ◌, ◌==◌, ◌&&◌, ◌||◌, Bool, false, if◌then◌else◌, [], ◌<ℤ◌}
 use Rattle.tsp_format.specs.Limits.{most_scale, most_potential, most_triples, most_multiplier, most_weight}
@@ -163,7 +163,7 @@ AdjustedBoundsBoundCycles = (n : ℕ) (cost : ℕ → ℕ → ℤ) (scale : ℤ)
     → IsAdjustedBound n cost scale potentials taken avoided bound
     → IsCycle n nodes → UsesEach taken nodes → UsesNone avoided nodes → bound ≤ℤ length_of cost nodes
 
--- Without taken and avoided pairs it is the bound of Bounds.antt.
+-- Without taken and avoided pairs it is the bound of the potentials alone.
 abbrev pub UnadjustedBoundsAreNodeBounds : Type 0
 UnadjustedBoundsAreNodeBounds = (n : ℕ) (cost : ℕ → ℕ → ℤ) (scale : ℤ) (potentials : List ℤ) (bound : ℤ)
     → IsAdjustedBound n cost scale potentials [] [] bound → IsNodeBound n cost scale potentials bound

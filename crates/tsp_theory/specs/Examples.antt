@@ -1,4 +1,4 @@
--- Small costs, cycles, trees and duals, on which the definitions are evaluated.
+-- Small costs, cycles, trees and duals for src/examples.rt.
 use Rattle.std.specs.Prelude.{ℕ, ◌+◌, ◌-◌, ◌*◌, ◌/◌, ◌==◌, if◌then◌else◌, min, max, List, [], ◌∷◌, slice_index_or, ℤ, pos, negsuc, ◌≡◌}
 use Rattle.tsp_theory.specs.Tour.{length_of}
 

@@ -1,4 +1,4 @@
--- The files of definitions of this crate. Crates above may import them.
+-- Definitions of tours and plans, and of the trees, duals and bounds of the theorems on them.
 pub mod states
 pub mod Bounds
 pub mod Costs

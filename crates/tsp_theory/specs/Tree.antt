@@ -1,5 +1,5 @@
 -- Circle 3 of docs/trust.md.
--- Trees and 1-trees over the nodes of a problem, their weights, and least growths.
+-- Trees and 1-trees over the nodes of a problem, their weights, and what a least one is. How one is found is left open.
 use Rattle.std.specs.List.{All, list_any, filter}
 use Rattle.std.specs.Prelude.{◌≡◌, ◌≢◌, ℕ, ◌==◌, ◌<◌, ◌≤◌, Bool, true, false, not, if◌then◌else◌, List, [], ◌∷◌, length, ℤ, pos, ◌≤ℤ◌, ◌+◌, ◌||◌, map, nat_lt}
 use Rattle.tsp_theory.specs.Tour.{sum_int_by}

@@ -1,9 +1,11 @@
-//! The traits of costs between nodes, symmetric or not, which tsp_cost implements for instances;
-//! and regions of space, and the lengths of lists of nodes.
+//! `Costs` and `Symmetric`, the traits through which every judge sees an instance: a cost for each
+//! ordered pair of nodes, and for some instances a place in space for each node. An implementation
+//! may offer shortcuts, such as `is_beyond`; their contracts tie them to `cost`. The lengths of
+//! tours that `tsp` prints are added up here.
 
 ghost use Rattle.std.specs.Bool.{OnTrue};
 ghost use Rattle.std.specs.List.{All};
-ghost use Rattle.std.specs.Prelude.{◌≡◌, ◌≢◌, ◌≤◌, ◌+◌, ℕ, ℤ, length, pos, neg_ℤ, ◌≤ℤ◌, IfSome, ◌-ℤ◌, unsigned_abs, ◌++◌, ◌∷◌, [], map, vec_len, IfOk, OnOk};
+ghost use Rattle.std.specs.Prelude.{◌≡◌, ◌≤◌, ◌+◌, ℕ, ℤ, length, pos, neg_ℤ, ◌≤ℤ◌, IfSome, ◌-ℤ◌, unsigned_abs, ◌++◌, ◌∷◌, [], map, IfOk, OnOk};
 ghost use Rattle.tsp_number.specs.Distances.{on_plane};
 ghost use Rattle.tsp_number.specs.declared.decimal.Point.{Point};
 ghost use Rattle.tsp_format.specs.Limits.{most_nodes, most_tour_nodes, most_weight};
@@ -108,7 +110,8 @@ pub trait Costs {
         None
     }
 
-    /// The cost from one node to another, which their places may give.
+    /// The cost from one node to another, given both with their places, from which it may be
+    /// computed.
     fn cost_between(&self, from: &Site, to: &Site) -> i64
         requires from { IsSite (nodes self.now) (place self.now) from.now }
         requires to { IsSite (nodes self.now) (place self.now) to.now }
@@ -119,8 +122,7 @@ pub trait Costs {
         self.cost(from.node, to.node)
     }
 
-    /// Whether each node whose place is in the region costs at least `least` from a node, if
-    /// that is known.
+    /// Whether every node in the region is known to cost at least `least` from a node.
     fn is_beyond(&self, from: &Site, region: &Region, least: i64) -> bool
         requires { IsSite (nodes self.now) (place self.now) from.now }
         ensures { OnTrue result ((to : ℕ) → IsNode (nodes self.now) to
@@ -139,7 +141,7 @@ pub trait Symmetric: Costs {
 
 // ---- regions of space: boxes along the axes
 
-/// A box in space, by the corners with its lowest and with its highest coordinates.
+/// A box in space, given by the corner with the lowest coordinates and the one with the highest.
 #[derive(Clone, Copy, Debug)]
 pub struct Region {
     /// Its lowest coordinates.
@@ -162,7 +164,7 @@ impl Region {
         Region { low: point, high }
     }
 
-    /// A region with all points of both regions.
+    /// The smallest region around both regions.
     #[inline]
     pub fn joined(self, other: Region) -> Region
         ensures left { (p : Point) → IsIn self p → IsIn result p }
@@ -199,7 +201,7 @@ impl Region {
     }
 }
 
-/// A number that is no larger than either.
+/// The smaller of two numbers.
 #[inline]
 fn lower(a: Decimal, b: Decimal) -> Decimal
     ensures first { result ≤ℤ a }
@@ -208,7 +210,7 @@ fn lower(a: Decimal, b: Decimal) -> Decimal
     if a.count() < b.count() { a } else { b }
 }
 
-/// A number that is no smaller than either.
+/// The larger of two numbers.
 #[inline]
 fn higher(a: Decimal, b: Decimal) -> Decimal
     ensures first { a ≤ℤ result }
@@ -217,7 +219,7 @@ fn higher(a: Decimal, b: Decimal) -> Decimal
     if a.count() < b.count() { b } else { a }
 }
 
-/// The number of a range that is nearest to `x`.
+/// The number in a range that is nearest to `x`.
 #[inline]
 fn clamped(x: Decimal, low: Decimal, high: Decimal) -> Decimal
     ensures nearest { (p : ℤ) → low ≤ℤ p → p ≤ℤ high

@@ -1,14 +1,15 @@
-//! Laws that state values of the definitions in `specs/`, worked out by hand: which lists are
-//! cycles, lengths, good duals, least 1-trees and forests, and multipliers.
+//! Cycles, trees, duals and multipliers on a few nodes, worked out by hand as laws. For each
+//! definition of a bound in `specs/Bounds.antt` there is a case where its rule matters, so that a
+//! wrong definition isn't proved.
 
-ghost use Rattle.std.specs.Prelude.{◌≡◌, [], ◌∷◌, pos, ℤ, negsuc};
-ghost use Rattle.tsp_theory.specs.Bounds.{adjusted, triples_total, UsesEach, UsesNone, IsAdjustedBoundOf, AreGood, IsFirstBroken, IsDualBound, entry, total, IsLeastBound, weight_between, IsNodeBound};
+ghost use Rattle.std.specs.Prelude.{◌≡◌, [], ◌∷◌, pos, negsuc};
+ghost use Rattle.tsp_theory.specs.Bounds.{adjusted, UsesEach, UsesNone, IsAdjustedBoundOf, AreGood, IsFirstBroken, IsDualBound, entry, total, IsLeastBound, weight_between, IsNodeBound};
 ghost use Rattle.tsp_theory.specs.Tour.{IsCycle, links};
 ghost use Rattle.tsp_theory.specs.Examples.{two, three, four, HasDirectedLength, rectangle, star, star_below_zero, directed, with_loops, three_zeros, three_numbers, four_numbers, zeros, one_on_two, pairs_of, on_diagonals};
 ghost use Rattle.tsp_theory.specs.Forest.{IsWholeForest};
 ghost use Rattle.tsp_theory.specs.Tree.{tree_of, IsOneTree, weight_of, IsLeastOneTree};
 
-/// What is a cycle, what comes next on it, and how long some lists of nodes are.
+/// What a cycle is, what comes next on it, and how long some lists of nodes are.
 pub fn examples_of_cycles()
     ensures links { links (three 1 3 2) ≡ (1, 3) ∷ (3, 2) ∷ (2, 1) ∷ [] }
     ensures one_node { links (1 ∷ []) ≡ (1, 1) ∷ [] }
@@ -24,7 +25,7 @@ pub fn examples_of_cycles()
     ensures before_the_first { ¬ IsCycle 3 (three 0 1 2) }
 {}
 
-/// The numbers of nodes, their sums, and the least whole number that at a scale is no less.
+/// The numbers of nodes, their sums, and the least whole number that, times the scale, is no less.
 pub fn examples_of_numbers()
     ensures first { entry (three_numbers (pos 10) (pos 20) (pos 30)) 1 ≡ pos 10 }
     ensures last { entry (three_numbers (pos 10) (pos 20) (pos 30)) 3 ≡ pos 30 }
@@ -36,8 +37,8 @@ pub fn examples_of_numbers()
     ensures not_above { ¬ IsLeastBound (pos 2) (pos 4) (pos 3) }
 {}
 
-/// What duals are good for three nodes whose costs depend on the direction, the first pair that
-/// breaks others, and the bounds that duals give.
+/// Which duals are good for three nodes whose costs depend on the direction, the first pair that
+/// others violate, and the bounds that duals give.
 pub fn examples_of_duals()
     ensures good { AreGood 3 directed (pos 1) (three_numbers (pos 1) (pos 2) (pos 3)) three_zeros }
     ensures columns { AreGood 3 directed
@@ -59,7 +60,7 @@ pub fn examples_of_duals()
         (three_numbers (negsuc 2) (pos 0) (pos 0)) three_zeros (negsuc 0) }
 {}
 
-/// What 1-trees of four nodes are, what they weigh, which is the least, and the bounds that
+/// Which lists are 1-trees of four nodes, what they weigh, which is the least, and the bounds that
 /// potentials give.
 pub fn examples_of_trees()
     ensures tree { IsOneTree 4 (pairs_of 2 4 (2, 3) (3, 4)) }
@@ -79,7 +80,7 @@ pub fn examples_of_trees()
     ensures below_zero_at_a_half { IsNodeBound 4 star_below_zero (pos 2) one_on_two (negsuc 33) }
 {}
 
-/// What least joins of the nodes 2 to 4 of the rectangle are, whatever part each of them leaves.
+/// The least joins of the nodes 2 to 4 of the rectangle, whatever part each of them leaves.
 pub fn examples_of_forests()
     ensures from_both_ends { IsWholeForest 4 rectangle ((4, 3) ∷ (2, 3) ∷ []) }
     ensures least { IsLeastOneTree 4 rectangle (tree_of 2 4 ((4, 3) ∷ (2, 3) ∷ [])) }

@@ -1,4 +1,6 @@
-//! Laws on cycles and their lengths: a cycle has each node once and no loop, and lengths add up.
+//! The theorems: a cycle has each node once and no loop, lengths add up, and no cycle is shorter
+//! than the bound by a least 1-tree or by duals. Code in higher crates is proved to compute such a
+//! bound, and these laws are why the number means anything. The arguments are in docs/proof.md.
 
 ghost use Rattle.std.specs.List.Sorted.{IsPermutation};
 ghost use Rattle.std.specs.Prelude.{◌≡◌, ◌≢◌, ◌≤◌, ℕ, ℤ, List, pos, ◌+ℤ◌, ◌*ℤ◌, ◌≤ℤ◌};
@@ -6,7 +8,7 @@ ghost use Rattle.tsp_format.specs.Nodes.{IsNode, nodes_to};
 ghost use Rattle.tsp_theory.specs.Bounds.{LeastOneTreesAreBelowCycles, AdjustedBoundsBoundCycles, UnadjustedBoundsAreNodeBounds, DualsBoundCycles, IsLeastBound, IsNodeBound, NodeBoundsBoundCycles};
 ghost use Rattle.tsp_theory.specs.Tour.{IsCycle, sum_int_by, length_of};
 
-/// A cycle has the nodes of 1..n in another order, so that sums over its nodes are those over 1..n.
+/// A cycle is a permutation of 1..n, so a sum over its nodes is the sum over 1..n.
 pub fn cycles_are_permutations()
     ensures permutation { (n : ℕ) (nodes : List ℕ) → IsCycle n nodes
         → IsPermutation nodes (nodes_to n) }
@@ -14,8 +16,8 @@ pub fn cycles_are_permutations()
         → sum_int_by f nodes ≡ sum_int_by f (nodes_to n) }
 {}
 
-/// Lengths under other costs: those of a link's first node or of its second alone, sums of costs,
-/// and costs at a scale.
+/// Lengths under special costs: those that depend only on a link's first node or only on its
+/// second, sums of two costs, and costs times a scale.
 pub fn lengths_add_up()
     ensures by_first { (f : ℕ → ℤ) (nodes : List ℕ)
         → length_of (λ i j. f i) nodes ≡ sum_int_by f nodes }
@@ -28,8 +30,8 @@ pub fn lengths_add_up()
         → length_of (λ i j. pos scale *ℤ cost i j) nodes ≡ pos scale *ℤ length_of cost nodes }
 {}
 
-/// A cycle of two or more nodes goes from a node to another one, so that costs which are at most
-/// others between different nodes give a length that is at most theirs.
+/// A cycle of two or more nodes has no link from a node to itself. So if costs between different
+/// nodes don't exceed others, neither does the length.
 pub fn cycles_have_no_loops()
     ensures { (n : ℕ) (nodes : List ℕ) (lower upper : ℕ → ℕ → ℤ) → 2 ≤ n → IsCycle n nodes
         → ((i j : ℕ) → IsNode n i → IsNode n j → i ≢ j → lower i j ≤ℤ upper i j)
@@ -47,7 +49,7 @@ pub fn duals_bound_cycles()
 
 /// The bound of potentials is at most the length of every cycle of three or more nodes.
 ///
-/// No code calls it. For a reader it is the bound of Held and Karp, without numbers on pairs.
+/// No code calls it. It is here for readers: the bound of Held and Karp, without numbers on pairs.
 pub fn node_bounds_bound_cycles()
     ensures { NodeBoundsBoundCycles }
 {
@@ -59,7 +61,7 @@ pub fn node_bounds_bound_cycles()
 /// The cut argument: under symmetric weights a least 1-tree weighs no more than a cycle of three or
 /// more nodes.
 ///
-/// No code calls it. It is for a reader: all bounds by 1-trees rest on this argument.
+/// No code calls it. It is here for readers, since all bounds by 1-trees rest on this argument.
 pub fn least_trees_are_below_cycles()
     ensures { LeastOneTreesAreBelowCycles }
 {
@@ -68,9 +70,9 @@ pub fn least_trees_are_below_cycles()
     cycles_have_no_loops();
 }
 
-/// The bound of potentials and of numbers on taken and avoided pairs is at most the length of every
-/// cycle of three or more nodes that uses each taken pair and no avoided one. With neither it is
-/// the bound of the potentials.
+/// The bound of potentials, with numbers on taken and avoided pairs, is at most the length of every
+/// cycle of three or more nodes that uses each taken pair and no avoided one. Without such numbers
+/// it is the bound of the potentials.
 pub fn adjusted_bounds_bound_cycles()
     ensures cycles { AdjustedBoundsBoundCycles }
     ensures unadjusted { UnadjustedBoundsAreNodeBounds }

@@ -2,7 +2,7 @@
 //!
 //! Hamiltonian cycles, tours, lengths, 1-trees and duals, and that no cycle is shorter than the
 //! bound of a certificate. The only code here is the traits of costs and the sums of lengths. It
-//! knows no files, and finds no bounds: that is tsp_bound's and tsp_branch's.
+//! knows no files and computes no bounds: tsp_bound and tsp_branch do.
 //!
 //! ```text
 //! let length = tour_length(&costs, &[1, 2, 3, 4]);

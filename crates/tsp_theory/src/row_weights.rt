@@ -1,5 +1,6 @@
-//! The trait of weights of pairs of nodes, which are given row by row, and the number of a row at
-//! the place of a node, read or added to.
+//! `Weights`, the trait of weights that are asked for a row at a time, so that no algorithm for
+//! trees holds a matrix of them; and how the number at a node's place in such a row is read or
+//! added to.
 
 ghost use Rattle.std.specs.Prelude.{◌≡◌, ◌≢◌, ◌≤◌, ◌<◌, ◌+◌, ◌+ℤ◌, ◌<ℤ◌, ℕ, ℤ, length, slice_index};
 ghost use Rattle.std.specs.Int.{w64, int_wrap};
@@ -20,7 +21,7 @@ pub trait Weights {
 
     /// Writes the row of a node: its weights to all nodes, at their places.
     ///
-    /// Weights are less than `i64::MAX`, and the same at each call.
+    /// Weights are below `i64::MAX`, and each call writes the same ones.
     ///
     /// # Requires
     ///
@@ -35,7 +36,7 @@ pub trait Weights {
 
     /// Writes some entries of the row of a node: the weights to these nodes.
     ///
-    /// Each is at the place of its node. Other places are undefined afterwards.
+    /// Each is written at the place of its node. Other places are unspecified afterwards.
     ///
     /// # Requires
     ///
@@ -53,7 +54,7 @@ pub trait Weights {
     }
 }
 
-/// The weight of a row at a node.
+/// The weight at a node's place in a row.
 #[inline]
 pub fn weight_in(row: &[i64], node: u32) -> i64
     requires { node < length row.now }

@@ -1,5 +1,5 @@
 -- There is one first reason, by the TYPE of the instance and of the certificate.
-use Rattle.tsp_verdict.proofs.Prelude.{◌≡◌, ◌∙◌, ℕ, zero, suc, List, [], ◌∷◌, inl, inr, refl, sym, ap, subst, ◌≢◌, ◌⊎◌, Option, Some, None, ◌-◌, ◌<◌, ◌≤◌, true, false, subst₂, arith, cases_order, false≢true, ints, All, AllPairs, ℤ, pos, unwrap_or, IsNode, IsBefore, Kind, fixed_of, scale_in, multipliers_in, cost, Fields, nodes_of, is_potentials_file, pair_of, is_same_pair, AreOnPairs, AreGood, rank_of, CertificateKind, Branches, Potentials, Reason, NotASolution, TooFewNodes, NotSymmetric, Dimension, TourCount, TourLength, DepotCount, DepotDemand, FixedEdgesInRoutes, DepotInRoute, NodeOutOfRange, RepeatedNode, FixedEdgeUnused, Unserved, Overload, LengthClaimed, NotPotentials, PotentialsDimension, PotentialsKind, MultiplierNotFixed, MultiplierRepeated, DualInfeasible, NotBranches, BranchesDimension, BadFamily, BadBranch, BranchTwice, BadLeaf, TooManyLoads, NotJudged, NotUsed, Verdict}
+use Rattle.tsp_verdict.proofs.Prelude.{◌≡◌, ◌∙◌, ℕ, zero, suc, List, [], ◌∷◌, inl, inr, refl, sym, ap, subst, ◌≢◌, ◌⊎◌, Option, Some, None, ◌-◌, ◌<◌, ◌≤◌, true, false, subst₂, arith, cases_order, false≢true, ints, All, AllPairs, ℤ, pos, unwrap_or, IsNode, IsBefore, Kind, fixed_of, scale_in, multipliers_in, cost, Fields, nodes_of, is_potentials_file, pair_of, is_same_pair, AreOnPairs, AreGood, rank_of, CertificateKind, Branches, Potentials, Reason, NotASolution, TooFewNodes, NotSymmetric, Dimension, TourCount, TourLength, DepotCount, DepotDemand, FixedEdgesInRoutes, DepotInRoute, NodeOutOfRange, RepeatedNode, FixedEdgeUnused, Unserved, Overload, LengthClaimed, NotPotentials, PotentialsDimension, PotentialsKind, MultiplierNotFixed, MultiplierRepeated, DualInfeasible, NotBranches, BranchesDimension, BadFamily, BadMemory, BadRow, BadBranch, BranchTwice, BadLeaf, TooManyLoads, TooManyStates, NotJudged, NotUsed, Verdict}
 use Rattle.tsp_format.specs.declared.keyword.Field.{Field}
 use Rattle.tsp_format.specs.declared.keyword.Field.TheVariants.{NameKey}
 use Rattle.tsp_format.specs.declared.kinds.Kind.TheVariants as kinds
@@ -39,10 +39,13 @@ carried_of (DualInfeasible i j) = (i, j, pos 0, NameKey)
 carried_of NotBranches = (0, 0, pos 0, NameKey)
 carried_of BranchesDimension = (0, 0, pos 0, NameKey)
 carried_of (BadFamily i) = (i, 0, pos 0, NameKey)
+carried_of (BadMemory i) = (i, 0, pos 0, NameKey)
+carried_of (BadRow i) = (i, 0, pos 0, NameKey)
 carried_of (BadBranch i) = (i, 0, pos 0, NameKey)
 carried_of (BranchTwice i) = (i, 0, pos 0, NameKey)
 carried_of (BadLeaf i) = (i, 0, pos 0, NameKey)
 carried_of TooManyLoads = (0, 0, pos 0, NameKey)
+carried_of (TooManyStates i) = (i, 0, pos 0, NameKey)
 carried_of NotJudged = (0, 0, pos 0, NameKey)
 carried_of (NotUsed field) = (0, 0, pos 0, field)
 
@@ -74,14 +77,13 @@ reasons =
     (λ carried. NotBranches) ∷
     (λ carried. BranchesDimension) ∷
     (λ carried. BadFamily carried.0) ∷
+    (λ carried. BadMemory carried.0) ∷
+    (λ carried. BadRow carried.0) ∷
     (λ carried. BadBranch carried.0) ∷
     (λ carried. BranchTwice carried.0) ∷
     (λ carried. BadLeaf carried.0) ∷
     (λ carried. TooManyLoads) ∷
-    (λ carried. NotJudged) ∷
-    -- no reason has the ranks 31 to 33
-    (λ carried. NotJudged) ∷
-    (λ carried. NotJudged) ∷
+    (λ carried. TooManyStates carried.0) ∷
     (λ carried. NotJudged) ∷
     (λ carried. NotUsed carried.3) ∷
     []
@@ -123,10 +125,13 @@ is_of_rank (DualInfeasible i j) = refl
 is_of_rank NotBranches = refl
 is_of_rank BranchesDimension = refl
 is_of_rank (BadFamily i) = refl
+is_of_rank (BadMemory i) = refl
+is_of_rank (BadRow i) = refl
 is_of_rank (BadBranch i) = refl
 is_of_rank (BranchTwice i) = refl
 is_of_rank (BadLeaf i) = refl
 is_of_rank TooManyLoads = refl
+is_of_rank (TooManyStates i) = refl
 is_of_rank NotJudged = refl
 is_of_rank (NotUsed field) = refl
 
@@ -435,10 +440,13 @@ tour_rank inst sol (Overload route) applies = absurd applies
 tour_rank inst sol NotBranches applies = absurd applies
 tour_rank inst sol BranchesDimension applies = absurd applies
 tour_rank inst sol (BadFamily index) applies = absurd applies
+tour_rank inst sol (BadMemory node) applies = absurd applies
+tour_rank inst sol (BadRow index) applies = absurd applies
 tour_rank inst sol (BadBranch index) applies = absurd applies
 tour_rank inst sol (BranchTwice index) applies = absurd applies
 tour_rank inst sol (BadLeaf index) applies = absurd applies
 tour_rank inst sol TooManyLoads applies = absurd applies
+tour_rank inst sol (TooManyStates index) applies = absurd applies
 tour_rank inst sol (LengthClaimed length) applies = absurd applies
 tour_rank inst sol NotJudged applies = absurd applies
 tour_rank inst sol (NotUsed field) applies = absurd applies
@@ -476,6 +484,8 @@ branches_rank : (inst cert : Fields) (reason : Reason) → AppliesToBranches ins
 branches_rank inst cert NotBranches applies = omega arith
 branches_rank inst cert BranchesDimension applies = omega arith
 branches_rank inst cert (BadFamily index) applies = omega arith
+branches_rank inst cert (BadMemory node) applies = omega arith
+branches_rank inst cert (BadRow index) applies = omega arith
 branches_rank inst cert (BadBranch index) applies = omega arith
 branches_rank inst cert (BranchTwice index) applies = omega arith
 branches_rank inst cert (BadLeaf index) applies = omega arith
@@ -486,9 +496,12 @@ q_routes_rank : (inst cert : Fields) (reason : Reason) → AppliesToQRoutes inst
 q_routes_rank inst cert NotBranches applies = omega arith
 q_routes_rank inst cert BranchesDimension applies = omega arith
 q_routes_rank inst cert (BadFamily index) applies = omega arith
+q_routes_rank inst cert (BadMemory node) applies = omega arith
+q_routes_rank inst cert (BadRow index) applies = omega arith
 q_routes_rank inst cert (BadBranch index) applies = omega arith
 q_routes_rank inst cert (BadLeaf index) applies = omega arith
 q_routes_rank inst cert TooManyLoads applies = omega arith
+q_routes_rank inst cert (TooManyStates index) applies = omega arith
 q_routes_rank inst cert reason applies = absurd applies
 
 pub certificate_rank : (by : CertificateKind) (inst cert : Fields) (reason : Reason) → AppliesToCertificate by inst cert reason

@@ -1,13 +1,21 @@
 -- Two reasons of one rank that apply to the same files have the same numbers.
-use Rattle.tsp_verdict.proofs.Prelude.{◌<◌, ◌⊎◌, inl, inr, arith, ◌≡◌, ◌∙◌, ℕ, ◌+◌, ◌-◌, List, length, refl, sym, ap, ap₂, subst, cases_order, false≢true, ints, recursion_from_All, pos, Option, None, Some, Bool, ℤ, IsFirstAsymmetric, cost, scale_in, families_listed, Fields, nodes_of, IsFirstBroken, is_directed, IsFamily, NumbersAreUnique, IsFirstBadLeaf, IsFirstTwice, Crossings, IsFirstBadSet, IsFirstBadPlanBranch, IsFirstBadPlanLeaf, rank_of, CertificateKind, Potentials, Branches, Reason, TooFewNodes, NotSymmetric, DepotCount, DepotDemand, FixedEdgesInRoutes, LengthClaimed, NotASolution, Dimension, TourCount, TourLength, DepotInRoute, NodeOutOfRange, RepeatedNode, FixedEdgeUnused, Unserved, Overload, NotPotentials, PotentialsDimension, PotentialsKind, MultiplierNotFixed, MultiplierRepeated, DualInfeasible, NotBranches, BranchesDimension, BadFamily, BadBranch, BranchTwice, BadLeaf, TooManyLoads, NotJudged, NotUsed}
+use Rattle.tsp_verdict.proofs.Prelude.{◌<◌, ◌⊎◌, inl, inr, arith, ◌≡◌, ◌∙◌, ℕ, ◌+◌, ◌-◌, List, [], length, refl, sym, ap, ap₂, subst, cases_order, false≢true, ints, pos, Option, None, Some, Bool, true, false, slice_index_or, ℤ, IsFirstAsymmetric, cost, scale_in, families_listed, Fields, nodes_of, IsFirstBroken, is_directed, IsFamily, NumbersAreUnique, IsFirstBadLeaf, IsFirstTwice, Crossings, IsFirstBadSet, IsFirstBadPlanBranch, RoutingProblem, routing_of, families_with, recursion_from_All, memories_listed, rows_listed, rank_of, CertificateKind, Potentials, Branches, Reason, TooFewNodes, NotSymmetric, DepotCount, DepotDemand, FixedEdgesInRoutes, LengthClaimed, NotASolution, Dimension, TourCount, TourLength, DepotInRoute, NodeOutOfRange, RepeatedNode, FixedEdgeUnused, Unserved, Overload, NotPotentials, PotentialsDimension, PotentialsKind, MultiplierNotFixed, MultiplierRepeated, DualInfeasible, NotBranches, BranchesDimension, BadFamily, BadMemory, BadRow, BadBranch, BranchTwice, BadLeaf, TooManyLoads, TooManyStates, NotJudged, NotUsed}
 use Rattle.tsp_format.specs.Steps as listed
+use Rattle.tsp_format.specs.Steps.{SubsetRow}
+use Rattle.tsp_cases.specs.Cases.{LeafNumbers}
+use Rattle.tsp_cases.specs.ListedCases.{IsFirstBadLeafBy}
+use Rattle.tsp_routing.specs.PlanLinks.{IsCutFamily}
+use Rattle.tsp_routing.specs.PlanVerdicts.{ArePlanNumbers}
+use Rattle.tsp_routing.specs.RunTrees.{owner_of, IsFirstBadList, IsFirstBadRow, IsFirstFull, IsBadMemory, AreRunNumbers, placed_steps, AreFewNumbers}
+use Rattle.tsp_routing.specs.RunVerdicts.{IsFirstBadLeafOf, tree_with, IsFirstFullLeaf, HasFullLeaf}
+use Rattle.tsp_routing.proofs.PlanBounds.{all_crossed, one_light}
 use Rattle.tsp_cases.specs.ListedCases as pairs
 use Rattle.tsp_cases.specs.declared.decision.Decision.{Decision}
 use Rattle.tsp_report.specs.declared.verdict.BoundVerdict.{BoundVerdict}
 use Rattle.tsp_report.specs.declared.verdict.BoundVerdict.TheVariants as bounds
 use Rattle.tsp_verdict.proofs.FirstReasons.{certificate_rank, HasTours, instance_either, first_for_tours, tour_rank, routes_rank, AreOwn, Both, Carried, reason_of, IsOneByRank, one_place, one_pair, tree_either}
 use Rattle.tsp_verdict.proofs.TreeReasons.{one_numbers}
-use Rattle.tsp_verdict.specs.Certificates.{given_in, AreNumbersOf, AppliesToBranches, families_with_numbers, BreaksDuals, AppliesToPotentials, AppliesToQRoutes}
+use Rattle.tsp_verdict.specs.Certificates.{given_in, AreNumbersOf, AppliesToBranches, families_with_numbers, BreaksDuals, AppliesToPotentials, AppliesToQRoutes, unit_in, by_runs_in}
 use Rattle.tsp_verdict.specs.Certified.{AppliesToTouring, AppliesToRouting, AppliesToInstance, NoneAgainstInstance, AppliesToBounded, IsBoundVerdict, AppliesToCertificate, FindsBound, AppliesToCertified, AppliesToCertifiedRoutes}
 use Rattle.tsp_verdict.specs.Solutions.{IsFirstReason, IsFirstUnserved, AppliesToRoutes, AppliesToTour}
 
@@ -122,10 +130,13 @@ tours_by_rank inst sol (DualInfeasible i j) carried one other = absurd one
 tours_by_rank inst sol NotBranches carried one other = absurd one
 tours_by_rank inst sol BranchesDimension carried one other = absurd one
 tours_by_rank inst sol (BadFamily i) carried one other = absurd one
+tours_by_rank inst sol (BadMemory i) carried one other = absurd one
+tours_by_rank inst sol (BadRow i) carried one other = absurd one
 tours_by_rank inst sol (BadBranch i) carried one other = absurd one
 tours_by_rank inst sol (BranchTwice i) carried one other = absurd one
 tours_by_rank inst sol (BadLeaf i) carried one other = absurd one
 tours_by_rank inst sol TooManyLoads carried one other = absurd one
+tours_by_rank inst sol (TooManyStates i) carried one other = absurd one
 tours_by_rank inst sol NotJudged carried one other = absurd one
 tours_by_rank inst sol (NotUsed field) carried one other = absurd one
 
@@ -159,10 +170,13 @@ instances_by_rank inst (DualInfeasible i j) carried one other = absurd one
 instances_by_rank inst NotBranches carried one other = absurd one
 instances_by_rank inst BranchesDimension carried one other = absurd one
 instances_by_rank inst (BadFamily i) carried one other = absurd one
+instances_by_rank inst (BadMemory i) carried one other = absurd one
+instances_by_rank inst (BadRow i) carried one other = absurd one
 instances_by_rank inst (BadBranch i) carried one other = absurd one
 instances_by_rank inst (BranchTwice i) carried one other = absurd one
 instances_by_rank inst (BadLeaf i) carried one other = absurd one
 instances_by_rank inst TooManyLoads carried one other = absurd one
+instances_by_rank inst (TooManyStates i) carried one other = absurd one
 instances_by_rank inst NotJudged carried one other = absurd one
 instances_by_rank inst (NotUsed field) carried one other = absurd one
 
@@ -193,10 +207,13 @@ routings_by_rank inst (DualInfeasible i j) carried one other = absurd one
 routings_by_rank inst NotBranches carried one other = absurd one
 routings_by_rank inst BranchesDimension carried one other = absurd one
 routings_by_rank inst (BadFamily i) carried one other = absurd one
+routings_by_rank inst (BadMemory i) carried one other = absurd one
+routings_by_rank inst (BadRow i) carried one other = absurd one
 routings_by_rank inst (BadBranch i) carried one other = absurd one
 routings_by_rank inst (BranchTwice i) carried one other = absurd one
 routings_by_rank inst (BadLeaf i) carried one other = absurd one
 routings_by_rank inst TooManyLoads carried one other = absurd one
+routings_by_rank inst (TooManyStates i) carried one other = absurd one
 routings_by_rank inst NotJudged carried one other = absurd one
 routings_by_rank inst (NotUsed field) carried one other = absurd one
 
@@ -237,10 +254,13 @@ routes_by_rank inst sol (DualInfeasible i j) carried one other = absurd one
 routes_by_rank inst sol NotBranches carried one other = absurd one
 routes_by_rank inst sol BranchesDimension carried one other = absurd one
 routes_by_rank inst sol (BadFamily i) carried one other = absurd one
+routes_by_rank inst sol (BadMemory i) carried one other = absurd one
+routes_by_rank inst sol (BadRow i) carried one other = absurd one
 routes_by_rank inst sol (BadBranch i) carried one other = absurd one
 routes_by_rank inst sol (BranchTwice i) carried one other = absurd one
 routes_by_rank inst sol (BadLeaf i) carried one other = absurd one
 routes_by_rank inst sol TooManyLoads carried one other = absurd one
+routes_by_rank inst sol (TooManyStates i) carried one other = absurd one
 routes_by_rank inst sol NotJudged carried one other = absurd one
 routes_by_rank inst sol (NotUsed field) carried one other = absurd one
 
@@ -298,10 +318,13 @@ potentials_by_rank inst pot (DualInfeasible i j) carried one other = broken_by_r
 potentials_by_rank inst pot NotBranches carried one other = absurd one
 potentials_by_rank inst pot BranchesDimension carried one other = absurd one
 potentials_by_rank inst pot (BadFamily i) carried one other = absurd one
+potentials_by_rank inst pot (BadMemory i) carried one other = absurd one
+potentials_by_rank inst pot (BadRow i) carried one other = absurd one
 potentials_by_rank inst pot (BadBranch i) carried one other = absurd one
 potentials_by_rank inst pot (BranchTwice i) carried one other = absurd one
 potentials_by_rank inst pot (BadLeaf i) carried one other = absurd one
 potentials_by_rank inst pot TooManyLoads carried one other = absurd one
+potentials_by_rank inst pot (TooManyStates i) carried one other = absurd one
 potentials_by_rank inst pot NotJudged carried one other = absurd one
 potentials_by_rank inst pot (NotUsed field) carried one other = absurd one
 
@@ -388,11 +411,14 @@ trees_by_rank unique inst tree (DualInfeasible i j) carried one other = absurd o
 trees_by_rank unique inst tree NotBranches carried one other = refl
 trees_by_rank unique inst tree BranchesDimension carried one other = refl
 trees_by_rank unique inst tree (BadFamily i) carried one other = ap BadFamily (one_place _ _ i carried.0 one other)
+trees_by_rank unique inst tree (BadMemory i) carried one other = ap BadMemory (one.1 ∙ sym other.1)
+trees_by_rank unique inst tree (BadRow i) carried one other = ap BadRow (one.1 ∙ sym other.1)
 trees_by_rank unique inst tree (BadBranch i) carried one other = ap BadBranch (bad_pair_by_rank inst tree i carried.0 one other)
 trees_by_rank unique inst tree (BranchTwice i) carried one other = ap BranchTwice (twice_by_rank inst tree i carried.0 one other)
 trees_by_rank unique inst tree (BadLeaf i) carried one other =
     ap BadLeaf (bad_leaf_by_rank unique inst tree i carried.0 one other)
 trees_by_rank unique inst tree TooManyLoads carried one other = absurd one
+trees_by_rank unique inst tree (TooManyStates i) carried one other = absurd one
 trees_by_rank unique inst tree NotJudged carried one other = absurd one
 trees_by_rank unique inst tree (NotUsed field) carried one other = absurd one
 
@@ -406,13 +432,70 @@ one_bad_set n depot families a b one other = elim (cases_order a b) [
   | inr (inr more) ↦ absurd (other.bad (b - 1) (omega (arith, other.least)) (one.before (b - 1) (omega (arith, other.least, more))))
 ]
 
-one_bad_plan_leaf : (n families : ℕ) (steps : List listed.Step) (a b : ℕ) → IsFirstBadPlanLeaf n families steps a
-    → IsFirstBadPlanLeaf n families steps b → a ≡ b
-one_bad_plan_leaf n families steps a b one other = elim (cases_order a b) [
+one_bad_list : (n depot : ℕ) (lists : List (List ℕ)) (a b : ℕ) → IsFirstBadList n depot lists a → IsFirstBadList n depot lists b → a ≡ b
+one_bad_list n depot lists a b one other = elim (cases_order one.place other.place) [
+  | inl same ↦ one.first ∙ ap (λ (k : ℕ). owner_of (slice_index_or lists k [])) same ∙ sym other.first
+  | inr (inl less) ↦ absurd (one.bad (other.before one.place less))
+  | inr (inr more) ↦ absurd (other.bad (one.before other.place more))
+]
+
+one_full : (n depot : ℕ) (lists : List (List ℕ)) (rows : List SubsetRow) (a b : ℕ) → IsFirstFull n depot lists rows a
+    → IsFirstFull n depot lists rows b → a ≡ b
+one_full n depot lists rows a b one other = elim (cases_order a b) [
+  | inl same ↦ same
+  | inr (inl less) ↦ absurd (one.full (other.before a one.there less))
+  | inr (inr more) ↦ absurd (other.full (one.before b other.there more))
+]
+
+one_bad_memory : (n depot : ℕ) (lists : List (List ℕ)) (rows : List SubsetRow) (a b : ℕ) → IsBadMemory n depot lists rows a
+    → IsBadMemory n depot lists rows b → a ≡ b
+one_bad_memory n depot lists rows a b (inl one) (inl other) = one_bad_list n depot lists a b one other
+one_bad_memory n depot lists rows a b (inl one) (inr other) = absurd (one.bad (other.0 one.place one.inside))
+one_bad_memory n depot lists rows a b (inr one) (inl other) = absurd (other.bad (one.0 other.place other.inside))
+one_bad_memory n depot lists rows a b (inr one) (inr other) = one_full n depot lists rows a b one.2 other.2
+
+one_bad_row : (n depot : ℕ) (rows : List SubsetRow) (a b : ℕ) → IsFirstBadRow n depot rows a → IsFirstBadRow n depot rows b → a ≡ b
+one_bad_row n depot rows a b one other = elim (cases_order a b) [
+  | inl same ↦ same
+  | inr (inl less) ↦ absurd (one.bad (a - 1) (omega (arith, one.least)) (other.before (a - 1) (omega (arith, one.least, less))))
+  | inr (inr more) ↦ absurd (other.bad (b - 1) (omega (arith, other.least)) (one.before (b - 1) (omega (arith, other.least, more))))
+]
+
+one_bad_leaf_by : (Good : LeafNumbers → Type 0) (n families : ℕ) (steps : List listed.Step) (a b : ℕ)
+    → IsFirstBadLeafBy Good n families steps a → IsFirstBadLeafBy Good n families steps b → a ≡ b
+one_bad_leaf_by Good n families steps a b one other = elim (cases_order a b) [
   | inl same ↦ same
   | inr (inl less) ↦ absurd (one.bad (other.before a one.least less))
   | inr (inr more) ↦ absurd (other.bad (one.before b other.least more))
 ]
+
+one_bad_leaf_of : (by_runs : Bool) (n families rows : ℕ) (steps : List listed.Step) (a b : ℕ)
+    → IsFirstBadLeafOf by_runs n families rows steps a → IsFirstBadLeafOf by_runs n families rows steps b → a ≡ b
+one_bad_leaf_of false n families rows steps a b one other = one_bad_leaf_by (ArePlanNumbers n families) n families steps a b one other
+one_bad_leaf_of true n families rows steps a b one other =
+    one_bad_leaf_by (AreRunNumbers n families rows) n (families + rows) (placed_steps n families steps) a b one other
+
+one_full_leaf : (problem : RoutingProblem) (scale : ℤ) (unit : ℕ) (families : List (List (List ℕ))) (lists : List (List ℕ))
+    (rows : List SubsetRow) (steps : List listed.Step) (a b : ℕ) → HasFullLeaf problem scale unit families lists rows steps a
+    → HasFullLeaf problem scale unit families lists rows steps b → a ≡ b
+one_full_leaf problem scale unit families lists rows steps a b one other =
+    let crossed : one.crossed ≡ other.crossed = all_crossed problem families one.crossed other.crossed one.cuts.many other.cuts.many
+    (recursion_from_All (IsCutFamily problem) (families_with one.crossed families) one.cuts.are)
+    (recursion_from_All (IsCutFamily problem) (families_with other.crossed families) other.cuts.are) in
+    let light : one.light ≡ other.light = one_light problem unit one.light other.light one.units other.units in
+    let moved = subst (λ (cs : List Crossings). IsFirstFullLeaf (tree_with problem scale unit families lists rows other.light cs) steps a) crossed
+    (subst (λ (l : ℕ). IsFirstFullLeaf (tree_with problem scale unit families lists rows l one.crossed) steps a) light one.first) in
+    one_bad_leaf_by (AreFewNumbers (tree_with problem scale unit families lists rows other.light other.crossed)) problem.nodes
+    (length families + length rows) (placed_steps problem.nodes (length families) steps) a b moved other.first
+
+full_leaf_by_rank : (inst tree : Fields) (a b : ℕ) → AppliesToQRoutes inst tree (TooManyStates a)
+    → AppliesToQRoutes inst tree (TooManyStates b) → a ≡ b
+full_leaf_by_rank inst tree a b one other =
+    let steps = one_value tree.branches other.0 one.0 other.1 one.1 in
+    let moved = subst (λ steps. HasFullLeaf (routing_of inst) (scale_in tree) (unit_in tree) (families_listed tree) (memories_listed tree)
+    (rows_listed tree) steps b) steps other.2 in
+    one_full_leaf (routing_of inst) (scale_in tree) (unit_in tree) (families_listed tree) (memories_listed tree) (rows_listed tree)
+    one.0 a b one.2 moved
 
 bad_branch_by_rank : (inst tree : Fields) (a b : ℕ) → AppliesToQRoutes inst tree (BadBranch a)
     → AppliesToQRoutes inst tree (BadBranch b) → a ≡ b
@@ -425,8 +508,9 @@ bad_plan_leaf_by_rank : (inst tree : Fields) (a b : ℕ) → AppliesToQRoutes in
     → AppliesToQRoutes inst tree (BadLeaf b) → a ≡ b
 bad_plan_leaf_by_rank inst tree a b one other =
     let steps = one_value tree.branches other.0 one.0 other.1 one.1 in
-    let moved = subst (λ steps. IsFirstBadPlanLeaf (nodes_of inst) (length (families_listed tree)) steps b) steps other.2 in
-    one_bad_plan_leaf (nodes_of inst) (length (families_listed tree)) one.0 a b one.2 moved
+    let moved = subst (λ steps. IsFirstBadLeafOf (by_runs_in tree) (nodes_of inst) (length (families_listed tree))
+    (length (rows_listed tree)) steps b) steps other.2 in
+    one_bad_leaf_of (by_runs_in tree) (nodes_of inst) (length (families_listed tree)) (length (rows_listed tree)) one.0 a b one.2 moved
 
 -- plan: by the reason: one without numbers is equal to itself; of one with numbers files have one first place or pair
 pub q_routes_by_rank : (inst tree : Fields) → IsOneByRank (AppliesToQRoutes inst tree)
@@ -455,10 +539,13 @@ q_routes_by_rank inst tree (DualInfeasible i j) carried one other = absurd one
 q_routes_by_rank inst tree NotBranches carried one other = refl
 q_routes_by_rank inst tree BranchesDimension carried one other = refl
 q_routes_by_rank inst tree (BadFamily i) carried one other = ap BadFamily (one_bad_set _ _ _ i carried.0 one other)
+q_routes_by_rank inst tree (BadMemory i) carried one other = ap BadMemory (one_bad_memory _ _ _ _ i carried.0 one other)
+q_routes_by_rank inst tree (BadRow i) carried one other = ap BadRow (one_bad_row _ _ _ i carried.0 one other)
 q_routes_by_rank inst tree (BadBranch i) carried one other = ap BadBranch (bad_branch_by_rank inst tree i carried.0 one other)
 q_routes_by_rank inst tree (BranchTwice i) carried one other = absurd one
 q_routes_by_rank inst tree (BadLeaf i) carried one other = ap BadLeaf (bad_plan_leaf_by_rank inst tree i carried.0 one other)
 q_routes_by_rank inst tree TooManyLoads carried one other = refl
+q_routes_by_rank inst tree (TooManyStates i) carried one other = ap TooManyStates (full_leaf_by_rank inst tree i carried.0 one other)
 q_routes_by_rank inst tree NotJudged carried one other = absurd one
 q_routes_by_rank inst tree (NotUsed field) carried one other = absurd one
 
@@ -497,10 +584,13 @@ same_rank (DualInfeasible i j) carried = refl
 same_rank NotBranches carried = refl
 same_rank BranchesDimension carried = refl
 same_rank (BadFamily i) carried = refl
+same_rank (BadMemory i) carried = refl
+same_rank (BadRow i) carried = refl
 same_rank (BadBranch i) carried = refl
 same_rank (BranchTwice i) carried = refl
 same_rank (BadLeaf i) carried = refl
 same_rank TooManyLoads carried = refl
+same_rank (TooManyStates i) carried = refl
 same_rank NotJudged carried = refl
 same_rank (NotUsed field) carried = refl
 

@@ -1,6 +1,6 @@
 -- Files have one verdict: its reason has one rank and numbers, its length is that of the tour or plan, its bound one
 -- number.
-use Rattle.tsp_verdict.proofs.Prelude.{◌≡◌, ◌∙◌, ℕ, false, List, [], ◌∷◌, get_or, inl, inr, refl, sym, ap, ap₂, subst, arith, Option, None, Some, ℤ, false≢true, ints, Kind, Fields, nodes_of, cost, scale_in, multipliers_in, families_listed, length_of, IsLeastRoutes, IsAdjustedBound, IsDualBound, is_directed, routing_of, capacity_of, Crossings, NumbersAreUnique, decided_number, CertificateKind, Potentials, Branches, Reason, LengthClaimed, Verdict, IsBoundFound, PlanBoundsFoundAreUnique}
+use Rattle.tsp_verdict.proofs.Prelude.{◌≡◌, ◌∙◌, ℕ, false, List, [], ◌∷◌, get_or, inl, inr, refl, sym, ap, ap₂, subst, arith, Option, None, Some, ℤ, false≢true, ints, Kind, Fields, nodes_of, cost, scale_in, multipliers_in, families_listed, length_of, IsLeastRoutes, IsAdjustedBound, IsDualBound, is_directed, routing_of, capacity_of, Crossings, NumbersAreUnique, decided_number, CertificateKind, Potentials, Branches, Reason, LengthClaimed, Verdict, IsPlanBoundFound, PlanBoundsFoundAreUnique, memories_listed, rows_listed}
 use Rattle.tsp_format.specs.declared.kinds.Kind.TheVariants as kinds
 use Rattle.tsp_format.specs.Steps as listed
 use Rattle.tsp_theory.proofs.Cycles.{one_bound as one_sum_bound}
@@ -13,7 +13,7 @@ use Rattle.tsp_report.specs.declared.verdict.Verdict.TheVariants.{Tour, Routes, 
 use Rattle.tsp_verdict.proofs.KnownBounds.{same_least}
 use Rattle.tsp_verdict.specs.SolutionVerdict.{IsKnownBoundOfTours, IsKnownBoundOfRoutes, IsKnownBoundAlone, IsKnownBoundOfToursBy, IsKnownBoundOfRoutesBy, IsKnownBoundBy, IsKnownBoundWith, IsVerdictBy, IsVerdictOn, IsUnclaimedVerdict, IsFirstAgainstGiven, HasLength, IsOfLength, IsClaimedVerdict, FilesHaveOneVerdict, FilesHaveOneBound, FilesHaveOneKnownBound, SolutionsHaveOneVerdict}
 use Rattle.tsp_verdict.specs.Certified.{AppliesToTouring, AppliesToRouting, AppliesToBounded, IsBoundVerdict, is_bounded, IsBoundBy, IsBoundOf, HasNoBoundBy, AppliesToCertificate, IsCertified, AppliesToCertified, IsCertifiedTourVerdict, AppliesToCertifiedRoutes, IsCertifiedRoutesVerdict, IsCertifiedVerdictBy, IsCertifiedVerdict}
-use Rattle.tsp_verdict.specs.Certificates.{given_in, case_steps_in, families_with_numbers, HasBoundByBranches, IsBoundByNodes, IsBoundByDuals, unit_in, HasBoundByQRoutes}
+use Rattle.tsp_verdict.specs.Certificates.{given_in, case_steps_in, families_with_numbers, HasBoundByBranches, IsBoundByNodes, IsBoundByDuals, unit_in, by_runs_in, HasBoundByQRoutes}
 use Rattle.tsp_verdict.specs.Solutions.{total_of, AppliesToRoutes, IsPlanned, IsRoutesVerdict, tours_of, AppliesToTour, IsTourVerdict}
 use Rattle.tsp_verdict.proofs.FirstReasons.{one_first}
 use Rattle.tsp_verdict.proofs.OneReason.{one_value, tours_by_rank, instances_by_rank, routings_by_rank, routes_by_rank, certificates_by_rank, certified_by_rank, certified_routes_by_rank, bounded_by_rank, one_crossed}
@@ -122,11 +122,12 @@ one_by_tree laws inst tree a b one other =
 
 one_by_q_routes : Laws → (inst tree : Fields) (a b : Option ℤ) → HasBoundByQRoutes inst tree a → HasBoundByQRoutes inst tree b → a ≡ b
 one_by_q_routes laws inst tree a b one other =
-    let Found : List listed.Step → Type 0 = λ steps. IsBoundFound (routing_of inst) (scale_in tree) (unit_in tree)
-    (families_listed tree) steps b in
+    let Found : List listed.Step → Type 0 = λ steps. IsPlanBoundFound (by_runs_in tree) (routing_of inst) (scale_in tree) (unit_in tree)
+    (families_listed tree) (memories_listed tree) (rows_listed tree) steps b in
     let steps = one_value tree.branches other.steps one.steps other.steps_are one.steps_are in
     let moved : Found one.steps = subst Found steps other.bound in
-    laws.q_routes (routing_of inst) (scale_in tree) (unit_in tree) (families_listed tree) one.steps a b one.bound moved
+    laws.q_routes (by_runs_in tree) (routing_of inst) (scale_in tree) (unit_in tree) (families_listed tree) (memories_listed tree)
+    (rows_listed tree) one.steps a b one.bound moved
 
 of_some : (a b : ℤ) → Some a ≡ Some b → a ≡ b
 of_some a b same = one_value (Some b) a b (sym same) refl

@@ -14,7 +14,7 @@ pub use Rattle.tsp_cases.specs.Families.{AreFamilies, Family, IsFamily, IsFirstB
 pub use Rattle.tsp_cases.specs.ListedCases.{AreGoodLeaves, IsFirstBadBranch, IsFirstBadLeaf, IsFirstTwice, IsListedStep, branch_pairs, branches_of_cases, leaf_changes, listed_steps}
 pub use Rattle.tsp_cases.specs.declared.family.Crossings.{Crossings}
 pub use Rattle.tsp_cost.specs.Problems.{IsTourOf, capacity_of, demands_of, depot_of, is_directed, problem_of, routing_of}
-pub use Rattle.tsp_file.specs.Cost.{AreSomeSets, HoldsCases, HoldsDuals, HoldsNodeNumbers, families_listed, fixed_of, multipliers_in, scale_in}
+pub use Rattle.tsp_file.specs.Cost.{AreSomeSets, HoldsCases, HoldsMemory, HoldsDuals, HoldsNodeNumbers, families_listed, fixed_of, memories_listed, multipliers_in, rows_listed, scale_in}
 unfoldable pub use Rattle.tsp_file.specs.Cost.{cost}
 pub use Rattle.tsp_file.specs.Fields.{Fields, nodes_of}
 pub use Rattle.tsp_file.specs.Rules.{is_branches_file, is_potentials_file, is_tour_file}
@@ -29,9 +29,10 @@ pub use Rattle.tsp_report.specs.Verdicts.{rank_of}
 pub use Rattle.tsp_report.specs.declared.task.CertificateKind.{CertificateKind}
 pub use Rattle.tsp_report.specs.declared.task.CertificateKind.TheVariants.{Branches, Potentials}
 pub use Rattle.tsp_report.specs.declared.verdict.Reason.{Reason}
-pub use Rattle.tsp_report.specs.declared.verdict.Reason.TheVariants.{BadBranch, BadFamily, BadLeaf, BranchTwice, BranchesDimension, DepotCount, DepotDemand, DepotInRoute, Dimension, DualInfeasible, FixedEdgeUnused, FixedEdgesInRoutes, LengthClaimed, MultiplierNotFixed, MultiplierRepeated, NodeOutOfRange, NotASolution, NotBranches, NotJudged, NotPotentials, NotSymmetric, NotUsed, Overload, PotentialsDimension, PotentialsKind, RepeatedNode, TooFewNodes, TooManyLoads, TourCount, TourLength, Unserved}
+pub use Rattle.tsp_report.specs.declared.verdict.Reason.TheVariants.{BadBranch, BadFamily, BadLeaf, BadMemory, BadRow, BranchTwice, BranchesDimension, DepotCount, DepotDemand, DepotInRoute, Dimension, DualInfeasible, FixedEdgeUnused, FixedEdgesInRoutes, LengthClaimed, MultiplierNotFixed, MultiplierRepeated, NodeOutOfRange, NotASolution, NotBranches, NotJudged, NotPotentials, NotSymmetric, NotUsed, Overload, PotentialsDimension, PotentialsKind, RepeatedNode, TooFewNodes, TooManyLoads, TooManyStates, TourCount, TourLength, Unserved}
 pub use Rattle.tsp_report.specs.declared.verdict.Verdict.{Verdict}
 pub use Rattle.tsp_routing.proofs.SmallQRoutes.{of_customers}
-pub use Rattle.tsp_routing.specs.PlanVerdicts.{AreCapacityCuts, AreGoodBranches, AreGoodPlanLeaves, HasTooManyLoads, IsBoundFound, IsFirstBadPlanBranch, IsFirstBadPlanLeaf, IsFirstBadSet, IsPlanVerdict, IsSizedPlanVerdict, PlanBoundsFoundAreUnique, VerdictBoundsPlans, most_entries, routing_with}
+pub use Rattle.tsp_routing.specs.PlanVerdicts.{AreCapacityCuts, AreGoodBranches, HasTooManyLoads, IsFirstBadPlanBranch, IsFirstBadSet, most_entries, routing_with}
+pub use Rattle.tsp_routing.specs.RunVerdicts.{IsPlanBoundFound, IsPlanVerdict, IsSizedPlanVerdict, PlanBoundsFoundAreUnique, VerdictBoundsPlans}
 pub use Rattle.tsp_theory.specs.Bounds.{AdjustedBoundsBoundCycles, AreGood, AreOnPairs, DualsBoundCycles, IsAdjustedBound, IsAdjustedBoundOf, IsBoundSized, IsDualBound, IsFirstBroken, IsScale, UsesEach, adjusted, entry, is_same_pair, numbers_on, pair_of, weight_between}
 pub use Rattle.tsp_theory.specs.Tour.{AreNeighbours, BoundsTours, HasNoTour, IsCustomer, IsCycle, IsLeastRoutes, IsPlan, RoutingProblem, Uses, demand_of, length_of, links_to, load_of, plan_length, sum_int_by}

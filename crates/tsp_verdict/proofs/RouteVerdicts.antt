@@ -1,11 +1,20 @@
 -- Reasons against routes and their certificate, ruled out one by one, and the verdict.
-use Rattle.tsp_verdict.proofs.Prelude.{ℕ, ◌≤◌, arith, ◌≡◌, ◌≢◌, ◌+◌, ◌-◌, ◌<◌, Bool, true, false, List, [], length, None, refl, sym, ap, subst, ◌∙◌, ◌*◌, ◌∷◌, to_z, of_z, false≢true, ints, to_z-of_z, All-from_recursion, recursion_from_All, Vec, w64, All, Contains, AllByRecursion, slice_index_or, ℤ, pos, ◌≤ℤ◌, FitsSigned, ◌^◌, unwrap_or, nat_abs, Option, Some, most_changes, IsNode, nodes_to, cost, HoldsCases, scale_in, families_listed, Fields, nodes_of, is_branches_file, IsDemand, IsStep, AreTreeSteps, families_of, IsBoundSized, demand_of, load_of, IsCustomer, plan_length, IsLeastRoutes, RoutingProblem, depot_of, demands_of, capacity_of, routing_of, leaf_changes, Crossings, of_customers, IsFirstBadSet, AreCapacityCuts, AreGoodBranches, IsFirstBadPlanBranch, AreGoodPlanLeaves, IsFirstBadPlanLeaf, routing_with, most_entries, HasTooManyLoads, IsBoundFound, IsPlanVerdict, VerdictBoundsPlans, rank_of, Branches, Reason, DepotCount, DepotDemand, FixedEdgesInRoutes, NotPotentials, PotentialsDimension, PotentialsKind, MultiplierNotFixed, MultiplierRepeated, DualInfeasible, NotSymmetric, TourCount, TourLength, NodeOutOfRange, RepeatedNode, FixedEdgeUnused, DepotInRoute, Unserved, Overload, NotBranches, BranchesDimension, BadFamily, BadBranch, BranchTwice, BadLeaf, TooManyLoads, LengthClaimed, NotJudged, NotUsed}
+use Rattle.tsp_verdict.proofs.Prelude.{ℕ, ◌≤◌, arith, ◌≡◌, ◌≢◌, ◌+◌, ◌-◌, ◌<◌, Bool, true, false, List, [], length, None, refl, sym, ap, subst, ◌∙◌, ◌*◌, ◌∷◌, to_z, of_z, false≢true, ints, to_z-of_z, length-map, All-from_recursion, recursion_from_All, Vec, w64, All, Contains, AllByRecursion, slice_index_or, ℤ, pos, ◌≤ℤ◌, FitsSigned, ◌^◌, unwrap_or, nat_abs, Option, Some, most_changes, IsNode, nodes_to, cost, HoldsCases, scale_in, families_listed, Fields, nodes_of, is_branches_file, IsDemand, IsStep, AreTreeSteps, families_of, IsBoundSized, demand_of, load_of, IsCustomer, plan_length, IsLeastRoutes, RoutingProblem, depot_of, demands_of, capacity_of, routing_of, memories_listed, rows_listed, HoldsMemory, sum_by, map, inl, inr, families_with, leaf_changes, Crossings, of_customers, IsFirstBadSet, AreCapacityCuts, AreGoodBranches, IsFirstBadPlanBranch, routing_with, most_entries, HasTooManyLoads, IsPlanBoundFound, IsPlanVerdict, VerdictBoundsPlans, rank_of, Branches, Reason, DepotCount, DepotDemand, FixedEdgesInRoutes, NotPotentials, PotentialsDimension, PotentialsKind, MultiplierNotFixed, MultiplierRepeated, DualInfeasible, NotSymmetric, TourCount, TourLength, NodeOutOfRange, RepeatedNode, FixedEdgeUnused, DepotInRoute, Unserved, Overload, NotBranches, BranchesDimension, BadFamily, BadMemory, BadRow, BadBranch, BranchTwice, BadLeaf, TooManyLoads, TooManyStates, LengthClaimed, NotJudged, NotUsed}
+use Rattle.std.proofs.lemmas.List.Sums.{sum_by-cons}
+use Rattle.tsp_file.specs.Cost.{AreSomeLists, AreSomeRows}
+use Rattle.tsp_file.specs.Valid.{IsSetOf, IsRowOf}
+use Rattle.tsp_format.specs.declared.steps.RowSets.{RowSets}
+use Rattle.tsp_format.specs.states.TreeSteps.{subset_rows_of}
+use Rattle.tsp_routing.specs.states.JudgedMemory.{AreListsOf, AreRowsOf}
+use Rattle.tsp_format.specs.Steps.{SubsetRow}
+use Rattle.tsp_routing.specs.RunTrees.{AreGoodLists, AreGoodRows, IsFirstBadRow, IsGoodMemory, IsBadMemory, step_with_places, placed_steps}
+use Rattle.tsp_routing.specs.RunVerdicts.{is_by_runs, AreGoodLeavesOf, IsFirstBadLeafOf, tree_with, IsFirstFullLeaf, HasFullLeaf}
 use Rattle.tsp_format.specs.Steps.{Step, Branch, Leaf, change_count}
 use Rattle.tsp_format.specs.declared.kinds.Kind.TheVariants as kinds
-use Rattle.tsp_routing.proofs.PlanBounds.{one_light}
-use Rattle.tsp_routing.specs.PlanLinks.{AreUnits, capacity_in_parts}
-use Rattle.tsp_routing.specs.declared.verdict.PlanVerdict.{PlanVerdict}
-use Rattle.tsp_routing.specs.declared.verdict.PlanVerdict.TheVariants as found
+use Rattle.tsp_routing.proofs.PlanBounds.{all_crossed, one_light}
+use Rattle.tsp_routing.specs.PlanLinks.{IsCutFamily, AreUnits, capacity_in_parts}
+use Rattle.tsp_routing.specs.declared.plan_tree.PlanVerdict.{PlanVerdict}
+use Rattle.tsp_routing.specs.declared.plan_tree.PlanVerdict.TheVariants as found
 use Rattle.tsp_routing.specs.states.LeafWeights.{IsPlanStep}
 use Rattle.tsp_report.specs.declared.verdict.BoundVerdict.TheVariants as bounds
 use Rattle.tsp_report.specs.declared.verdict.Verdict.TheVariants.{Routes}
@@ -13,7 +22,7 @@ use Rattle.tsp_verdict.proofs.CarriedBounds.{fitting}
 use Rattle.tsp_verdict.proofs.OneReason.{one_value}
 use Rattle.tsp_verdict.proofs.RouteFiles.{demand_low, none_fewer}
 use Rattle.tsp_verdict.proofs.TourVerdicts.{all_apart, marked_there, there_marked}
-use Rattle.tsp_verdict.specs.Certificates.{unit_in, AppliesToQRoutes, HasBoundByQRoutes}
+use Rattle.tsp_verdict.specs.Certificates.{unit_in, by_runs_in, AppliesToQRoutes, HasBoundByQRoutes}
 use Rattle.tsp_verdict.specs.Certified.{AppliesToRouting, NoneAgainstRouting, IsBoundBy, HasNoBoundBy, BoundsSolutionsBy, HasNoSolutionBy, AppliesToCertificateBy, AppliesToCertificate, FindsBound}
 use Rattle.tsp_verdict.specs.Solutions.{IsFirstPlace, IsLarger, IsAt, IsAtEarlierPlace, visited, tours_of, NoneBefore, IsFirstUnserved, IsOverloaded, AppliesToRoutes, NoneOfRoutesBefore, NoneOfRoutesBeforePlaces, total_of, AreCustomers, IsFirstAgainstRoutes, IsRoutesVerdict, IsFirstReason}
 use Rattle.tsp_verdict.specs.states.Marks.{Marked}
@@ -77,10 +86,13 @@ after_loads inst sol before carried (DualInfeasible i j) applies = applies
 after_loads inst sol before carried NotBranches applies = applies
 after_loads inst sol before carried BranchesDimension applies = applies
 after_loads inst sol before carried (BadFamily index) applies = applies
+after_loads inst sol before carried (BadMemory node) applies = applies
+after_loads inst sol before carried (BadRow index) applies = applies
 after_loads inst sol before carried (BadBranch index) applies = applies
 after_loads inst sol before carried (BranchTwice index) applies = applies
 after_loads inst sol before carried (BadLeaf index) applies = applies
 after_loads inst sol before carried TooManyLoads applies = applies
+after_loads inst sol before carried (TooManyStates index) applies = applies
 after_loads inst sol before carried (LengthClaimed length) applies = applies
 after_loads inst sol before carried NotJudged applies = applies
 after_loads inst sol before carried (NotUsed field) applies = applies
@@ -262,69 +274,80 @@ is_planned inst sol seen size routes demands capacity depot measured count least
 pub record IsReportedOfRoutes (inst tree : Fields) (verdict : PlanVerdict) : Type 0 where
   pub steps : List Step
   pub steps_are : tree.branches ≡ Some steps
-  pub by_steps : IsPlanVerdict (routing_of inst) (scale_in tree) (unit_in tree) (families_listed tree) steps verdict
+  pub by_steps : IsPlanVerdict (routing_of inst) (scale_in tree) (unit_in tree) (families_listed tree) (memories_listed tree)
+      (rows_listed tree) steps verdict
 
 -- the numbers of the code are those of the files
 pub record AreOfFiles (inst tree : Fields) (depot : ℕ) (demands : List ℤ) (capacity scale unit : ℤ)
-    (families : List (List (List ℕ))) (steps : List Step) : Type 0 where
+    (families : List (List (List ℕ))) (lists : List (List ℕ)) (rows : List SubsetRow) (steps : List Step) : Type 0 where
   pub depot_is : depot ≡ depot_of inst
   pub demands_are : demands ≡ demands_of inst
   pub capacity_is : capacity ≡ capacity_of inst
   pub scale_is : scale ≡ scale_in tree
   pub unit_is : nat_abs unit ≡ unit_in tree
   pub families_are : families ≡ families_listed tree
+  pub lists_are : lists ≡ memories_listed tree
+  pub rows_are : rows ≡ rows_listed tree
   pub steps_are : tree.branches ≡ Some steps
 
 -- a file that holds these numbers
 pub of_files : (inst tree : Fields) (depot : ℕ) (demands : List ℤ) (capacity scale unit : ℤ) (families : List (Vec (Vec ℕ)))
-    (steps : List Step) → FitsSigned w64 capacity → FitsSigned w64 scale → FitsSigned w64 unit
+    (lists : List (List ℕ)) (rows : List SubsetRow) (steps : List Step) → FitsSigned w64 capacity → FitsSigned w64 scale → FitsSigned w64 unit
     → depot ≡ depot_of inst → demands ≡ demands_of inst → capacity ≡ capacity_of inst
-    → HoldsCases tree scale unit (families_of families) steps
+    → HoldsCases tree scale unit (families_of families) steps → HoldsMemory tree lists rows
     → AreOfFiles inst tree depot demands (to_z w64 (of_z w64 capacity)) (to_z w64 (of_z w64 scale)) (to_z w64 (of_z w64 unit))
-    (families_of families) steps
-of_files inst tree depot demands capacity scale unit families steps capable scaled united depot_is demands_are capacity_is held = record {
-  depot_is = depot_is;
-  demands_are = demands_are;
-  capacity_is = to_z-of_z w64 capacity capable ∙ capacity_is;
-  scale_is = to_z-of_z w64 scale scaled ∙ held.scale_is;
-  unit_is = ap nat_abs (to_z-of_z w64 unit united ∙ held.load_unit_is);
-  families_are = held.families_kept;
-  steps_are = held.steps_are;
-}
+    (families_of families) lists rows steps
+of_files inst tree depot demands capacity scale unit families lists rows steps capable scaled united depot_is demands_are capacity_is held
+    memory = record {
+      depot_is = depot_is;
+      demands_are = demands_are;
+      capacity_is = to_z-of_z w64 capacity capable ∙ capacity_is;
+      scale_is = to_z-of_z w64 scale scaled ∙ held.scale_is;
+      unit_is = ap nat_abs (to_z-of_z w64 unit united ∙ held.load_unit_is);
+      families_are = held.families_kept;
+      lists_are = memory.lists_kept;
+      rows_are = memory.rows_kept;
+      steps_are = held.steps_are;
+    }
 
 problem_is : (inst tree : Fields) (depot : ℕ) (demands : List ℤ) (capacity scale unit : ℤ)
-    (families : List (List (List ℕ))) (steps : List Step) → AreOfFiles inst tree depot demands capacity scale unit families steps
+    (families : List (List (List ℕ))) (lists : List (List ℕ)) (rows : List SubsetRow) (steps : List Step)
+    → AreOfFiles inst tree depot demands capacity scale unit families lists rows steps
     → routing_with (nodes_of inst) (cost inst) depot demands capacity ≡ routing_of inst
-problem_is inst tree depot demands capacity scale unit families steps are =
+problem_is inst tree depot demands capacity scale unit families lists rows steps are =
     ap (λ (d : ℕ). routing_with (nodes_of inst) (cost inst) d demands capacity) are.depot_is
     ∙ ap (λ (ds : List ℤ). routing_with (nodes_of inst) (cost inst) (depot_of inst) ds capacity) are.demands_are
     ∙ ap (λ (z : ℤ). routing_with (nodes_of inst) (cost inst) (depot_of inst) (demands_of inst) z) are.capacity_is
 
 pub reported_of_routes : (inst tree : Fields) (depot : ℕ) (demands : List ℤ) (capacity scale unit : ℤ)
-    (families : List (List (List ℕ))) (steps : List Step) (verdict : PlanVerdict)
-    → AreOfFiles inst tree depot demands capacity scale unit families steps
-    → IsPlanVerdict (routing_with (nodes_of inst) (cost inst) depot demands capacity) scale (nat_abs unit) families steps verdict
+    (families : List (List (List ℕ))) (lists : List (List ℕ)) (rows : List SubsetRow) (steps : List Step) (verdict : PlanVerdict)
+    → AreOfFiles inst tree depot demands capacity scale unit families lists rows steps
+    → IsPlanVerdict (routing_with (nodes_of inst) (cost inst) depot demands capacity) scale (nat_abs unit) families lists rows steps verdict
     → IsReportedOfRoutes inst tree verdict
-reported_of_routes inst tree depot demands capacity scale unit families steps verdict are is = record {
+reported_of_routes inst tree depot demands capacity scale unit families lists rows steps verdict are is = record {
   steps = steps;
   steps_are = are.steps_are;
   by_steps =
-      subst (λ (fs : List (List (List ℕ))). IsPlanVerdict (routing_of inst) (scale_in tree) (unit_in tree) fs steps verdict)
+      subst (λ (rs : List SubsetRow). IsPlanVerdict (routing_of inst) (scale_in tree) (unit_in tree) (families_listed tree)
+      (memories_listed tree) rs steps verdict) are.rows_are
+      (subst (λ (ls : List (List ℕ)). IsPlanVerdict (routing_of inst) (scale_in tree) (unit_in tree) (families_listed tree) ls rows steps verdict)
+      are.lists_are
+      (subst (λ (fs : List (List (List ℕ))). IsPlanVerdict (routing_of inst) (scale_in tree) (unit_in tree) fs lists rows steps verdict)
       are.families_are
-      (subst (λ (u : ℕ). IsPlanVerdict (routing_of inst) (scale_in tree) u families steps verdict) are.unit_is
-      (subst (λ (z : ℤ). IsPlanVerdict (routing_of inst) z (nat_abs unit) families steps verdict) are.scale_is
-      (subst (λ (p : RoutingProblem). IsPlanVerdict p scale (nat_abs unit) families steps verdict)
-      (problem_is inst tree depot demands capacity scale unit families steps are) is)));
+      (subst (λ (u : ℕ). IsPlanVerdict (routing_of inst) (scale_in tree) u families lists rows steps verdict) are.unit_is
+      (subst (λ (z : ℤ). IsPlanVerdict (routing_of inst) z (nat_abs unit) families lists rows steps verdict) are.scale_is
+      (subst (λ (p : RoutingProblem). IsPlanVerdict p scale (nat_abs unit) families lists rows steps verdict)
+      (problem_is inst tree depot demands capacity scale unit families lists rows steps are) is)))));
 }
 
 pub bounds_of_routes : (inst tree : Fields) (depot : ℕ) (demands : List ℤ) (capacity scale unit : ℤ)
-    (families : List (List (List ℕ))) (steps : List Step) (verdict : PlanVerdict)
-    → AreOfFiles inst tree depot demands capacity scale unit families steps
+    (families : List (List (List ℕ))) (lists : List (List ℕ)) (rows : List SubsetRow) (steps : List Step) (verdict : PlanVerdict)
+    → AreOfFiles inst tree depot demands capacity scale unit families lists rows steps
     → VerdictBoundsPlans (routing_with (nodes_of inst) (cost inst) depot demands capacity) verdict
     → VerdictBoundsPlans (routing_of inst) verdict
-bounds_of_routes inst tree depot demands capacity scale unit families steps verdict are is =
+bounds_of_routes inst tree depot demands capacity scale unit families lists rows steps verdict are is =
     subst (λ (p : RoutingProblem). VerdictBoundsPlans p verdict)
-    (problem_is inst tree depot demands capacity scale unit families steps are) is
+    (problem_is inst tree depot demands capacity scale unit families lists rows steps are) is
 
 -- ---- places fit 32 bits
 
@@ -332,6 +355,19 @@ pub leaves_few : (steps : List Step) → length (leaf_changes steps) ≤ length 
 leaves_few [] = omega arith
 leaves_few (Branch first second ∷ steps) = let rest = leaves_few steps in omega (arith, rest)
 leaves_few (Leaf changes ∷ steps) = let rest = leaves_few steps in omega (arith, rest)
+
+-- no leaf has a number above that of the steps
+pub placed_few : (n families : ℕ) (steps : List Step) (leaf : ℕ) → leaf ≤ length (leaf_changes (placed_steps n families steps))
+    → leaf ≤ length steps
+placed_few n families steps leaf most =
+    let few = leaves_few (placed_steps n families steps) in
+    let long = length-map steps (step_with_places n families) in
+    omega (arith, most, few, long)
+
+pub leaf_few : (by_runs : Bool) (n families rows : ℕ) (steps : List Step) (leaf : ℕ)
+    → IsFirstBadLeafOf by_runs n families rows steps leaf → leaf ≤ length steps
+leaf_few false n families rows steps leaf bad = let most = bad.most in let few = leaves_few steps in omega (arith, most, few)
+leaf_few true n families rows steps leaf bad = placed_few n families steps leaf bad.most
 
 -- a branch of a file has a number from 1 to n second, and the differences of a leaf are some of all
 by_steps : (n most : ℕ) (steps : List Step) → most < 2 ^ 32 → AllByRecursion (IsStep n) steps → change_count steps ≤ most
@@ -364,13 +400,34 @@ no_bad_branch inst tree steps are good index applies =
     let bad = subst (λ steps. IsFirstBadPlanBranch (nodes_of inst) (length (families_listed tree)) steps index) same applies.2 in
     bad.bad (good (index - 1) (0, 0) (omega (arith, bad.from_one, bad.inside)))
 
+no_bad_memory : (n depot : ℕ) (lists : List (List ℕ)) (rows : List SubsetRow) → IsGoodMemory n depot lists rows → (node : ℕ)
+    → IsBadMemory n depot lists rows node → ⊥
+no_bad_memory n depot lists rows good node (inl first) = first.bad (good.lists_are first.place first.inside)
+no_bad_memory n depot lists rows good node (inr full) = full.2.full (good.fits node full.2.there)
+
+no_bad_row : (n depot : ℕ) (rows : List SubsetRow) → AreGoodRows n depot rows → (row : ℕ) → IsFirstBadRow n depot rows row → ⊥
+no_bad_row n depot rows good row bad =
+    bad.bad (row - 1) (omega (arith, bad.least)) (good (row - 1) (omega (arith, bad.least, bad.most)))
+
+-- where lists are good and a row isn't, no list is bad, and it doesn't matter what customers keep
+row_alone : (n depot : ℕ) (lists : List (List ℕ)) (rows : List SubsetRow) (row : ℕ) → AreGoodLists n depot lists
+    → IsFirstBadRow n depot rows row → (node : ℕ) → IsBadMemory n depot lists rows node → ⊥
+row_alone n depot lists rows row good bad node (inl first) = first.bad (good first.place first.inside)
+row_alone n depot lists rows row good bad node (inr full) = no_bad_row n depot rows full.1 row bad
+
+good_leaf : (by_runs : Bool) (n families rows : ℕ) (steps : List Step) → AreGoodLeavesOf by_runs n families rows steps → (leaf : ℕ)
+    → IsFirstBadLeafOf by_runs n families rows steps leaf → ⊥
+good_leaf false n families rows steps good leaf bad = bad.bad (good leaf bad.least bad.most)
+good_leaf true n families rows steps good leaf bad = bad.bad (good leaf bad.least bad.most)
+
 no_bad_plan_leaf : (inst tree : Fields) (steps : List Step) → tree.branches ≡ Some steps
-    → AreGoodPlanLeaves (nodes_of inst) (length (families_listed tree)) steps
+    → AreGoodLeavesOf (by_runs_in tree) (nodes_of inst) (length (families_listed tree)) (length (rows_listed tree)) steps
     → (index : ℕ) → AppliesToQRoutes inst tree (BadLeaf index) → ⊥
 no_bad_plan_leaf inst tree steps are good index applies =
     let same = one_value tree.branches applies.0 steps applies.1 are in
-    let bad = subst (λ steps. IsFirstBadPlanLeaf (nodes_of inst) (length (families_listed tree)) steps index) same applies.2 in
-    bad.bad (good index bad.least bad.most)
+    good_leaf (by_runs_in tree) (nodes_of inst) (length (families_listed tree)) (length (rows_listed tree)) steps good index
+    (subst (λ steps. IsFirstBadLeafOf (by_runs_in tree) (nodes_of inst) (length (families_listed tree)) (length (rows_listed tree)) steps index)
+    same applies.2)
 
 no_many_loads : (problem : RoutingProblem) (unit light : ℕ) → AreUnits problem unit light
     → problem.nodes * (capacity_in_parts problem unit light + 1) ≤ most_entries → HasTooManyLoads problem unit → ⊥
@@ -381,18 +438,24 @@ no_many_loads problem unit light units few many =
 
 -- the facts before a rank rule out the reasons before it
 none_before : (inst tree : Fields) (rank : ℕ) → is_branches_file tree.kind ≡ true → nodes_of tree ≡ nodes_of inst
+    → rank ≤ rank_of (TooManyStates 1)
     → (rank_of (BadFamily 1) < rank → (index : ℕ) → AppliesToQRoutes inst tree (BadFamily index) → ⊥)
+    → (rank_of (BadMemory 1) < rank → (node : ℕ) → AppliesToQRoutes inst tree (BadMemory node) → ⊥)
+    → (rank_of (BadRow 1) < rank → (index : ℕ) → AppliesToQRoutes inst tree (BadRow index) → ⊥)
     → (rank_of (BadBranch 1) < rank → (index : ℕ) → AppliesToQRoutes inst tree (BadBranch index) → ⊥)
     → (rank_of (BadLeaf 1) < rank → (index : ℕ) → AppliesToQRoutes inst tree (BadLeaf index) → ⊥)
     → (rank_of TooManyLoads < rank → AppliesToQRoutes inst tree TooManyLoads → ⊥)
     → NoneBefore (AppliesToQRoutes inst tree) rank
-none_before inst tree rank sort size sets branches leaves loads NotBranches low applies = false≢true (sym applies ∙ sort)
-none_before inst tree rank sort size sets branches leaves loads BranchesDimension low applies = applies size
-none_before inst tree rank sort size sets branches leaves loads (BadFamily index) low applies = sets low index applies
-none_before inst tree rank sort size sets branches leaves loads (BadBranch index) low applies = branches low index applies
-none_before inst tree rank sort size sets branches leaves loads (BadLeaf index) low applies = leaves low index applies
-none_before inst tree rank sort size sets branches leaves loads TooManyLoads low applies = loads low applies
-none_before inst tree rank sort size sets branches leaves loads reason low applies = applies
+none_before inst tree rank sort size last sets memories rows branches leaves loads NotBranches low applies = false≢true (sym applies ∙ sort)
+none_before inst tree rank sort size last sets memories rows branches leaves loads BranchesDimension low applies = applies size
+none_before inst tree rank sort size last sets memories rows branches leaves loads (BadFamily index) low applies = sets low index applies
+none_before inst tree rank sort size last sets memories rows branches leaves loads (BadMemory node) low applies = memories low node applies
+none_before inst tree rank sort size last sets memories rows branches leaves loads (BadRow index) low applies = rows low index applies
+none_before inst tree rank sort size last sets memories rows branches leaves loads (BadBranch index) low applies = branches low index applies
+none_before inst tree rank sort size last sets memories rows branches leaves loads (BadLeaf index) low applies = leaves low index applies
+none_before inst tree rank sort size last sets memories rows branches leaves loads TooManyLoads low applies = loads low applies
+none_before inst tree rank sort size last sets memories rows branches leaves loads (TooManyStates index) low applies = omega (arith, low, last)
+none_before inst tree rank sort size last sets memories rows branches leaves loads reason low applies = applies
 
 -- of its routes the reasons against the certificate are these
 for_q_routes : (P : (Reason → Type 0) → Type 0) (inst tree : Fields) → inst.kind ≡ Some kinds.Cvrp
@@ -401,64 +464,164 @@ for_q_routes P inst tree cvrp first = subst (λ k. P (AppliesToCertificateBy Bra
 
 -- ---- the verdict
 
+-- the numbers of all leaves are good, where one of them has too many states
+run_leaves : (inst tree : Fields) (steps : List Step) (index : ℕ)
+    → HasFullLeaf (routing_of inst) (scale_in tree) (unit_in tree) (families_listed tree) (memories_listed tree) (rows_listed tree) steps index
+    → AreGoodLeavesOf (by_runs_in tree) (nodes_of inst) (length (families_listed tree)) (length (rows_listed tree)) steps
+run_leaves inst tree steps index full =
+    subst (λ (b : Bool). AreGoodLeavesOf b (nodes_of inst) (length (families_listed tree)) (length (rows_listed tree)) steps)
+    (sym full.by_runs) full.leaves
+
 pub set_first : (inst tree : Fields) (index : ℕ) → inst.kind ≡ Some kinds.Cvrp → is_branches_file tree.kind ≡ true
     → nodes_of tree ≡ nodes_of inst → IsReportedOfRoutes inst tree (found.BadFamily index)
     → FindsBound Branches inst tree (bounds.No (BadFamily index))
 set_first inst tree index cvrp sort size is = for_q_routes (λ Applies. IsFirstReason Applies (BadFamily index)) inst tree cvrp (record {
   applies = is.by_steps;
-  none_before = none_before inst tree (rank_of (BadFamily 1)) sort size (λ low. absurd (omega (arith, low)))
-      (λ low. absurd (omega (arith, low))) (λ low. absurd (omega (arith, low))) (λ low. absurd (omega (arith, low)));
+  none_before = none_before inst tree (rank_of (BadFamily 1)) sort size (omega arith)
+      (λ low. absurd (omega (arith, low))) (λ low. absurd (omega (arith, low)))
+      (λ low. absurd (omega (arith, low))) (λ low. absurd (omega (arith, low)))
+      (λ low. absurd (omega (arith, low))) (λ low. absurd (omega (arith, low)));
+})
+
+pub memory_first : (inst tree : Fields) (node : ℕ) → inst.kind ≡ Some kinds.Cvrp → is_branches_file tree.kind ≡ true
+    → nodes_of tree ≡ nodes_of inst → IsReportedOfRoutes inst tree (found.BadMemory node)
+    → FindsBound Branches inst tree (bounds.No (BadMemory node))
+memory_first inst tree node cvrp sort size is = for_q_routes (λ Applies. IsFirstReason Applies (BadMemory node)) inst tree cvrp (record {
+  applies = is.by_steps.1;
+  none_before = none_before inst tree (rank_of (BadMemory 1)) sort size (omega arith)
+      (λ low. no_bad_set inst tree is.by_steps.0.0 is.by_steps.0.1)
+      (λ low. absurd (omega (arith, low))) (λ low. absurd (omega (arith, low)))
+      (λ low. absurd (omega (arith, low))) (λ low. absurd (omega (arith, low)))
+      (λ low. absurd (omega (arith, low)));
+})
+
+pub row_first : (inst tree : Fields) (index : ℕ) → inst.kind ≡ Some kinds.Cvrp → is_branches_file tree.kind ≡ true
+    → nodes_of tree ≡ nodes_of inst → IsReportedOfRoutes inst tree (found.BadRow index)
+    → FindsBound Branches inst tree (bounds.No (BadRow index))
+row_first inst tree index cvrp sort size is = for_q_routes (λ Applies. IsFirstReason Applies (BadRow index)) inst tree cvrp (record {
+  applies = is.by_steps.2;
+  none_before = none_before inst tree (rank_of (BadRow 1)) sort size (omega arith)
+      (λ low. no_bad_set inst tree is.by_steps.0.0 is.by_steps.0.1)
+      (λ low. row_alone (nodes_of inst) (depot_of inst) (memories_listed tree) (rows_listed tree) index is.by_steps.1 is.by_steps.2)
+      (λ low. absurd (omega (arith, low))) (λ low. absurd (omega (arith, low)))
+      (λ low. absurd (omega (arith, low))) (λ low. absurd (omega (arith, low)));
 })
 
 pub branch_first : (inst tree : Fields) (index : ℕ) → inst.kind ≡ Some kinds.Cvrp → is_branches_file tree.kind ≡ true
     → nodes_of tree ≡ nodes_of inst → IsReportedOfRoutes inst tree (found.BadBranch index)
     → FindsBound Branches inst tree (bounds.No (BadBranch index))
 branch_first inst tree index cvrp sort size is = for_q_routes (λ Applies. IsFirstReason Applies (BadBranch index)) inst tree cvrp (record {
-  applies = (is.steps, is.steps_are, is.by_steps.1);
-  none_before = none_before inst tree (rank_of (BadBranch 1)) sort size
+  applies = (is.steps, is.steps_are, is.by_steps.2);
+  none_before = none_before inst tree (rank_of (BadBranch 1)) sort size (omega arith)
       (λ low. no_bad_set inst tree is.by_steps.0.0 is.by_steps.0.1)
-      (λ low. absurd (omega (arith, low))) (λ low. absurd (omega (arith, low))) (λ low. absurd (omega (arith, low)));
+      (λ low. no_bad_memory (nodes_of inst) (depot_of inst) (memories_listed tree) (rows_listed tree) is.by_steps.1)
+      (λ low. no_bad_row (nodes_of inst) (depot_of inst) (rows_listed tree) is.by_steps.1.rows_are)
+      (λ low. absurd (omega (arith, low))) (λ low. absurd (omega (arith, low)))
+      (λ low. absurd (omega (arith, low)));
 })
 
 pub plan_leaf_first : (inst tree : Fields) (index : ℕ) → inst.kind ≡ Some kinds.Cvrp → is_branches_file tree.kind ≡ true
     → nodes_of tree ≡ nodes_of inst → IsReportedOfRoutes inst tree (found.BadLeaf index)
     → FindsBound Branches inst tree (bounds.No (BadLeaf index))
 plan_leaf_first inst tree index cvrp sort size is = for_q_routes (λ Applies. IsFirstReason Applies (BadLeaf index)) inst tree cvrp (record {
-  applies = (is.steps, is.steps_are, is.by_steps.1);
-  none_before = none_before inst tree (rank_of (BadLeaf 1)) sort size
+  applies = (is.steps, is.steps_are, is.by_steps.2);
+  none_before = none_before inst tree (rank_of (BadLeaf 1)) sort size (omega arith)
       (λ low. no_bad_set inst tree is.by_steps.0.0.0 is.by_steps.0.0.1)
+      (λ low. no_bad_memory (nodes_of inst) (depot_of inst) (memories_listed tree) (rows_listed tree) is.by_steps.1)
+      (λ low. no_bad_row (nodes_of inst) (depot_of inst) (rows_listed tree) is.by_steps.1.rows_are)
       (λ low. no_bad_branch inst tree is.steps is.steps_are is.by_steps.0.1)
       (λ low. absurd (omega (arith, low))) (λ low. absurd (omega (arith, low)));
 })
 
 pub loads_first : (inst tree : Fields) → inst.kind ≡ Some kinds.Cvrp → is_branches_file tree.kind ≡ true
-    → nodes_of tree ≡ nodes_of inst → IsReportedOfRoutes inst tree found.TooManyLoads
-    → FindsBound Branches inst tree (bounds.No TooManyLoads)
-loads_first inst tree cvrp sort size is = for_q_routes (λ Applies. IsFirstReason Applies TooManyLoads) inst tree cvrp (record {
-  applies = is.by_steps.2;
-  none_before = none_before inst tree (rank_of TooManyLoads) sort size
+    → nodes_of tree ≡ nodes_of inst → IsReportedOfRoutes inst tree (found.TooManyLoads)
+    → FindsBound Branches inst tree (bounds.No (TooManyLoads))
+loads_first inst tree cvrp sort size is = for_q_routes (λ Applies. IsFirstReason Applies (TooManyLoads)) inst tree cvrp (record {
+  applies = is.by_steps.3;
+  none_before = none_before inst tree (rank_of (TooManyLoads)) sort size (omega arith)
       (λ low. no_bad_set inst tree is.by_steps.0.0.0 is.by_steps.0.0.1)
+      (λ low. no_bad_memory (nodes_of inst) (depot_of inst) (memories_listed tree) (rows_listed tree) is.by_steps.1)
+      (λ low. no_bad_row (nodes_of inst) (depot_of inst) (rows_listed tree) is.by_steps.1.rows_are)
       (λ low. no_bad_branch inst tree is.steps is.steps_are is.by_steps.0.1)
-      (λ low. no_bad_plan_leaf inst tree is.steps is.steps_are is.by_steps.1) (λ low. absurd (omega (arith, low)));
+      (λ low. no_bad_plan_leaf inst tree is.steps is.steps_are is.by_steps.2) (λ low. absurd (omega (arith, low)));
 })
+
+pub states_first : (inst tree : Fields) (index : ℕ) → inst.kind ≡ Some kinds.Cvrp → is_branches_file tree.kind ≡ true
+    → nodes_of tree ≡ nodes_of inst → IsReportedOfRoutes inst tree (found.TooManyStates index)
+    → FindsBound Branches inst tree (bounds.No (TooManyStates index))
+states_first inst tree index cvrp sort size is = for_q_routes (λ Applies. IsFirstReason Applies (TooManyStates index)) inst tree cvrp (record {
+  applies = (is.steps, is.steps_are, is.by_steps.3);
+  none_before = none_before inst tree (rank_of (TooManyStates 1)) sort size (omega arith)
+      (λ low. no_bad_set inst tree is.by_steps.0.0.0 is.by_steps.0.0.1)
+      (λ low. no_bad_memory (nodes_of inst) (depot_of inst) (memories_listed tree) (rows_listed tree) is.by_steps.1)
+      (λ low. no_bad_row (nodes_of inst) (depot_of inst) (rows_listed tree) is.by_steps.1.rows_are)
+      (λ low. no_bad_branch inst tree is.steps is.steps_are is.by_steps.0.1)
+      (λ low. no_bad_plan_leaf inst tree is.steps is.steps_are (run_leaves inst tree is.steps index is.by_steps.3)) (λ low. is.by_steps.2);
+})
+
+-- what a bound found rules out
+module _ (problem : RoutingProblem) (scale : ℤ) (unit : ℕ) (families : List (List (List ℕ))) (lists : List (List ℕ))
+    (rows : List SubsetRow) (steps : List Step) (found : Option ℤ) where
+  bound_cuts : (by_runs : Bool) → IsPlanBoundFound by_runs problem scale unit families lists rows steps found
+      → (crossed : List Crossings) × AreCapacityCuts problem families crossed
+  bound_cuts false is = (is.crossed, is.cuts)
+  bound_cuts true is = (is.crossed, is.cuts)
+
+  bound_branches : (by_runs : Bool) → IsPlanBoundFound by_runs problem scale unit families lists rows steps found
+      → AreGoodBranches problem.nodes (length families) steps
+  bound_branches false is = is.branches
+  bound_branches true is = is.branches
+
+  bound_leaves : (by_runs : Bool) → IsPlanBoundFound by_runs problem scale unit families lists rows steps found
+      → AreGoodLeavesOf by_runs problem.nodes (length families) (length rows) steps
+  bound_leaves false is = is.leaves
+  bound_leaves true is = is.leaves
+
+  bound_loads : (by_runs : Bool) → IsPlanBoundFound by_runs problem scale unit families lists rows steps found
+      → HasTooManyLoads problem unit → ⊥
+  bound_loads false is = no_many_loads problem unit is.light is.units is.few
+  bound_loads true is = no_many_loads problem unit is.light is.units is.few
+
+  bound_states : (by_runs : Bool) → is_by_runs lists rows ≡ by_runs
+      → IsPlanBoundFound by_runs problem scale unit families lists rows steps found
+      → (leaf : ℕ) → HasFullLeaf problem scale unit families lists rows steps leaf → ⊥
+  bound_states false neither is leaf full = false≢true (sym neither ∙ full.by_runs)
+  bound_states true either is leaf full =
+      let crossed : full.crossed ≡ is.crossed = all_crossed problem families full.crossed is.crossed full.cuts.many is.cuts.many
+      (recursion_from_All (IsCutFamily problem) (families_with full.crossed families) full.cuts.are)
+      (recursion_from_All (IsCutFamily problem) (families_with is.crossed families) is.cuts.are) in
+      let light : full.light ≡ is.light = one_light problem unit full.light is.light full.units is.units in
+      let first = subst (λ (cs : List Crossings). IsFirstFullLeaf (tree_with problem scale unit families lists rows is.light cs) steps leaf) crossed
+      (subst (λ (l : ℕ). IsFirstFullLeaf (tree_with problem scale unit families lists rows l full.crossed) steps leaf) light full.first) in
+      first.bad (is.states leaf first.least first.most)
 
 none_of_q_routes : (inst tree : Fields) (bound : Option ℤ) → is_branches_file tree.kind ≡ true → nodes_of tree ≡ nodes_of inst
     → IsReportedOfRoutes inst tree (found.Bound bound) → (reason : Reason) → AppliesToQRoutes inst tree reason → ⊥
 none_of_q_routes inst tree bound sort size is NotBranches applies = false≢true (sym applies ∙ sort)
 none_of_q_routes inst tree bound sort size is BranchesDimension applies = applies size
 none_of_q_routes inst tree bound sort size is (BadFamily index) applies =
-    no_bad_set inst tree is.by_steps.crossed is.by_steps.cuts index applies
+    let cuts = bound_cuts (routing_of inst) (scale_in tree) (unit_in tree) (families_listed tree) (memories_listed tree) (rows_listed tree) is.steps bound (by_runs_in tree) is.by_steps.1 in no_bad_set inst tree cuts.0 cuts.1 index applies
+none_of_q_routes inst tree bound sort size is (BadMemory node) applies =
+    no_bad_memory (nodes_of inst) (depot_of inst) (memories_listed tree) (rows_listed tree) is.by_steps.0 node applies
+none_of_q_routes inst tree bound sort size is (BadRow index) applies =
+    no_bad_row (nodes_of inst) (depot_of inst) (rows_listed tree) is.by_steps.0.rows_are index applies
 none_of_q_routes inst tree bound sort size is (BadBranch index) applies =
-    no_bad_branch inst tree is.steps is.steps_are is.by_steps.branches index applies
+    no_bad_branch inst tree is.steps is.steps_are (bound_branches (routing_of inst) (scale_in tree) (unit_in tree) (families_listed tree) (memories_listed tree) (rows_listed tree) is.steps bound (by_runs_in tree) is.by_steps.1) index applies
 none_of_q_routes inst tree bound sort size is (BadLeaf index) applies =
-    no_bad_plan_leaf inst tree is.steps is.steps_are is.by_steps.leaves index applies
+    no_bad_plan_leaf inst tree is.steps is.steps_are (bound_leaves (routing_of inst) (scale_in tree) (unit_in tree) (families_listed tree) (memories_listed tree) (rows_listed tree) is.steps bound (by_runs_in tree) is.by_steps.1) index applies
 none_of_q_routes inst tree bound sort size is TooManyLoads applies =
-    no_many_loads (routing_of inst) (unit_in tree) is.by_steps.light is.by_steps.units is.by_steps.few applies
+    bound_loads (routing_of inst) (scale_in tree) (unit_in tree) (families_listed tree) (memories_listed tree) (rows_listed tree) is.steps bound (by_runs_in tree) is.by_steps.1 applies
+none_of_q_routes inst tree bound sort size is (TooManyStates index) applies =
+    let same = one_value tree.branches applies.0 is.steps applies.1 is.steps_are in
+    bound_states (routing_of inst) (scale_in tree) (unit_in tree) (families_listed tree) (memories_listed tree) (rows_listed tree) is.steps
+    bound (by_runs_in tree) refl is.by_steps.1 index
+    (subst (λ steps. HasFullLeaf (routing_of inst) (scale_in tree) (unit_in tree) (families_listed tree) (memories_listed tree)
+    (rows_listed tree) steps index) same applies.2)
 none_of_q_routes inst tree bound sort size is reason applies = applies
 
 has_bound : (inst tree : Fields) (bound : Option ℤ) → IsReportedOfRoutes inst tree (found.Bound bound)
     → HasBoundByQRoutes inst tree bound
-has_bound inst tree bound is = record { steps = is.steps; steps_are = is.steps_are; bound = is.by_steps }
+has_bound inst tree bound is = record { steps = is.steps; steps_are = is.steps_are; bound = is.by_steps.1 }
 
 pub plans_bounded : (inst tree : Fields) (bound : ℤ) → inst.kind ≡ Some kinds.Cvrp → is_branches_file tree.kind ≡ true
     → nodes_of tree ≡ nodes_of inst → IsReportedOfRoutes inst tree (found.Bound (Some bound))
@@ -481,3 +644,39 @@ plans_missing inst tree cvrp sort size is none = (
   subst (λ k. HasNoBoundBy Branches k inst tree) (sym cvrp) (has_bound inst tree None is),
   subst (λ k. HasNoSolutionBy k inst) (sym cvrp) none,
 )
+
+-- ---- memories and rows as plans have them
+
+-- as many lists as nodes at most
+pub lists_few : (n : ℕ) (lists : List (Vec ℕ)) → AreSomeLists n (map (λ (list : Vec ℕ). list.items) lists) → length lists ≤ 1000000
+lists_few n lists held = let all = count lists (recursion_from_All (IsSetOf n) (map (λ (list : Vec ℕ). list.items) lists) held.each) in
+    let few = held.few_nodes in omega (arith, all, few)
+  where
+    count : (xs : List (Vec ℕ)) → AllByRecursion (IsSetOf n) (map (λ (list : Vec ℕ). list.items) xs)
+        → length xs ≤ sum_by length (map (λ (list : Vec ℕ). list.items) xs)
+    count [] all = omega arith
+    count (x ∷ xs) all = let rest = count xs all.1 in let own = all.0.0 in
+        let sum = sum_by-cons length x.items (map (λ (list : Vec ℕ). list.items) xs) in omega (arith, rest, own, sum)
+
+-- a list as plans have it, and a row
+abbrev IsListOf : ℕ → Vec ℕ → Type 0
+IsListOf n list = (1 ≤ length list.items) × All (IsNode n) list.items
+
+abbrev HasNodes : ℕ → RowSets → Type 0
+HasNodes n row = All (IsNode n) row.set.items × All (IsNode n) row.further.items
+
+pub lists_hold : (n m : ℕ) (lists : List (Vec ℕ)) → n ≡ m → AreSomeLists n (map (λ (list : Vec ℕ). list.items) lists) → AreListsOf m lists
+lists_hold n m lists same held = subst (λ (k : ℕ). AreListsOf k lists) same (All-from_recursion (IsListOf n) lists
+    (each lists (recursion_from_All (IsSetOf n) (map (λ (list : Vec ℕ). list.items) lists) held.each)))
+  where
+    each : (xs : List (Vec ℕ)) → AllByRecursion (IsSetOf n) (map (λ (list : Vec ℕ). list.items) xs) → AllByRecursion (IsListOf n) xs
+    each [] all = tt
+    each (x ∷ xs) all = (all.0, each xs all.1)
+
+pub rows_hold : (n m : ℕ) (rows : List RowSets) → n ≡ m → AreSomeRows n (subset_rows_of rows) → AreRowsOf m rows
+rows_hold n m rows same held = subst (λ (k : ℕ). AreRowsOf k rows) same (All-from_recursion (HasNodes n) rows
+    (each rows (recursion_from_All (IsRowOf n) (subset_rows_of rows) held.each)))
+  where
+    each : (xs : List RowSets) → AllByRecursion (IsRowOf n) (subset_rows_of xs) → AllByRecursion (HasNodes n) xs
+    each [] all = tt
+    each (x ∷ xs) all = ((all.0.0.1, all.0.1), each xs all.1)

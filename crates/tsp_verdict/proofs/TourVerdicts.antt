@@ -1,5 +1,5 @@
 -- Reasons against a tour, ruled out one by one: marks of nodes, fixed pairs, and the verdict.
-use Rattle.tsp_verdict.proofs.Prelude.{◌≡◌, ◌≢◌, ℕ, zero, suc, ◌+◌, ◌-◌, ◌<◌, ◌≤◌, Bool, true, false, List, [], ◌∷◌, length, Option, None, Some, get_or, set, replicate, refl, sym, ap, subst, ◌∙◌, arith, inl, inr, map, eqb, ◌++◌, add-one, cases_lt, false≢true, eqb-true, eq-eqb, get_or_default, append-nil, Vec, AllPairs, Contains, All, concat, ◌⊎◌, MatchOption, ℤ, MatchBool, fixed_of, cost, Fields, nodes_of, length_of, IsCycle, Uses, links_to, is_directed, IsTourOf, Reason, Dimension, TourCount, TourLength, NodeOutOfRange, RepeatedNode, FixedEdgeUnused, NotPotentials, PotentialsDimension, PotentialsKind, MultiplierNotFixed, MultiplierRepeated, DualInfeasible, DepotCount, DepotDemand, FixedEdgesInRoutes, DepotInRoute, Unserved, Overload, NotBranches, BranchesDimension, BadFamily, BadBranch, BranchTwice, BadLeaf, TooManyLoads, LengthClaimed, NotJudged, NotUsed}
+use Rattle.tsp_verdict.proofs.Prelude.{◌≡◌, ◌≢◌, ℕ, zero, suc, ◌+◌, ◌-◌, ◌<◌, ◌≤◌, Bool, true, false, List, [], ◌∷◌, length, Option, None, Some, get_or, set, replicate, refl, sym, ap, subst, ◌∙◌, arith, inl, inr, map, eqb, ◌++◌, add-one, cases_lt, false≢true, eqb-true, eq-eqb, get_or_default, append-nil, Vec, AllPairs, Contains, All, concat, ◌⊎◌, MatchOption, ℤ, MatchBool, fixed_of, cost, Fields, nodes_of, length_of, IsCycle, Uses, links_to, is_directed, IsTourOf, Reason, Dimension, TourCount, TourLength, NodeOutOfRange, RepeatedNode, FixedEdgeUnused, NotPotentials, PotentialsDimension, PotentialsKind, MultiplierNotFixed, MultiplierRepeated, DualInfeasible, DepotCount, DepotDemand, FixedEdgesInRoutes, DepotInRoute, Unserved, Overload, NotBranches, BranchesDimension, BadFamily, BadMemory, BadRow, BadBranch, BranchTwice, BadLeaf, TooManyLoads, TooManyStates, LengthClaimed, NotJudged, NotUsed}
 use Rattle.tsp_bound.proofs.RoundJoins.{set_kept}
 use Rattle.tsp_verdict.specs.Solutions.{node_at, HoldsAtNone, IsAtEarlierPlace, IsFirstPlace, IsLarger, IsUnused, visited, tours_of, AppliesToTour, NoneOfTourBefore, IsFirstAgainstTour}
 use Rattle.tsp_verdict.specs.states.Marks.{Marked, StandsAfter, AreNext}
@@ -223,10 +223,13 @@ after_fixed inst sol before used (Overload route) applies = applies
 after_fixed inst sol before used NotBranches applies = applies
 after_fixed inst sol before used BranchesDimension applies = applies
 after_fixed inst sol before used (BadFamily index) applies = applies
+after_fixed inst sol before used (BadMemory node) applies = applies
+after_fixed inst sol before used (BadRow index) applies = applies
 after_fixed inst sol before used (BadBranch index) applies = applies
 after_fixed inst sol before used (BranchTwice index) applies = applies
 after_fixed inst sol before used (BadLeaf index) applies = applies
 after_fixed inst sol before used TooManyLoads applies = applies
+after_fixed inst sol before used (TooManyStates index) applies = applies
 after_fixed inst sol before used (LengthClaimed length) applies = applies
 after_fixed inst sol before used NotJudged applies = applies
 after_fixed inst sol before used (NotUsed field) applies = applies

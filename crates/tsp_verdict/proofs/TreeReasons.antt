@@ -1,5 +1,9 @@
 -- Reasons against a certificate by branching, ruled out one by one, and the bound that it gives.
-use Rattle.tsp_verdict.proofs.Prelude.{◌≡◌, ℕ, ◌<◌, ◌≤◌, List, [], ◌∷◌, length, refl, ap₂, arith, ◌≢◌, ◌∙◌, ◌-◌, Bool, true, false, get_or, inl, inr, sym, ap, subst, subst₂, false≢true, length-map, All-weaker, All-from_recursion, recursion_from_All, Vec, All, AllByRecursion, sum_by, ◌^◌, ◌⊎◌, Option, None, Some, unwrap_or, ℤ, most_family_nodes, IsNode, IsSymmetric, Kind, AreSomeSets, cost, scale_in, fixed_of, families_listed, Fields, nodes_of, is_branches_file, IsSetOf, AreSets, families_of as lists_of_families, IsScale, IsBoundSized, BoundsTours, HasNoTour, is_directed, problem_of, IsTourOf, decide, KeepsAll, take_pairs, decided_number, IsFamily, NumbersAreUnique, family_with, families_with, Family, IsGoodFamily, IsFirstBadFamily, AreFamilies, branch_pairs, IsFirstBadBranch, leaf_changes, listed_steps, AreGoodLeaves, IsFirstBadLeaf, branches_of_cases, IsFirstTwice, Crossings, rank_of, Branches, Reason, NotBranches, BranchesDimension, BadFamily, BadBranch, BranchTwice, BadLeaf, TooManyLoads}
+use Rattle.tsp_verdict.proofs.Prelude.{◌≡◌, ℕ, ◌<◌, ◌≤◌, List, [], ◌∷◌, length, refl, ap₂, arith, ◌≢◌, ◌∙◌, ◌-◌, Bool, true, false, get_or, inl, inr, sym, ap, subst, subst₂, false≢true, length-map, All-weaker, All-from_recursion, recursion_from_All, Vec, All, AllByRecursion, sum_by, ◌^◌, ◌⊎◌, Option, None, Some, unwrap_or, ℤ, most_family_nodes, IsNode, IsSymmetric, Kind, AreSomeSets, cost, scale_in, fixed_of, families_listed, Fields, nodes_of, is_branches_file, IsSetOf, AreSets, families_of as lists_of_families, IsScale, IsBoundSized, BoundsTours, HasNoTour, is_directed, problem_of, IsTourOf, decide, KeepsAll, take_pairs, decided_number, IsFamily, NumbersAreUnique, family_with, families_with, Family, IsGoodFamily, IsFirstBadFamily, AreFamilies, branch_pairs, IsFirstBadBranch, leaf_changes, listed_steps, AreGoodLeaves, IsFirstBadLeaf, branches_of_cases, IsFirstTwice, Crossings, rank_of, Branches, Reason, NotBranches, BranchesDimension, BadFamily, BadMemory, BadRow, BadBranch, BranchTwice, BadLeaf, TooManyLoads, TooManyStates, slice_index_or, memories_listed, rows_listed, HoldsMemory, map}
+use Rattle.tsp_format.specs.Steps.{SubsetRow}
+use Rattle.tsp_file.specs.Cost.{AreSomeLists}
+use Rattle.tsp_routing.specs.RunTrees.{owner_of}
+use Rattle.tsp_verdict.specs.states.MemoryReasons.{IsMemoryReason, IsBadFamilyIfAny, family_or}
 use Rattle.std.proofs.Math.Path.{fun_ext}
 use Rattle.std.proofs.lemmas.List.Sums.{sum_by-cons}
 use Rattle.tsp_format.specs.Steps as listed
@@ -110,11 +114,32 @@ bad_within n crossed steps bad h =
 
 -- ---- the verdict of tsp_branch, over what the files hold
 
+-- the file lists no memory and no subset row
+abbrev pub ListsNeither : Fields → Type 0
+ListsNeither tree = (memories_listed tree ≡ []) × (rows_listed tree ≡ [])
+
 pub record IsReported (inst tree : Fields) (costs : ℕ → ℕ → ℤ) (verdict : BranchVerdict) : Type 0 where
   pub steps : List listed.Step
   pub steps_are : tree.branches ≡ Some steps
   pub by_steps : IsBranchVerdict (is_directed inst.kind) (nodes_of inst) costs (scale_in tree) (families_listed tree)
       (given_in inst) steps verdict
+  pub neither : ListsNeither tree
+
+-- what code lists is what the file does
+pub lists_neither : (tree : Fields) (lists : List (List ℕ)) (rows : List SubsetRow) → HoldsMemory tree lists rows
+    → IsMemoryReason lists rows None → ListsNeither tree
+lists_neither tree lists rows held none = (sym held.lists_kept ∙ none.0, sym held.rows_kept ∙ none.1)
+
+-- no list of a file is empty
+pub lists_some : (n : ℕ) (lists : List (Vec ℕ)) → AreSomeLists n (map (λ (list : Vec ℕ). list.items) lists)
+    → All (λ (list : Vec ℕ). 1 ≤ length list.items) lists
+lists_some n lists held = All-from_recursion (λ (list : Vec ℕ). 1 ≤ length list.items) lists
+    (each lists (recursion_from_All (IsSetOf n) (map (λ (list : Vec ℕ). list.items) lists) held.each))
+  where
+    each : (xs : List (Vec ℕ)) → AllByRecursion (IsSetOf n) (map (λ (list : Vec ℕ). list.items) xs)
+        → AllByRecursion (λ (list : Vec ℕ). 1 ≤ length list.items) xs
+    each [] all = tt
+    each (x ∷ xs) all = (all.0.0, each xs all.1)
 
 -- a file has one list of steps
 one_list : {A : Type 0} (o : Option (List A)) (xs ys : List A) → o ≡ Some xs → o ≡ Some ys → xs ≡ ys
@@ -129,15 +154,16 @@ pub record AreOf (inst tree : Fields) (directed : Bool) (n : ℕ) (scale : ℤ) 
   pub families_are : families ≡ families_listed tree
   pub given_is : given ≡ given_in inst
   pub steps_are : tree.branches ≡ Some steps
+  pub neither : ListsNeither tree
 
 pub are_of : (inst tree : Fields) (directed : Bool) (n : ℕ) (scale : ℤ) (families : List (Vec (Vec ℕ))) (fixed : List (ℕ × ℕ))
     (given : List Decision) (steps : List listed.Step)
     → directed ≡ is_directed inst.kind → inst.dimension ≡ Some n → scale ≡ scale_in tree
     → lists_of_families families ≡ families_listed tree
     → fixed ≡ fixed_of inst
-    → given ≡ take_pairs (each_once directed fixed) → tree.branches ≡ Some steps
+    → given ≡ take_pairs (each_once directed fixed) → tree.branches ≡ Some steps → ListsNeither tree
     → AreOf inst tree directed n scale (lists_of_families families) given steps
-are_of inst tree directed n scale families fixed given steps directed_is count scale_is families_kept fixed_are given_is steps_are =
+are_of inst tree directed n scale families fixed given steps directed_is count scale_is families_kept fixed_are given_is steps_are neither =
     record {
       directed_is = directed_is;
       nodes_are = sym (ap (λ (d : Option ℕ). unwrap_or d 0) count);
@@ -146,6 +172,7 @@ are_of inst tree directed n scale families fixed given steps directed_is count s
       given_is = given_is ∙ ap (λ (pairs : List (ℕ × ℕ)). take_pairs (each_once directed pairs)) fixed_are
           ∙ ap (λ (d : Bool). take_pairs (each_once d (fixed_of inst))) directed_is;
       steps_are = steps_are;
+      neither = neither;
     }
 
 pub reported : (inst tree : Fields) (directed : Bool) (n : ℕ) (costs : ℕ → ℕ → ℤ) (scale : ℤ) (families : List (List (List ℕ)))
@@ -161,7 +188,7 @@ reported inst tree directed n costs scale families given steps verdict are h =
     (subst (λ (fs : List (List (List ℕ))). IsBranchVerdict to n costs scale fs (given_in inst) steps verdict) are.families_are
     (subst (λ (ds : List Decision). IsBranchVerdict to n costs scale families ds steps verdict) are.given_is
     (subst (λ (d : Bool). IsBranchVerdict d n costs scale families given steps verdict) are.directed_is h)))) in
-    record { steps = steps; steps_are = are.steps_are; by_steps = by_steps }
+    record { steps = steps; steps_are = are.steps_are; by_steps = by_steps; neither = are.neither }
 
 -- ---- which reasons apply
 
@@ -226,21 +253,35 @@ pairs_few [] = omega arith
 pairs_few (listed.Branch a b ∷ steps) = let rest = pairs_few steps in omega (arith, rest)
 pairs_few (listed.Leaf changes ∷ steps) = let rest = pairs_few steps in omega (arith, rest)
 
+no_memory : (inst tree : Fields) → ListsNeither tree → (node : ℕ) → AppliesToBranches inst tree (BadMemory node) → ⊥
+no_memory inst tree neither node applies =
+    let none = ap (λ (xs : List (List ℕ)). length xs) neither.0 in omega (arith, applies.0, none)
+
+no_row : (inst tree : Fields) → ListsNeither tree → (index : ℕ) → AppliesToBranches inst tree (BadRow index) → ⊥
+no_row inst tree neither index applies =
+    let none = ap (λ (xs : List SubsetRow). length xs) neither.1 in omega (arith, applies.0, none)
+
 -- the facts before a rank rule out the reasons before it
 none_before : (inst tree : Fields) (rank : ℕ) → (rank_of NotBranches < rank → is_branches_file tree.kind ≡ true)
     → (rank_of BranchesDimension < rank → nodes_of tree ≡ nodes_of inst)
     → (rank_of (BadFamily 1) < rank → (index : ℕ) → AppliesToBranches inst tree (BadFamily index) → ⊥)
+    → (rank_of (BadMemory 1) < rank → memories_listed tree ≡ [])
+    → (rank_of (BadRow 1) < rank → rows_listed tree ≡ [])
     → (rank_of (BadBranch 1) < rank → (index : ℕ) → AppliesToBranches inst tree (BadBranch index) → ⊥)
     → (rank_of (BranchTwice 1) < rank → (index : ℕ) → AppliesToBranches inst tree (BranchTwice index) → ⊥)
     → (rank_of (BadLeaf 1) < rank → (index : ℕ) → AppliesToBranches inst tree (BadLeaf index) → ⊥)
     → NoneBefore (AppliesToBranches inst tree) rank
-none_before inst tree rank sort size families pairs once leaves NotBranches low applies = false≢true (sym applies ∙ sort low)
-none_before inst tree rank sort size families pairs once leaves BranchesDimension low applies = applies (size low)
-none_before inst tree rank sort size families pairs once leaves (BadFamily index) low applies = families low index applies
-none_before inst tree rank sort size families pairs once leaves (BadBranch index) low applies = pairs low index applies
-none_before inst tree rank sort size families pairs once leaves (BranchTwice index) low applies = once low index applies
-none_before inst tree rank sort size families pairs once leaves (BadLeaf index) low applies = leaves low index applies
-none_before inst tree rank sort size families pairs once leaves reason low applies = applies
+none_before inst tree rank sort size families lists rows pairs once leaves NotBranches low applies = false≢true (sym applies ∙ sort low)
+none_before inst tree rank sort size families lists rows pairs once leaves BranchesDimension low applies = applies (size low)
+none_before inst tree rank sort size families lists rows pairs once leaves (BadFamily index) low applies = families low index applies
+none_before inst tree rank sort size families lists rows pairs once leaves (BadMemory node) low applies =
+    let none = ap (λ (xs : List (List ℕ)). length xs) (lists low) in omega (arith, applies.0, none)
+none_before inst tree rank sort size families lists rows pairs once leaves (BadRow index) low applies =
+    let none = ap (λ (xs : List SubsetRow). length xs) (rows low) in omega (arith, applies.0, none)
+none_before inst tree rank sort size families lists rows pairs once leaves (BadBranch index) low applies = pairs low index applies
+none_before inst tree rank sort size families lists rows pairs once leaves (BranchTwice index) low applies = once low index applies
+none_before inst tree rank sort size families lists rows pairs once leaves (BadLeaf index) low applies = leaves low index applies
+none_before inst tree rank sort size families lists rows pairs once leaves reason low applies = applies
 
 -- the two reasons that need no look at the tree
 pub no_branches : (inst tree : Fields) → is_branches_file tree.kind ≡ false
@@ -254,6 +295,8 @@ no_branches inst tree other =
     of_tours NotBranches low applies = omega (arith, low)
     of_tours BranchesDimension low applies = omega (arith, low)
     of_tours (BadFamily index) low applies = omega (arith, low)
+    of_tours (BadMemory node) low applies = omega (arith, low)
+    of_tours (BadRow index) low applies = omega (arith, low)
     of_tours (BadBranch index) low applies = omega (arith, low)
     of_tours (BranchTwice index) low applies = omega (arith, low)
     of_tours (BadLeaf index) low applies = omega (arith, low)
@@ -263,9 +306,12 @@ no_branches inst tree other =
     of_q_routes NotBranches low applies = omega (arith, low)
     of_q_routes BranchesDimension low applies = omega (arith, low)
     of_q_routes (BadFamily index) low applies = omega (arith, low)
+    of_q_routes (BadMemory node) low applies = omega (arith, low)
+    of_q_routes (BadRow index) low applies = omega (arith, low)
     of_q_routes (BadBranch index) low applies = omega (arith, low)
     of_q_routes (BadLeaf index) low applies = omega (arith, low)
     of_q_routes TooManyLoads low applies = omega (arith, low)
+    of_q_routes (TooManyStates index) low applies = omega (arith, low)
     of_q_routes reason low applies = applies
 
 pub other_dimension : (inst tree : Fields) → is_branches_file tree.kind ≡ true → nodes_of tree ≢ nodes_of inst
@@ -279,6 +325,8 @@ other_dimension inst tree sort other =
     of_tours NotBranches low applies = false≢true (sym applies ∙ sort)
     of_tours BranchesDimension low applies = omega (arith, low)
     of_tours (BadFamily index) low applies = omega (arith, low)
+    of_tours (BadMemory node) low applies = omega (arith, low)
+    of_tours (BadRow index) low applies = omega (arith, low)
     of_tours (BadBranch index) low applies = omega (arith, low)
     of_tours (BranchTwice index) low applies = omega (arith, low)
     of_tours (BadLeaf index) low applies = omega (arith, low)
@@ -288,9 +336,12 @@ other_dimension inst tree sort other =
     of_q_routes NotBranches low applies = false≢true (sym applies ∙ sort)
     of_q_routes BranchesDimension low applies = omega (arith, low)
     of_q_routes (BadFamily index) low applies = omega (arith, low)
+    of_q_routes (BadMemory node) low applies = omega (arith, low)
+    of_q_routes (BadRow index) low applies = omega (arith, low)
     of_q_routes (BadBranch index) low applies = omega (arith, low)
     of_q_routes (BadLeaf index) low applies = omega (arith, low)
     of_q_routes TooManyLoads low applies = omega (arith, low)
+    of_q_routes (TooManyStates index) low applies = omega (arith, low)
     of_q_routes reason low applies = applies
 
 -- a TSP or an ATSP
@@ -310,7 +361,8 @@ pub family_first : (inst tree : Fields) (costs : ℕ → ℕ → ℤ) (index : �
 family_first inst tree costs index kind sort size is = for_tree (λ Applies. IsFirstReason Applies (BadFamily index)) inst tree kind (record {
   applies = bad_family inst tree index is.by_steps;
   none_before = none_before inst tree (rank_of (BadFamily 1)) (λ low. sort) (λ low. size) (λ low. absurd (omega (arith, low)))
-      (λ low. absurd (omega (arith, low))) (λ low. absurd (omega (arith, low))) (λ low. absurd (omega (arith, low)));
+      (λ low. absurd (omega (arith, low))) (λ low. absurd (omega (arith, low))) (λ low. absurd (omega (arith, low)))
+      (λ low. absurd (omega (arith, low))) (λ low. absurd (omega (arith, low)));
 })
 
 pub pair_first : (inst tree : Fields) (costs : ℕ → ℕ → ℤ) (index : ℕ) → HasArcsOrEdges inst → is_branches_file tree.kind ≡ true
@@ -320,8 +372,8 @@ pub pair_first : (inst tree : Fields) (costs : ℕ → ℕ → ℤ) (index : ℕ
 pair_first inst tree costs index kind sort size is = for_tree (λ Applies. IsFirstReason Applies (BadBranch index)) inst tree kind (record {
   applies = (is.steps, is.steps_are, is.by_steps.2);
   none_before = none_before inst tree (rank_of (BadBranch 1)) (λ low. sort) (λ low. size)
-      (λ low. no_bad_family inst tree is.by_steps.1.good) (λ low. absurd (omega (arith, low)))
-      (λ low. absurd (omega (arith, low))) (λ low. absurd (omega (arith, low)));
+      (λ low. no_bad_family inst tree is.by_steps.1.good) (λ low. is.neither.0) (λ low. is.neither.1)
+      (λ low. absurd (omega (arith, low))) (λ low. absurd (omega (arith, low))) (λ low. absurd (omega (arith, low)));
 })
 
 pub twice_first : (inst tree : Fields) (costs : ℕ → ℕ → ℤ) (index : ℕ) → HasArcsOrEdges inst → is_branches_file tree.kind ≡ true
@@ -331,7 +383,8 @@ pub twice_first : (inst tree : Fields) (costs : ℕ → ℕ → ℤ) (index : �
 twice_first inst tree costs index kind sort size is = for_tree (λ Applies. IsFirstReason Applies (BranchTwice index)) inst tree kind (record {
   applies = (is.steps, is.steps_are, is.by_steps.3);
   none_before = none_before inst tree (rank_of (BranchTwice 1)) (λ low. sort) (λ low. size)
-      (λ low. no_bad_family inst tree is.by_steps.1.good) (λ low. no_bad_pair inst tree is.steps is.steps_are is.by_steps.2.0)
+      (λ low. no_bad_family inst tree is.by_steps.1.good) (λ low. is.neither.0) (λ low. is.neither.1)
+      (λ low. no_bad_pair inst tree is.steps is.steps_are is.by_steps.2.0)
       (λ low. absurd (omega (arith, low))) (λ low. absurd (omega (arith, low)));
 })
 
@@ -348,7 +401,7 @@ leaf_first inst tree costs index kind sort size is = for_tree (λ Applies. IsFir
     is.by_steps.leaves,
   );
   none_before = none_before inst tree (rank_of (BadLeaf 1)) (λ low. sort) (λ low. size)
-      (λ low. no_bad_family inst tree is.by_steps.are_families.good)
+      (λ low. no_bad_family inst tree is.by_steps.are_families.good) (λ low. is.neither.0) (λ low. is.neither.1)
       (λ low. no_bad_pair inst tree is.steps is.steps_are is.by_steps.on_nodes.0)
       (λ low. no_twice inst tree is.steps is.steps_are is.by_steps.are_once.0) (λ low. absurd (omega (arith, low)));
 })
@@ -361,6 +414,8 @@ none_of_branches unique inst tree costs bound sort size is NotBranches applies =
 none_of_branches unique inst tree costs bound sort size is BranchesDimension applies = applies size
 none_of_branches unique inst tree costs bound sort size is (BadFamily index) applies =
     no_bad_family inst tree is.by_steps.are_families.good index applies
+none_of_branches unique inst tree costs bound sort size is (BadMemory node) applies = no_memory inst tree is.neither node applies
+none_of_branches unique inst tree costs bound sort size is (BadRow index) applies = no_row inst tree is.neither index applies
 none_of_branches unique inst tree costs bound sort size is (BadBranch index) applies =
     no_bad_pair inst tree is.steps is.steps_are is.by_steps.on_nodes.0 index applies
 none_of_branches unique inst tree costs bound sort size is (BranchTwice index) applies =
@@ -377,6 +432,37 @@ pub nothing_applies : NumbersAreUnique → (inst tree : Fields) (costs : ℕ →
 nothing_applies unique inst tree costs bound kind sort size is =
     for_tree (λ Applies. (reason : Reason) → Applies reason → ⊥) inst tree kind
     (none_of_branches unique inst tree costs bound sort size is)
+
+-- ---- memories and subset rows, which are for routes alone
+
+-- the first bad family, or else the reason against memories and rows
+pub memory_first : (inst tree : Fields) (bad : Option ℕ) (reason : Reason) → HasArcsOrEdges inst → is_branches_file tree.kind ≡ true
+    → nodes_of tree ≡ nodes_of inst → IsBadFamilyIfAny (nodes_of inst) (families_listed tree) bad
+    → IsMemoryReason (memories_listed tree) (rows_listed tree) (Some reason)
+    → IsFirstReason (AppliesToCertificate Branches inst tree) (family_or bad reason)
+memory_first inst tree (Some index) reason kind sort size families against =
+    for_tree (λ Applies. IsFirstReason Applies (BadFamily index)) inst tree kind (record {
+      applies = bad_family inst tree index families;
+      none_before = none_before inst tree (rank_of (BadFamily 1)) (λ low. sort) (λ low. size) (λ low. absurd (omega (arith, low)))
+          (λ low. absurd (omega (arith, low))) (λ low. absurd (omega (arith, low))) (λ low. absurd (omega (arith, low)))
+          (λ low. absurd (omega (arith, low))) (λ low. absurd (omega (arith, low)));
+    })
+memory_first inst tree None reason kind sort size families (inl listed) =
+    subst (λ (r : Reason). IsFirstReason (AppliesToCertificate Branches inst tree) r) (sym listed.1)
+    (for_tree (λ Applies. IsFirstReason Applies (BadMemory (owner_of (slice_index_or (memories_listed tree) 0 [])))) inst tree kind (record {
+      applies = (listed.0, refl);
+      none_before = none_before inst tree (rank_of (BadMemory 1)) (λ low. sort) (λ low. size) (λ low. no_bad_family inst tree families)
+          (λ low. absurd (omega (arith, low))) (λ low. absurd (omega (arith, low))) (λ low. absurd (omega (arith, low)))
+          (λ low. absurd (omega (arith, low))) (λ low. absurd (omega (arith, low)));
+    }))
+memory_first inst tree None reason kind sort size families (inr listed) =
+    subst (λ (r : Reason). IsFirstReason (AppliesToCertificate Branches inst tree) r) (sym listed.2)
+    (for_tree (λ Applies. IsFirstReason Applies (BadRow 1)) inst tree kind (record {
+      applies = (listed.1, refl);
+      none_before = none_before inst tree (rank_of (BadRow 1)) (λ low. sort) (λ low. size) (λ low. no_bad_family inst tree families)
+          (λ low. listed.0) (λ low. absurd (omega (arith, low))) (λ low. absurd (omega (arith, low)))
+          (λ low. absurd (omega (arith, low))) (λ low. absurd (omega (arith, low)));
+    }))
 
 -- ---- the bound, carried to costs that are the same between all nodes
 

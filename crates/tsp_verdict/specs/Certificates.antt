@@ -1,7 +1,7 @@
 -- Circle 3 of docs/trust.md.
 -- When a reason applies to a certificate, and its bound: by potentials, by branches for tours, and by branches for
 -- routes.
-use Rattle.tsp_verdict.specs.Prelude.{All, Contains, ℕ, true, List, slice_index_or, ℤ, pos, Bool, false, [], Option, None, Some, is_some, not, length, filter, nat_abs, Kind, fixed_of, scale_in, multipliers_in, cost, families_listed, load_unit_in, Fields, nodes_of, is_potentials_file, is_branches_file, pair_of, is_same_pair, AreGood, IsFirstBroken, IsDualBound, IsAdjustedBound, is_directed, depot_of, routing_of, CaseStep, take_pairs, is_same, decided_number, Reason, NotPotentials, PotentialsDimension, PotentialsKind, MultiplierNotFixed, MultiplierRepeated, DualInfeasible, NotBranches, BranchesDimension, BadFamily, BadBranch, BranchTwice, BadLeaf, TooManyLoads}
+use Rattle.tsp_verdict.specs.Prelude.{All, Contains, ℕ, true, List, slice_index_or, ℤ, pos, Bool, false, [], Option, None, Some, is_some, not, length, filter, nat_abs, Kind, fixed_of, scale_in, multipliers_in, cost, families_listed, memories_listed, rows_listed, load_unit_in, Fields, nodes_of, is_potentials_file, is_branches_file, pair_of, is_same_pair, AreGood, IsFirstBroken, IsDualBound, IsAdjustedBound, is_directed, depot_of, routing_of, CaseStep, take_pairs, is_same, decided_number, Reason, NotPotentials, PotentialsDimension, PotentialsKind, MultiplierNotFixed, MultiplierRepeated, DualInfeasible, NotBranches, BranchesDimension, BadFamily, BadMemory, BadRow, BadBranch, BranchTwice, BadLeaf, TooManyLoads, TooManyStates}
 use Rattle.std.specs.Prelude.{◌≡◌, ◌-◌, ◌<◌, ◌≤◌, ◌⊎◌, ◌≢◌, ◌&&◌, ◌∷◌}
 use Rattle.tsp_format.specs.Steps as listed
 use Rattle.tsp_format.specs.declared.kinds.Kind.TheVariants as kinds
@@ -10,7 +10,9 @@ use Rattle.tsp_cases.specs.Families.{Family, IsFamily, families_with, IsGoodFami
 use Rattle.tsp_cases.specs.ListedCases.{IsFirstBadBranch, listed_steps, IsFirstBadLeaf, IsFirstTwice}
 use Rattle.tsp_cases.specs.declared.family.Crossings.{Crossings}
 use Rattle.tsp_cases.specs.declared.decision.Decision.{Decision}
-use Rattle.tsp_routing.specs.PlanVerdicts.{IsFirstBadSet, IsFirstBadPlanBranch, IsFirstBadPlanLeaf, HasTooManyLoads, IsBoundFound}
+use Rattle.tsp_routing.specs.PlanVerdicts.{IsFirstBadSet, IsFirstBadPlanBranch, HasTooManyLoads}
+use Rattle.tsp_routing.specs.RunTrees.{owner_of, IsFirstBadRow, IsBadMemory}
+use Rattle.tsp_routing.specs.RunVerdicts.{is_by_runs, IsFirstBadLeafOf, HasFullLeaf, IsPlanBoundFound}
 use Rattle.tsp_verdict.specs.Solutions.{IsFirstPlace}
 
 -- a pair is listed, in either direction
@@ -118,12 +120,18 @@ pub record AreNumbersOf (instance tree : Fields) (crossed : List Crossings) : Ty
 abbrev pub IsBadFamily : ℕ → List (List (List ℕ)) → ℕ → Type 0
 IsBadFamily n families place = IsGoodFamily n (slice_index_or families (place - 1) []) → ⊥
 
--- when a reason applies to the certificate
+-- the first node of the first list, where there is a list
+abbrev pub IsFirstOwner : List (List ℕ) → ℕ → Type 0
+IsFirstOwner lists node = (1 ≤ length lists) × (node ≡ owner_of (slice_index_or lists 0 []))
+
+-- when a reason applies to the certificate; memories and subset rows are for routes alone
 abbrev pub AppliesToBranches : Fields → Fields → Reason → Type 0
 AppliesToBranches instance tree NotBranches = is_branches_file tree.kind ≡ false
 AppliesToBranches instance tree BranchesDimension = nodes_of tree ≢ nodes_of instance
 AppliesToBranches instance tree (BadFamily index) = IsFirstPlace (IsBadFamily (nodes_of instance) (families_listed tree))
     (families_listed tree) index
+AppliesToBranches instance tree (BadMemory node) = IsFirstOwner (memories_listed tree) node
+AppliesToBranches instance tree (BadRow index) = (1 ≤ length (rows_listed tree)) × (index ≡ 1)
 AppliesToBranches instance tree (BadBranch index) = (steps : List listed.Step) × (tree.branches ≡ Some steps)
     × IsFirstBadBranch 1 (nodes_of instance) steps index
 AppliesToBranches instance tree (BranchTwice index) = (steps : List listed.Step) × (tree.branches ≡ Some steps)
@@ -160,6 +168,10 @@ HasNoBoundByBranches instance tree = HasBoundByBranches instance tree None
 abbrev pub unit_in : Fields → ℕ
 unit_in tree = nat_abs (load_unit_in tree)
 
+-- whether the certificate lists a memory or a subset row, so that leaves are bounded by runs
+abbrev pub by_runs_in : Fields → Bool
+by_runs_in tree = is_by_runs (memories_listed tree) (rows_listed tree)
+
 -- ---- when a reason applies to it; reasons of routes and of other certificates never do
 
 -- when a reason applies to the certificate
@@ -168,18 +180,26 @@ AppliesToQRoutes instance tree NotBranches = is_branches_file tree.kind ≡ fals
 AppliesToQRoutes instance tree BranchesDimension = nodes_of tree ≢ nodes_of instance
 AppliesToQRoutes instance tree (BadFamily index) =
     IsFirstBadSet (nodes_of instance) (depot_of instance) (families_listed tree) index
+AppliesToQRoutes instance tree (BadMemory node) =
+    IsBadMemory (nodes_of instance) (depot_of instance) (memories_listed tree) (rows_listed tree) node
+AppliesToQRoutes instance tree (BadRow index) =
+    IsFirstBadRow (nodes_of instance) (depot_of instance) (rows_listed tree) index
 AppliesToQRoutes instance tree (BadBranch index) = (steps : List listed.Step) × (tree.branches ≡ Some steps)
     × IsFirstBadPlanBranch (nodes_of instance) (length (families_listed tree)) steps index
 AppliesToQRoutes instance tree (BadLeaf index) = (steps : List listed.Step) × (tree.branches ≡ Some steps)
-    × IsFirstBadPlanLeaf (nodes_of instance) (length (families_listed tree)) steps index
+    × IsFirstBadLeafOf (by_runs_in tree) (nodes_of instance) (length (families_listed tree)) (length (rows_listed tree)) steps index
 AppliesToQRoutes instance tree TooManyLoads = HasTooManyLoads (routing_of instance) (unit_in tree)
+AppliesToQRoutes instance tree (TooManyStates index) = (steps : List listed.Step) × (tree.branches ≡ Some steps)
+    × HasFullLeaf (routing_of instance) (scale_in tree) (unit_in tree) (families_listed tree) (memories_listed tree)
+    (rows_listed tree) steps index
 AppliesToQRoutes instance tree reason = ⊥
 
 -- ---- its bound
 
 -- the families are sets of customers, the tree is whole with good numbers at its leaves, and the least of the bounds of
--- these, by least walks, is `found`; None where there is no walk
+-- these, by least q-routes or least runs, is `found`; None where there is no q-route
 pub record HasBoundByQRoutes (instance tree : Fields) (found : Option ℤ) : Type 0 where
   pub steps : List listed.Step
   pub steps_are : tree.branches ≡ Some steps
-  pub bound : IsBoundFound (routing_of instance) (scale_in tree) (unit_in tree) (families_listed tree) steps found
+  pub bound : IsPlanBoundFound (by_runs_in tree) (routing_of instance) (scale_in tree) (unit_in tree) (families_listed tree)
+      (memories_listed tree) (rows_listed tree) steps found

@@ -2,3 +2,4 @@
 pub mod TourKnownBounds
 pub mod Marks
 pub mod PairSets
+pub mod MemoryReasons

@@ -2,15 +2,17 @@
 //! tree of cases is judged here, with the fixed pairs as decisions of all its cases; potentials in
 //! `potentials_certificate.rt`, and the trees of a CVRP in `routes.rt`.
 
-ghost use Rattle.tsp_verdict.specs.Prelude.{Some, IfOk, IsOk, IsErr, true, MatchResult, nodes_of, is_branches_file, HoldsCases, take_pairs};
+ghost use Rattle.tsp_verdict.specs.Prelude.{All, Some, IfOk, IsOk, IsErr, true, length, map, MatchResult, nodes_of, is_branches_file, HoldsCases, HoldsMemory, take_pairs};
 ghost use Rattle.std.specs.Prelude.{◌≡◌, ◌⊎◌, ◌≤◌};
 ghost use Rattle.tsp_format.specs.declared.kinds.Kind.TheVariants as kinds;
-ghost use Rattle.tsp_format.specs.states.TreeSteps.{steps_of};
+ghost use Rattle.tsp_format.specs.states.TreeSteps.{steps_of, subset_rows_of};
+ghost use Rattle.tsp_cases.specs.Crossings.{families_in};
 ghost use Rattle.tsp_file.specs.states.Drafts.{families_of};
 ghost use Rattle.tsp_cost.specs.states.Views.{HasCosts};
 ghost use Rattle.tsp_verdict.specs.Certificates.{each_once};
 ghost use Rattle.tsp_verdict.specs.Certified.{is_bounded, FindsBound, NoneWithoutMemory, AppliesToCertificate};
 ghost use Rattle.tsp_verdict.specs.Solutions.{IsFirstReason};
+ghost use Rattle.tsp_verdict.specs.states.MemoryReasons.{IsMemoryReason, IsBadFamilyIfAny, family_or};
 ghost use Rattle.tsp_verdict.specs.states.PairSets.{key_of};
 ghost use Rattle.tsp_verdict.specs.states.TourKnownBounds.{AreTourCosts, IsSymmetricTsp};
 ghost use Rattle.tsp_report.specs.declared.task.CertificateKind.TheVariants as certificates;
@@ -20,10 +22,13 @@ use crate::tour::{TourCosts, is_directed};
 use std::alloc::Global;
 use std::collections::BTreeSet;
 use tsp_branch::{BranchVerdict, judge_branches};
-use tsp_cases::{BranchingCertificate, Decision, case_trees_bound_cycles, numbers_are_unique};
+use tsp_cases::{
+    BranchingCertificate, Decision, JudgedFamilies, case_trees_bound_cycles, judge_families,
+    numbers_are_unique,
+};
 use tsp_cost::{Costs, Instance, View};
 use tsp_file::{File, TreeData};
-use tsp_format::Kind;
+use tsp_format::{Kind, RowSets};
 use tsp_io::{Refused, insert, push};
 use tsp_report::{BoundVerdict, CertificateKind, Reason};
 
@@ -120,7 +125,8 @@ pub(crate) fn tree_of<'a>(instance: &Instance, branches: &'a File) -> Result<Tre
     ensures { MatchResult result (λ tree. (is_branches_file branches.now.kind ≡ true)
         × (nodes_of branches.now ≡ nodes_of instance.now)
         × HoldsCases branches.now tree.scale tree.load_unit (families_of tree.families.now)
-        (steps_of tree.steps.now))
+        (steps_of tree.steps.now)
+        × HoldsMemory branches.now (map (λ list. list.items) tree.memories.now) (subset_rows_of tree.subset_rows.now))
         (λ reason. IsFirstReason
         (AppliesToCertificate certificates.Branches instance.now branches.now) reason) }
 {
@@ -154,6 +160,8 @@ fn judge_tour_tree<C: Costs>(
     requires count { nodes_of branches.now ≡ nodes_of instance.now }
     requires held { HoldsCases branches.now tree.now.scale tree.now.load_unit
         (families_of tree.now.families.now) (steps_of tree.now.steps.now) }
+    requires memory { HoldsMemory branches.now (map (λ list. list.items) tree.now.memories.now)
+        (subset_rows_of tree.now.subset_rows.now) }
     ensures { IfOk result
         (λ found. FindsBound certificates.Branches instance.now branches.now found) }
 {
@@ -161,7 +169,7 @@ fn judge_tour_tree<C: Costs>(
     numbers_are_unique();
     let directed = is_directed(instance.kind());
     let given = taken_once(alloc, directed, instance.fixed())?;
-    let cases = BranchingCertificate {
+    let cases = &BranchingCertificate {
         costs,
         directed,
         scale: tree.scale,
@@ -169,7 +177,11 @@ fn judge_tour_tree<C: Costs>(
         given: &given,
         steps: tree.steps,
     };
-    match judge_branches(alloc, &cases)? {
+    if let Some(reason) = memory_reason(tree.memories, tree.subset_rows) {
+        let family = first_bad_family(alloc, cases)?;
+        return Ok(BoundVerdict::No(family_or(family, reason)));
+    }
+    match judge_branches(alloc, cases)? {
         BranchVerdict::Bound(Some(bound)) => Ok(BoundVerdict::Bound(bound)),
         BranchVerdict::Bound(None) => Ok(BoundVerdict::NoSolution),
         BranchVerdict::BadFamily(index) => Ok(BoundVerdict::No(Reason::BadFamily {
@@ -184,6 +196,52 @@ fn judge_tour_tree<C: Costs>(
         BranchVerdict::BadLeaf(index) => Ok(BoundVerdict::No(Reason::BadLeaf {
             index: index as u32,
         })),
+    }
+}
+
+// ---- memories and subset rows, which are for routes alone
+
+/// The reason against a certificate for tours that lists memories or subset rows; none if it lists
+/// neither.
+fn memory_reason(memories: &[Vec<u32>], rows: &[RowSets]) -> Option<Reason>
+    requires { All (λ list. 1 ≤ length list.items) memories.now }
+    ensures { IsMemoryReason (map (λ list. list.items) memories.now) (subset_rows_of rows.now) result }
+{
+    if !memories.is_empty() {
+        return Some(Reason::BadMemory {
+            node: memories[0][0],
+        });
+    }
+    if !rows.is_empty() {
+        return Some(Reason::BadRow { index: 1 });
+    }
+    None
+}
+
+/// The first bad family of a certificate for tours, counted from 1.
+///
+/// # Errors
+///
+/// Out of memory.
+fn first_bad_family<C: Costs>(
+    alloc: Global,
+    cases: &BranchingCertificate<C>,
+) -> Result<Option<u32>, Refused>
+    ensures { IfOk result (IsBadFamilyIfAny (C.nodes cases.now.costs.now) (families_in cases.now.families.now)) }
+{
+    match judge_families(alloc, cases)? {
+        JudgedFamilies::Good(_) => Ok(None),
+        JudgedFamilies::Bad(family) => Ok(Some(family as u32)),
+    }
+}
+
+/// That a family is bad, if there is one; or else another reason.
+fn family_or(family: Option<u32>, reason: Reason) -> Reason
+    ensures { result ≡ family_or family reason }
+{
+    match family {
+        Some(index) => Reason::BadFamily { index },
+        None => reason,
     }
 }
 

@@ -80,11 +80,14 @@ pub fn examples_of_order()
     ensures branches { IsJudgedBefore (reasons.LengthClaimed (pos 9)) reasons.NotBranches }
     ensures number_of_nodes { IsJudgedBefore reasons.NotBranches reasons.BranchesDimension }
     ensures families { IsJudgedBefore reasons.BranchesDimension (reasons.BadFamily 1) }
-    ensures on_a_family { IsJudgedBefore (reasons.BadFamily 9) (reasons.BadBranch 1) }
+    ensures memory { IsJudgedBefore (reasons.BadFamily 9) (reasons.BadMemory 1) }
+    ensures row { IsJudgedBefore (reasons.BadMemory 9) (reasons.BadRow 1) }
+    ensures on_a_family { IsJudgedBefore (reasons.BadRow 9) (reasons.BadBranch 1) }
     ensures decided_twice { IsJudgedBefore (reasons.BadBranch 9) (reasons.BranchTwice 1) }
     ensures leaves { IsJudgedBefore (reasons.BranchTwice 9) (reasons.BadLeaf 1) }
     ensures loads { IsJudgedBefore (reasons.BadLeaf 9) reasons.TooManyLoads }
-    ensures unjudged { IsJudgedBefore reasons.TooManyLoads reasons.NotJudged }
+    ensures states { IsJudgedBefore reasons.TooManyLoads (reasons.TooManyStates 1) }
+    ensures unjudged { IsJudgedBefore (reasons.TooManyStates 9) reasons.NotJudged }
     ensures unused { IsJudgedBefore reasons.NotJudged (reasons.NotUsed fields.CapacityKey) }
 {}
 

@@ -1,10 +1,10 @@
 //! The verdict on the routes of a CVRP: the first reason against the instance or the plan, or how
 //! many routes there are and how long they are. Also the bound that a tree of cases gives routes.
 
-ghost use Rattle.tsp_verdict.specs.Prelude.{All, length, pos, Some, MatchOption, MatchResult, ℕ, true, false, vec_len, slice_index_or, map, IfOk, IsErr, most_nodes, most_tour_nodes, most_capacity, IsNode, nodes_to, cost, HoldsCases, nodes_of, is_branches_file, IsFromTo, length_of, demand_of, load_of, IsLeastRoutes, plan_length, demands_of, depots_of, depot_of};
+ghost use Rattle.tsp_verdict.specs.Prelude.{All, length, pos, Some, MatchOption, MatchResult, ℕ, true, false, vec_len, slice_index_or, map, IfOk, IsErr, most_nodes, most_tour_nodes, most_capacity, IsNode, nodes_to, cost, HoldsCases, HoldsMemory, nodes_of, is_branches_file, IsFromTo, length_of, demand_of, load_of, IsLeastRoutes, plan_length, demands_of, depots_of, depot_of};
 ghost use Rattle.std.specs.Prelude.{◌≡◌, ◌≤◌, ◌≢◌, ◌+◌, ◌^◌, ◌<◌, ◌≤ℤ◌, ◌∷◌};
 ghost use Rattle.tsp_format.specs.declared.kinds.Kind.TheVariants as kinds;
-ghost use Rattle.tsp_format.specs.states.TreeSteps.{steps_of};
+ghost use Rattle.tsp_format.specs.states.TreeSteps.{steps_of, subset_rows_of};
 ghost use Rattle.tsp_file.specs.Valid.{IsDemand};
 ghost use Rattle.tsp_file.specs.states.Drafts.{families_of};
 ghost use Rattle.tsp_verdict.specs.Certified.{AppliesToRouting, NoneAgainstRouting, FindsBound, NoneWithoutMemory};
@@ -353,8 +353,8 @@ pub(crate) fn plan_tree_bound(
     }
 }
 
-/// The bound of a tree of cases, or the first reason against its families, branches, leaves or
-/// loads.
+/// The bound of a tree of cases, or the first reason against its families, memories, subset rows,
+/// branches, leaves, loads or kept states.
 ///
 /// # Errors
 ///
@@ -374,6 +374,8 @@ fn judge_plan_tree(
     requires count { nodes_of branches.now ≡ nodes_of instance.now }
     requires held { HoldsCases branches.now tree.now.scale tree.now.load_unit
         (families_of tree.now.families.now) (steps_of tree.now.steps.now) }
+    requires memory { HoldsMemory branches.now (map (λ list. list.items) tree.now.memories.now)
+        (subset_rows_of tree.now.subset_rows.now) }
     ensures { IfOk result
         (λ found. FindsBound certificates.Branches instance.now branches.now found) }
 {
@@ -386,12 +388,18 @@ fn judge_plan_tree(
         scale: tree.scale,
         unit: tree.load_unit,
         families: tree.families,
+        near: tree.memories,
+        rows: tree.subset_rows,
         steps: tree.steps,
     };
     match judge_plans(alloc, &plans)? {
         PlanVerdict::Bound(Some(bound)) => Ok(BoundVerdict::Bound(bound)),
         PlanVerdict::Bound(None) => Ok(BoundVerdict::NoSolution),
         PlanVerdict::BadFamily(index) => Ok(BoundVerdict::No(Reason::BadFamily {
+            index: index as u32,
+        })),
+        PlanVerdict::BadMemory(node) => Ok(BoundVerdict::No(Reason::BadMemory { node })),
+        PlanVerdict::BadRow(index) => Ok(BoundVerdict::No(Reason::BadRow {
             index: index as u32,
         })),
         PlanVerdict::BadBranch(index) => Ok(BoundVerdict::No(Reason::BadBranch {
@@ -401,5 +409,8 @@ fn judge_plan_tree(
             index: index as u32,
         })),
         PlanVerdict::TooManyLoads => Ok(BoundVerdict::No(Reason::TooManyLoads)),
+        PlanVerdict::TooManyStates(index) => Ok(BoundVerdict::No(Reason::TooManyStates {
+            index: index as u32,
+        })),
     }
 }

@@ -1,5 +1,5 @@
--- A tree of boxes over the nodes of an order, with one node in each leaf, and the nearest node that a search of it
--- finds; nodes with their points and numbers, by their places.
+-- A tree of boxes over the nodes of an order, with a node in each leaf, and what a search of it finds: the nearest node
+-- outside a component. A box may be skipped only if these definitions rule out each of its nodes.
 use Rattle.tsp_bound.specs.Prelude.{ℕ, zero, suc, Bool, true, List, Option, None, Some, length, slice_index_or, slice_set, ℤ, pos, neg_ℤ, IsFromTo, most_number}
 use Rattle.std.specs.Prelude.{◌≡◌, ◌+◌, ◌*◌, ◌/◌, ◌<◌, ◌≤◌, ◌≤ℤ◌, ◌⊎◌}
 use denote.Struct.Props as logic

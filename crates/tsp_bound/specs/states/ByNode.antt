@@ -1,4 +1,4 @@
--- The multipliers of pairs, listed at both nodes of each, and a list of nodes by its places.
+-- The multipliers of pairs listed at both nodes of each, and what such a list takes off a weight.
 use Rattle.tsp_bound.specs.Prelude.{All, AllPairs, ℕ, List, slice_index_or, [], length, ℤ, pos, most_multiplier, IsNode, IsFromTo}
 use Rattle.std.specs.Global.{Vec}
 use Rattle.std.specs.Prelude.{◌≡◌, ◌≢◌, ◌+◌, ◌≤◌, ◌==◌, if◌then◌else◌, ◌∷◌, ◌++◌}

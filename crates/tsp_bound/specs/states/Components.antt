@@ -1,5 +1,5 @@
--- The components of a forest over the places 0..n-1 of an order, each with a label, the lightest links between them,
--- and the twelve lightest links of each place.
+-- The components of a growing forest, each with a label, and the lightest links between them: by labels on boxes, or by
+-- the twelve lightest links of each place. Whatever is chosen, the forest stays part of a least tree (`IsForest`).
 use Rattle.tsp_bound.specs.Prelude.{All, ℕ, Bool, true, not, List, [], length, slice_index_or, Option, None, Some, ℤ, pos, neg_ℤ, IfSome, slice_set, most_nodes, IsFromTo, weight_of, least_at}
 use Rattle.std.specs.Prelude.{◌≡◌, ◌≢◌, ◌+◌, ◌*◌, ◌^◌, ◌==◌, ◌<◌, if◌then◌else◌, ◌≤ℤ◌, ◌⊎◌}
 use Rattle.tsp_theory.specs.Forest.{AreLeastJoins, IsWholeForest}

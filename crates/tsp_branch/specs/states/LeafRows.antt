@@ -1,4 +1,5 @@
--- Rows of a leaf's weights: the links that decisions close, and what sets and decisions add between two nodes.
+-- Rows of a leaf's weights: which links its decisions close, what sets and decisions add between two nodes, and when the
+-- numbers of its nodes fit 64 bits (`AreExact`).
 use Rattle.tsp_branch.specs.Prelude.{list_any, filter, ℕ, List, ℤ, pos, Bool, true, false, map, reverse, slice_index_or, negsuc, neg_ℤ, IsNode, IsFromTo, entry, most_number, least_at, IsAllowed, changes, decided, bears_on, multipliers_at}
 use Rattle.std.specs.Prelude.{◌≡◌, ◌⊎◌, ◌==◌, ◌&&◌, if◌then◌else◌, ◌+ℤ◌, ◌*ℤ◌}
 use Rattle.tsp_theory.specs.Tour.{sum_int_by}

@@ -1,4 +1,5 @@
--- The two numbers of a family as code finds them, and the marks by which it finds a node that comes twice.
+-- The two numbers of a family as the code of src/good_families.rt finds them, and the marks by which it sees that a
+-- node comes twice.
 use Rattle.tsp_cases.specs.Prelude.{Vec, All, ℕ, List, Option, Some, None, length, Bool, false, [], slice_index}
 use Rattle.std.specs.Prelude.{◌<◌, ◌^◌, ◌≡◌, ◌≢◌, ◌==◌, ◌||◌, ◌∷◌}
 use Rattle.tsp_cases.specs.Crossings.{has}

@@ -1,4 +1,5 @@
--- Rows of weights that are kept from leaf to leaf, and the memory that a pass over the leaves writes over.
+-- Rows of weights that are kept from leaf to leaf, always those of the present leaf without its potentials, and the
+-- memory that each leaf overwrites.
 use Rattle.tsp_cases.specs.Prelude.{Vec, w64, int_wrap, All, ℕ, List, length, slice_index_or, ℤ, pos, neg_ℤ, IsNode, IsFromTo, entry, is_same_pair, least_at, IsMoved}
 use Rattle.std.specs.Prelude.{◌≡◌, ◌≢◌, ◌+◌, ◌<◌, ◌≤◌, if◌then◌else◌, ◌+ℤ◌, ◌*ℤ◌, ◌^◌}
 use Rattle.tsp_format.specs.Limits.{most_weight}

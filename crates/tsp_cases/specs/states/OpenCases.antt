@@ -1,4 +1,5 @@
--- The decisions of the open case as code has them: a stack, a list for each node, and how they change weights.
+-- The decisions of the open case as the code has them, a stack and a list for each node, and what each decision does to
+-- a row of weights.
 use Rattle.tsp_cases.specs.Prelude.{Vec, w64, int_wrap, All, filter, ℕ, Bool, true, false, List, [], reverse, Some, None, ℤ, pos, neg_ℤ, not, length, slice_index_or, IsNode, IsFromTo, is_same_pair, adjusted, sum_int_by}
 use Rattle.std.specs.Prelude.{◌≡◌, ◌≢◌, ◌<◌, if◌then◌else◌, ◌+ℤ◌, ◌⊎◌, ◌==◌, ◌||◌, ◌&&◌, ◌+◌, ◌≤◌, ◌∷◌, ◌++◌}
 use Rattle.tsp_cases.specs.Cases.{on_taken, on_avoided, decided_number, next_stack}

@@ -1,4 +1,5 @@
--- The places of the sets that have a node, the fields of `Families`, and what multipliers of sets add to weights.
+-- For each node the sets that have it, the fields of `Families`, and what multipliers of sets add to a node's row of
+-- weights.
 use Rattle.tsp_cases.specs.Prelude.{Vec, All, ℕ, List, [], length, slice_index_or, suc, ℤ, pos, neg_ℤ, IsNode, IsFromTo, weight_between, most_between, adjusted, sum_int_by, crossing, IsMoved}
 use Rattle.std.specs.Prelude.{◌<◌, ◌≡◌, ◌==◌, ◌+◌, ◌++◌, ◌≤◌, if◌then◌else◌, ◌∷◌, ◌+ℤ◌, ◌-ℤ◌, ◌*ℤ◌}
 use Rattle.tsp_cases.specs.CaseTrees.{crossings_of, leaf_weight, multiplied}

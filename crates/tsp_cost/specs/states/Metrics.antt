@@ -1,4 +1,5 @@
--- The weight type of each `Metric`, distances of points on a grid, and the sum of costs along a list of nodes.
+-- The weight type that each `Metric` stands for, distances of points on a grid for the shortcut of EUC_2D, and sums of
+-- costs along a list of nodes.
 use Rattle.tsp_cost.specs.Prelude.{ℕ, List, length, slice_index_or, ℤ, pos, squared, Point, links_to, sum_int_by}
 use Rattle.std.specs.Prelude.{◌+◌, ◌-◌, ◌*◌, ◌<◌, ◌≤◌, ◌≡◌, ◌∷◌, ◌++◌, ◌+ℤ◌, ◌≤ℤ◌}
 use Rattle.tsp_format.specs.declared.kinds.WeightKind.{WeightKind}

@@ -1,4 +1,5 @@
--- What `Instance` has found out of its file when it was made: the number of nodes, and where their costs are.
+-- What an `Instance` found out when it was made, the number of its nodes and where their costs are, and that each of
+-- its views has the costs of its file.
 use Rattle.tsp_cost.specs.Prelude.{ℕ, Some, IsSome, IsTrue, true, false, length, map, ℤ, on_plane, Point, listed_cost, distance, point_of, cost, Fields}
 use Rattle.std.specs.Prelude.{◌≡◌, ◌≢◌}
 use Rattle.tsp_number.specs.declared.decimal.PlanePoint.{PlanePoint}

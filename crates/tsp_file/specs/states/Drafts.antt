@@ -1,4 +1,5 @@
--- The fields of a draft as lists, and the states of a change of layout: half and full matrices, rows and columns.
+-- The fields of a `Draft` as the lists of `Fields`, and the states through which a matrix goes while its layout
+-- changes: halves, full matrices, rows and columns.
 use Rattle.tsp_file.specs.Prelude.{All, option_map, ℕ, Some, Bool, true, false, nat_le, List, slice_index_or, ℤ, pos, map, on_plane, Point, most_weight, IsNode, cells_of_line, line_len_of, Listed, Layout, FullMatrix, UpperRow, LowerRow, UpperDiagRow, LowerDiagRow, UpperCol, LowerCol, UpperDiagCol, LowerDiagCol, subset_rows_of, steps_of}
 use Rattle.std.specs.Global.{Vec}
 use Rattle.std.specs.Prelude.{◌+◌, ◌≡◌, ◌≢◌, ◌-◌, ◌*◌, ◌<◌, ◌≤◌}

@@ -1,4 +1,4 @@
--- The costs that the listed weights of a file give.
+-- The costs that `ListedWeights` (src/typed.rt) gives, as a function of two nodes.
 use Rattle.std.specs.Prelude.{ℕ, ℤ}
 use Rattle.tsp_file.specs.declared.typed.ListedWeights.{ListedWeights}
 use Rattle.tsp_file.specs.Cost.{listed_cost}

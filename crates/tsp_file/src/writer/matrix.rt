@@ -1,4 +1,6 @@
-//! Writes EDGE_WEIGHT_SECTION, a line for each line of its layout.
+//! Writes EDGE_WEIGHT_SECTION, a line for each line of the layout (`matrix_lines` in
+//! `specs/CanonicalText.antt`). It is by far the longest section of most files that have one, so
+//! numbers are written into blocks of bytes here, and not one by one.
 
 ghost use Rattle.tsp_file.specs.Prelude.{decimal, flat_map, option_map, length, map, drop, IfSome, cells_of_line, nodes_to};
 ghost use Rattle.std.specs.Fmt.{signed_decimal};
@@ -12,7 +14,7 @@ use tsp_format::{Field, Layout, WeightFormat};
 use tsp_io::{Piece, Watched, put, put_next_number, put_number};
 use tsp_number::write_pair;
 
-/// Adds weights, each after a blank.
+/// Adds weights, with a blank before each.
 fn put_more_weights<W: Write>(piece: &mut Piece, out: &mut Watched<W>, weights: &[i64])
     ensures { Puts W.contents out.old piece.old out.new piece.new
         (flat_map (λ word. 32 ∷ word) (map signed_decimal weights.now)) }
@@ -26,7 +28,7 @@ fn put_more_weights<W: Write>(piece: &mut Piece, out: &mut Watched<W>, weights: 
     }
 }
 
-/// Adds the line of some weights, none if there are none.
+/// Adds a line with these weights; no line if there are none.
 fn put_weight_line<W: Write>(piece: &mut Piece, out: &mut Watched<W>, weights: &[i64])
     ensures { Puts W.contents out.old piece.old out.new piece.new (weight_line weights.now) }
 {
@@ -53,7 +55,7 @@ fn put_lines<W: Write>(
 {
     let mut rest = weights;
     'lines: for index in 0..nodes {
-        // Nothing more comes to a writer that has failed: the digits of the rest would be wasted.
+        // A writer that has failed gets nothing more, so there is no need to make digits for it.
         if out.failed() {
             return;
         }
@@ -115,8 +117,8 @@ const MOST_WEIGHTS: usize = 64;
 /// The bytes of a block: a blank and eight digits for each weight.
 const BLOCK: usize = 576;
 
-/// Writes weights, each after a blank, so that they end with the block, and returns where they
-/// begin; none if one of them is negative or has more than eight digits.
+/// Writes weights, with a blank before each, at the end of the block, and returns where they begin;
+/// `None` if one of them is negative or has more than eight digits.
 fn fill(weights: &[i64], block: &mut [u8; BLOCK]) -> Option<usize>
     requires { length weights.now ≤ 64 }
     ensures { IfSome result (λ start. (start ≤ 576)
@@ -134,7 +136,7 @@ fn fill(weights: &[i64], block: &mut [u8; BLOCK]) -> Option<usize>
     Some(start)
 }
 
-/// Adds weights one by one, each after a blank.
+/// Adds weights one by one, with a blank before each.
 fn put_each<W: Write>(piece: &mut Piece, out: &mut Watched<W>, weights: &[i64])
     ensures { Puts W.contents out.old piece.old out.new piece.new
         (flat_map (λ weight. 32 ∷ signed_decimal weight) weights.now) }
@@ -144,7 +146,7 @@ fn put_each<W: Write>(piece: &mut Piece, out: &mut Watched<W>, weights: &[i64])
     }
 }
 
-/// Adds weights, each after a blank, by a block whose bytes are overwritten.
+/// Adds weights, with a blank before each, through the block, which is overwritten.
 fn put_block<W: Write>(
     piece: &mut Piece,
     out: &mut Watched<W>,
@@ -171,11 +173,10 @@ fn digit_count(number: u32) -> usize
     number.max(1).ilog10() as usize + 1
 }
 
-/// Writes the digits of a number of at most eight so that they end at a place, and returns where
-/// they begin.
+/// Writes a number of at most eight digits so that it ends at a place, and returns where it begins.
 ///
-/// All eight are written, the zeros before them too, since no processor foresees how many digits
-/// the next number has. Whatever comes before the number is written after it.
+/// Eight digits are always written, with zeros in front, because no processor could predict how
+/// many the next number has. What belongs before the number is written over the zeros afterwards.
 #[inline(always)]
 fn write_digits(number: u32, block: &mut [u8], end: usize) -> usize
     requires few { number < 100000000 }

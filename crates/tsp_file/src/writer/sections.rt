@@ -1,5 +1,6 @@
-//! Writes the sections of a canonical text but for weights and trees of cases: numbers and points
-//! by node, nodes, pairs, triples, tours.
+//! Writes the sections of a canonical text that list points or numbers by node, nodes, pairs,
+//! triples, or tours. Each line is fixed by `specs/CanonicalText.antt`; a point's line is built in
+//! one block of bytes, for speed.
 
 ghost use Rattle.tsp_file.specs.Prelude.{decimal, flat_map, option_map, [], map, cond, length, drop, field_word};
 ghost use Rattle.std.specs.Fmt.{signed_decimal};
@@ -142,7 +143,7 @@ pub(crate) fn put_number_section<W: Write>(
     }
 }
 
-/// Adds a section of coordinates, three of each node in space and two in the plane, if the file
+/// Adds a section of coordinates, three for each node in space and two in the plane, if the file
 /// has it.
 pub(crate) fn put_point_section<W: Write>(
     piece: &mut Piece,
@@ -249,7 +250,7 @@ fn write_coordinate(coordinate: Decimal, line: &mut [u8], end: usize) -> usize
     start
 }
 
-/// Writes the end of a line, and before it the third coordinate of a point in space, and returns
+/// Writes the end of a line, preceded by the third coordinate of a point in space, and returns
 /// where they begin.
 #[inline(always)]
 fn write_line_end(third: Decimal, spatial: bool, line: &mut [u8; POINT_LINE]) -> usize
@@ -266,8 +267,8 @@ fn write_line_end(third: Decimal, spatial: bool, line: &mut [u8; POINT_LINE]) ->
     end
 }
 
-/// Writes the line of a node and its coordinates, three in space and two in the plane, so that it
-/// ends with the block, and returns where it begins.
+/// Writes the line of a node and its coordinates, three in space and two in the plane, at the end
+/// of the block, and returns where it begins.
 #[inline(always)]
 fn write_point_line(node: usize, point: Point, spatial: bool, line: &mut [u8; POINT_LINE]) -> usize
     ensures begins { result ≤ 87 }
@@ -280,7 +281,7 @@ fn write_point_line(node: usize, point: Point, spatial: bool, line: &mut [u8; PO
     write_digits(node as u64, line, first)
 }
 
-/// Adds the line of a node and its coordinates, by a block whose bytes are overwritten.
+/// Adds the line of a node and its coordinates through the block, which is overwritten.
 fn put_point_line<W: Write>(
     piece: &mut Piece,
     out: &mut Watched<W>,

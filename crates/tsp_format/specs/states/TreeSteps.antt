@@ -1,5 +1,5 @@
--- The steps of a tree of cases and subset rows where code has them as vectors: `TreeStep` and `RowSets` (src/steps.rt), as the definitions of
--- Steps.antt. Seven crates above import it too.
+-- The steps and subset rows of Steps.antt where code holds them as vectors (`TreeStep` and `RowSets`, src/steps.rt). A
+-- bridge between the two, and nothing more.
 use Rattle.std.specs.Prelude.{List, map}
 use Rattle.tsp_format.specs.declared.steps.RowSets.{RowSets}
 use Rattle.tsp_format.specs.declared.steps.TreeStep.{TreeStep}

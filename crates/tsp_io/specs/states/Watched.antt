@@ -1,4 +1,5 @@
--- The fields of a watched reader or writer, and how far a text has come on its way to a writer.
+-- What the code of this crate keeps of a reader or writer (`Watched`), when a call counts as failed, and `Puts`, by
+-- which functions say that they added bytes to a text on its way out.
 use Rattle.std.specs.Io.KnownBytes.{Appends}
 use Rattle.std.specs.IoError.{error_kind}
 use Rattle.std.specs.Prelude.{◌≡◌, ℕ, ◌<◌, Bool, true, List, length, Option, Some, Result, Ok, Err, ◌&&◌, ◌==◌, nat_lt, false, ◌++◌, ◌⊎◌, [], ◌∷◌}

@@ -1,4 +1,5 @@
--- The number word at the beginning of some bytes, and the parts of a number word as code has them.
+-- How the code sees a number word while it reads one: how far it goes from the beginning of some bytes, and its parts
+-- with values cut off at 64 bits. No promise names these definitions; they may follow the code.
 use Rattle.std.specs.Char.{is_ascii_digit}
 use Rattle.std.specs.List.{prefix_len}
 use Rattle.std.specs.Prelude.{ℕ, ◌≤◌, ◌+◌, ◌==◌, ◌||◌, ◌&&◌, cond, nat_le, nat_lt, min, List, [], ◌∷◌, length, take, drop, slice_index, Option, None, Some, ℤ, ◌≡◌, ◌≢◌, ◌*◌, ◌-◌, ◌^◌, ◌++◌, pos, negsuc}

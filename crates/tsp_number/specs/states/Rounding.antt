@@ -1,4 +1,5 @@
--- When a whole number is large enough to be the rounded root of a square, which is what the search for it tests.
+-- When a whole number is large enough to be the rounded root of a square: the test by which the search for a root is
+-- guided. Each kind of rounding is tied to its distance by a proof, so users never see it.
 use Rattle.std.specs.Prelude.{ℕ, ◌+◌, ◌-◌, ◌*◌, ◌^◌, ◌<◌, ◌≤◌}
 use Rattle.tsp_number.specs.declared.root.Rounding.{Rounding}
 use Rattle.tsp_number.specs.declared.root.Rounding.TheVariants.{Nearest, Up, TenthUp}

@@ -1,4 +1,5 @@
--- That the part of an open section has the words of the section so far, for each shape.
+-- For each shape of section, that the list being filled holds exactly what the section's words so far mean. These are
+-- the invariants of the lists in src; a new shape needs one.
 use Rattle.tsp_read.specs.Prelude.{ℕ, ℤ, Bool, cond, List, length, map, false, is_some, [], Ok, most_families, most_rows, points_of, families_of, subset_rows_of, place_by, FamiliesSoFar, families_after, MemoriesSoFar, memories_after, RowsSoFar, rows_after, TreeSoFar, tree_after}
 use Rattle.std.specs.Prelude.{◌≡◌, ◌+◌, ◌≤◌, ◌∷◌, ◌++◌}
 use Rattle.tsp_format.specs.declared.keyword.Shape.{Shape}

@@ -1,4 +1,4 @@
--- The items of the text that isn't taken yet, and where its next line or word ends.
+-- The items of the part of a text that hasn't been taken yet, and where its next line or word ends.
 use Rattle.tsp_read.specs.Prelude.{position_or_len, ℕ, Bool, true, false, not, nat_lt, List, [], length, map, take, drop, cond, most_word_bytes, most_line_bytes, is_blank, is_letter, lines_of, words_in, ends_line, is_not_empty, Item, NumberWord, LineEnd, line_item, items_in, items_by, settled_words, settled_in}
 use Rattle.std.specs.Prelude.{◌||◌, ◌∷◌, ◌++◌, ◌&&◌}
 use Rattle.tsp_read.specs.declared.items.Next.{Next}

@@ -1,4 +1,4 @@
--- A run of plain numbers in the open section, which is read in one pass, and the word at the beginning of a text.
+-- That a run of plain numbers read in one pass (src/runs.rt) leaves the same state as its words read one by one.
 use Rattle.tsp_read.specs.Prelude.{ℕ, List, length, Option, None, Some, Bool, true, [], is_blank, ends_line, without_start, NumberWord}
 use Rattle.std.specs.Prelude.{◌+◌, ◌≤◌, ◌<◌, ◌≡◌, ◌∷◌, ◌⊎◌}
 use Rattle.tsp_format.specs.declared.keyword.Field.{Field}

@@ -9,8 +9,8 @@ use Rattle.tsp_routing.specs.declared.units.Demands.{Demands}
 use Rattle.tsp_routing.specs.declared.verdict.JudgedCuts.{JudgedCuts}
 use Rattle.tsp_routing.specs.declared.verdict.JudgedCuts.TheVariants as judged
 use Rattle.tsp_routing.specs.declared.verdict.PlanScratch.{PlanScratch}
-use Rattle.tsp_routing.specs.declared.verdict.PlanVerdict.{PlanVerdict}
-use Rattle.tsp_routing.specs.declared.verdict.PlanVerdict.TheVariants as verdict
+use Rattle.tsp_routing.specs.declared.plan_tree.PlanVerdict.{PlanVerdict}
+use Rattle.tsp_routing.specs.declared.plan_tree.PlanVerdict.TheVariants as verdict
 use Rattle.tsp_routing.specs.states.Demands.{loads_problem}
 
 -- a potential for each node, a multiplier for each family, and a row of numbers by node
@@ -37,8 +37,7 @@ IsLeafVerdict problem scale unit light count families steps verdict.TooManyLoads
 IsLeafVerdict problem scale unit light count families steps (verdict.Bound found) =
     AreGoodPlanLeaves problem.nodes count steps × (entries_in problem unit light ≤ most_entries)
     × IsPlanTreeBound problem scale unit light families (listed_steps problem.nodes count steps) found
-IsLeafVerdict problem scale unit light count families steps (verdict.BadFamily family) = ⊥
-IsLeafVerdict problem scale unit light count families steps (verdict.BadBranch branch) = ⊥
+IsLeafVerdict problem scale unit light count families steps other = ⊥
 
 -- ---- the judgement on the families of a certificate for routes
 

@@ -1,4 +1,5 @@
--- A row of weights by node, its nearest nodes, and an entry after a number was added to it.
+-- What Prim's algorithm keeps for each node outside the tree, the nearest node inside and the weight to it; and an
+-- entry of a row after a number was added to it.
 use Rattle.std.specs.Int.{w64, int_wrap}
 use Rattle.std.specs.Prelude.{◌≡◌, ℕ, Bool, false, List, slice_index_or, ◌⊎◌, ℤ, pos, ◌≤ℤ◌, ◌<ℤ◌, ◌+ℤ◌}
 

@@ -1,6 +1,6 @@
 -- The goals of `judge_leaves` in src/pass.rt, which finds the least bound of all leaves, or the first bad leaf: its
 -- loop, what its calls require and what it ensures.
-use Rattle.tsp_cases.proofs.Prelude.{rules, ℕ, ℤ, Bool, true, List, [], Option, None, Some, inl, ◌++◌, ◌+◌, ◌^◌, ◌<◌, length, drop, replicate, ◌≡◌, sym, ap, ap₂, subst, ◌∙◌, arith, pos, All, ∥∥₁_elim, props, ints, length_push, length-replicate, get_or-replicate, TreeStep, steps_of}
+use Rattle.tsp_cases.proofs.Prelude.{rules, ℕ, ℤ, true, List, [], Option, None, Some, inl, ◌++◌, ◌+◌, ◌^◌, ◌<◌, length, drop, replicate, ◌≡◌, sym, ap, ap₂, subst, ◌∙◌, arith, pos, All, ∥∥₁_elim, props, ints, length_push, length-replicate, get_or-replicate, TreeStep, steps_of}
 use Rattle.tsp_format.specs.declared.steps.TreeStep.TheVariants as code
 use Rattle.tsp_format.specs.Steps as listed
 use Rattle.tsp_cases.specs.Cases.{LeafNumbers}
@@ -9,7 +9,7 @@ use Rattle.tsp_cases.specs.declared.decision.Decision.{Decision}
 use Rattle.tsp_cases.specs.states.OpenCases.{IsDecision, IsNextStack, stack_of, IsOpenCase, decisions_in}
 use Rattle.tsp_cases.specs.states.Kept.{AreSmall}
 use Rattle.tsp_cases.specs.JudgedLeaves.{IsJudgedLeaf}
-use Rattle.tsp_cases.proofs.Passes.{IsAtStep, IsPassing, at_start, at_branch, few_decided, whole_trees, at_next, all_passed, bad_here, after_found, small_found, fits_here, low_sized, own_step, written}
+use Rattle.tsp_cases.proofs.Passes.{IsAtStep, IsPassing, at_start, at_branch, whole_trees, at_next, all_passed, bad_here, after_found, small_found, low_sized, own_step, written}
 use Rattle.tsp_cases.proofs.OpenCases.{one_above}
 use Rattle.tsp_cases.proofs.pass.judge_leaves.Goals as goal
 use Rattle.tsp_cases.proofs.pass.judge_leaves.Goals.{in-Branch+in_ok-take-in-Branch, in-Leaf+in_ok-judged-in-Leaf+in-Found+in_ok-next-in-Leaf}

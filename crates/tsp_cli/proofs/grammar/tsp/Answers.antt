@@ -1,7 +1,7 @@
--- The goals of `tsp` in src/grammar.rt, which is the program's command with its five subcommands: what the calls
+-- The goals of `tsp` in src/grammar.rt, which is the program's command with its six subcommands: what the calls
 -- require, and what it ensures.
 use Rattle.clap.specs.Words.{App, with_subcommand}
-use Rattle.tsp_cli.specs.Grammar.{bound, check, compare, convert, show, start}
+use Rattle.tsp_cli.specs.Grammar.{bound, check, compare, convert, show, solution_verb, start}
 use Rattle.tsp_cli.proofs.Subcommands.{free}
 use Rattle.tsp_cli.proofs.grammar.tsp.Goals as goal
 
@@ -16,6 +16,9 @@ checked = with_subcommand converted check.top
 
 abbrev compared : App
 compared = with_subcommand checked compare.top
+
+abbrev bounded : App
+bounded = with_subcommand compared bound.top
 
 -- plan: the commands are added one by one, and none has a global argument (`free`)
 pub then_command-one-requires-clause-globals : goal.then_command-one-requires-clause-globals
@@ -47,16 +50,27 @@ then_command-four-requires-clause-globals c = free checked c.then_command-three.
 pub then_command-four-requires-clause-sub : goal.then_command-four-requires-clause-sub
 then_command-four-requires-clause-sub c = free compare c.compare.result c.compare.ensures
 
-pub then_command-requires-clause-globals : goal.then_command-requires-clause-globals
-then_command-requires-clause-globals c = free compared c.then_command-four.result
+pub then_command-five-requires-clause-globals : goal.then_command-five-requires-clause-globals
+then_command-five-requires-clause-globals c = free compared c.then_command-four.result
     (c.then_command-four.ensures checked compare (c.then_command-three.ensures converted check (c.then_command-two.ensures shown convert
     (c.then_command-one.ensures start show c.top.ensures c.show.ensures) c.convert.ensures) c.check.ensures) c.compare.ensures)
 
+pub then_command-five-requires-clause-sub : goal.then_command-five-requires-clause-sub
+then_command-five-requires-clause-sub c = free bound c.bound.result c.bound.ensures
+
+pub then_command-requires-clause-globals : goal.then_command-requires-clause-globals
+then_command-requires-clause-globals c = free bounded c.then_command-five.result
+    (c.then_command-five.ensures compared bound (c.then_command-four.ensures checked compare (c.then_command-three.ensures converted check
+    (c.then_command-two.ensures shown convert
+    (c.then_command-one.ensures start show c.top.ensures c.show.ensures) c.convert.ensures) c.check.ensures) c.compare.ensures) c.bound.ensures)
+
 pub then_command-requires-clause-sub : goal.then_command-requires-clause-sub
-then_command-requires-clause-sub c = free bound c.bound.result c.bound.ensures
+then_command-requires-clause-sub c = free solution_verb c.solution.result c.solution.ensures
 
 pub returns : goal.returns
 returns c =
-    c.then_command.ensures compared bound (c.then_command-four.ensures checked compare (c.then_command-three.ensures converted check
+    c.then_command.ensures bounded solution_verb (c.then_command-five.ensures compared bound (c.then_command-four.ensures checked compare
+    (c.then_command-three.ensures converted check
     (c.then_command-two.ensures shown convert
-    (c.then_command-one.ensures start show c.top.ensures c.show.ensures) c.convert.ensures) c.check.ensures) c.compare.ensures) c.bound.ensures
+    (c.then_command-one.ensures start show c.top.ensures c.show.ensures) c.convert.ensures) c.check.ensures) c.compare.ensures) c.bound.ensures)
+    c.solution.ensures

@@ -8,7 +8,7 @@ use Rattle.tsp_cli.specs.declared.job.InputPath.{InputPath}
 use Rattle.tsp_cli.specs.declared.job.Job.{Job}
 use Rattle.tsp_cli.specs.declared.job.JobFault.TheVariants.{OutOfMemory, Refused}
 use Rattle.tsp_cli.specs.declared.ends.RunEnd.{RunEnd}
-use Rattle.tsp_cli.specs.declared.ends.RunEnd.TheVariants.{NoJob, Printed, NoTask, Ended, Compared}
+use Rattle.tsp_cli.specs.declared.ends.RunEnd.TheVariants.{NoJob, Printed, NoTask, Ended, Compared, Solved}
 use Rattle.tsp_io.specs.states.Watched.{sink_of}
 use Rattle.tsp_cli.specs.RunEnd.{Tells, TellsAll}
 use Rattle.tsp_cli.specs.ProgramRun.{EndsProgram, EndsRefused, EndsWith}
@@ -35,6 +35,7 @@ ends_refused remaining reads opens on_terminal build words sink refusal gives (P
 ends_refused remaining reads opens on_terminal build words sink refusal gives (NoTask fault) ends = absurd ends
 ends_refused remaining reads opens on_terminal build words sink refusal gives (Ended answer) ends = absurd ends
 ends_refused remaining reads opens on_terminal build words sink refusal gives (Compared answer) ends = absurd ends
+ends_refused remaining reads opens on_terminal build words sink refusal gives (Solved answer) ends = absurd ends
 
 -- and no more than its line is reported
 tells_refused : (build : Text) (words : List Text) (sink : Sink) (refusal : Refusal) (run_end : RunEnd) → EndsRefused build words sink refusal run_end
@@ -44,6 +45,7 @@ tells_refused build words sink refusal (Printed printed) ends old new reported =
 tells_refused build words sink refusal (NoTask fault) ends old new reported = absurd ends
 tells_refused build words sink refusal (Ended answer) ends old new reported = absurd ends
 tells_refused build words sink refusal (Compared answer) ends old new reported = absurd ends
+tells_refused build words sink refusal (Solved answer) ends old new reported = absurd ends
 
 on_ok : {A B : Type 0} (r : Result A B) (P Q : Type 0) → (P → Q) → OnOk r P → OnOk r Q
 on_ok (Ok a) P Q f reported = f reported
@@ -80,6 +82,7 @@ ends_as_its_job remaining reads opens on_terminal build words sink job gives (Pr
 ends_as_its_job remaining reads opens on_terminal build words sink job gives (NoTask fault) ends = (job, gives, ends, refl)
 ends_as_its_job remaining reads opens on_terminal build words sink job gives (Ended answer) ends = (job, gives, ends, refl)
 ends_as_its_job remaining reads opens on_terminal build words sink job gives (Compared answer) ends = (job, gives, ends, refl)
+ends_as_its_job remaining reads opens on_terminal build words sink job gives (Solved answer) ends = (job, gives, ends, refl)
 
 pub returns : goal.returns
 returns g c =

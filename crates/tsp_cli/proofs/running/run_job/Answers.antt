@@ -1,13 +1,20 @@
 -- The goals of `run_job` in src/running.rt, which does a job and returns how it ended: what it ensures.
+use Rattle.std.proofs.Common.{inl}
 use Rattle.tsp_cli.proofs.Prelude.{◌≡◌, refl, subst, Ok, Keeps-refl}
 use Rattle.tsp_cli.specs.Tasks.{GivesTask}
 use Rattle.tsp_cli.specs.declared.ends.RunEnd.TheVariants.{NoTask, Ended, Compared}
 use Rattle.tsp_cli.proofs.running.run_job.Goals as goal
 
--- plan: by the job: no task, a task, or a comparison
+-- plan: by the job: a solution, no task, a task, or a comparison
+pub returns-then-asks_solution : goal.returns-then-asks_solution
+returns-then-asks_solution g c =
+    let ran = c.run_solution.ensures in
+    (ran.0, ran.1, rw (← c.is_explained-explain.ensures) ran.2)
+
 pub returns-in-Err : goal.returns-in-Err
 returns-in-Err g c =
-    (NoTask c.in-Err.fault, (c.in-Err.ensures, (Keeps-refl _, refl)), (c.status_of_run_end.ensures, rw (← c.is_explained-explain.ensures) c.tell_fault_of_job-reported.ensures))
+    let none = inl (c.asks_solution.ensures.no c.if-asks_solution.false, c.in-Err.ensures) in
+    (NoTask c.in-Err.fault, (none, (Keeps-refl _, refl)), (c.status_of_run_end.ensures, rw (← c.is_explained-explain.ensures) c.tell_fault_of_job-reported.ensures))
 
 pub returns-in-Files : goal.returns-in-Files
 returns-in-Files g c =

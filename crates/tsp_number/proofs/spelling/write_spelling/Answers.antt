@@ -1,6 +1,6 @@
 -- The goals of `write_spelling` in src/spelling.rt, which writes the text of a decimal so that it ends at a place: that
 -- no difference overflows, what its call requires, where the text begins, and what it is.
-use Rattle.tsp_number.proofs.Prelude.{◌≡◌, ◌+◌, ◌-◌, ◌/◌, ◌%◌, ◌≤◌, ◌∷◌, ◌++◌, ℕ, List, false, length, drop, ap, sym, ◌∙◌, append_assoc, unsigned_abs, arith, rules, ℤ, pos, FitsSigned, w64, to_z-of_z, drop-set}
+use Rattle.tsp_number.proofs.Prelude.{◌≡◌, ◌+◌, ◌-◌, ◌/◌, ◌%◌, ◌≤◌, ◌∷◌, ◌++◌, ℕ, List, false, length, drop, ap, sym, ◌∙◌, append_assoc, unsigned_abs, arith, rules, pos, FitsSigned, w64, to_z-of_z, drop-set}
 use Rattle.std.specs.Fmt.{decimal}
 use Rattle.tsp_number.specs.Decimal.{unit, most_count}
 use Rattle.tsp_number.specs.NumberWord.{minus, fraction_spelling, spelling}

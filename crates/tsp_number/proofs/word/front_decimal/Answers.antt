@@ -1,6 +1,6 @@
 -- The goals of `front_decimal` in src/word.rt, which reads a short decimal at the beginning of bytes: that no sum
 -- overflows, what its calls require and what it ensures.
-use Rattle.tsp_number.proofs.Prelude.{◌≡◌, ◌≢◌, ◌∙◌, ◌+◌, ◌<◌, ◌≤◌, ◌⊎◌, ap, sym, inl, inr, length, get_or, arith, rules, FitsSigned, w64, to_z-of_z, take_rest}
+use Rattle.tsp_number.proofs.Prelude.{◌≢◌, ◌∙◌, ◌+◌, ◌<◌, ◌≤◌, ◌⊎◌, ap, sym, inl, inr, length, get_or, arith, rules, FitsSigned, w64, to_z-of_z, take_rest}
 use Rattle.tsp_number.specs.states.Digits.{end_of_digits}
 use Rattle.tsp_number.proofs.FrontNumbers.{HasWhole, whole_front, decimal_front, small_unit, small_decimal, decimal_ends, ends_past_point, no_end_at_point, ends_without_point, some_end}
 use Rattle.tsp_number.proofs.NumberGrammar.{unsigned_abs-signed}

@@ -1,13 +1,17 @@
 -- The goals of `judge_tour_tree` in src/certificate.rt, which bounds by a tree of cases, or returns the first reason:
 -- the facts of the cases that it makes, that places fit 32 bits, and what it ensures.
-use Rattle.tsp_verdict.proofs.Prelude.{◌≡◌, ◌∙◌, ℕ, ℤ, List, length, ap, sym, subst, arith, rules, FitsSigned, to_z, of_z, w64, w128, Option, None, Some, unwrap_or, All, Vec, to_z-of_z, length-map, most_fixed, families_of, IsPairOf, IsScale, IsListedStep, nodes_of}
-use Rattle.tsp_format.specs.states.TreeSteps.{step_of, steps_of}
+use Rattle.tsp_verdict.proofs.Prelude.{◌≡◌, ◌∙◌, ℕ, ℤ, List, map, length, ap, sym, subst, arith, rules, FitsSigned, to_z, of_z, w64, w128, Option, None, Some, unwrap_or, All, Vec, to_z-of_z, length-map, most_fixed, families_of, IsPairOf, IsScale, IsListedStep, nodes_of, memories_listed, Reason, Branches}
+use Rattle.tsp_format.specs.states.TreeSteps.{step_of, steps_of, subset_rows_of}
+use Rattle.tsp_format.specs.Steps.{SubsetRow}
 use Rattle.tsp_branch.specs.declared.verdict.BranchVerdict.TheVariants as found
 use Rattle.tsp_branch.specs.BranchVerdicts.{IsBranchVerdict, IsSizedVerdict}
 use Rattle.tsp_cases.specs.Crossings.{AreFamiliesOf, lists_of}
 use Rattle.tsp_verdict.proofs.RouteFiles.{steps_hold, steps_few}
 use Rattle.tsp_verdict.proofs.GivenPairs.{given_once, given_are, given_few}
-use Rattle.tsp_verdict.proofs.TreeReasons.{families_hold, families_few, directed_is, symmetric_view, no_tour, are_of, reported, twice_within, bad_within, family_first, pairs_few, pair_first, twice_first, leaf_first, nothing_applies, certified}
+use Rattle.tsp_verdict.proofs.TreeReasons.{families_hold, families_few, directed_is, symmetric_view, no_tour, are_of, reported, twice_within, bad_within, family_first, pairs_few, pair_first, twice_first, leaf_first, nothing_applies, certified, lists_neither, lists_some, memory_first}
+use Rattle.tsp_verdict.specs.Certified.{AppliesToCertificate}
+use Rattle.tsp_verdict.specs.Solutions.{IsFirstReason}
+use Rattle.tsp_verdict.specs.states.MemoryReasons.{IsMemoryReason, IsBadFamilyIfAny}
 use Rattle.tsp_verdict.proofs.certificate.judge_tour_tree.Goals as goal
 
 -- plan: by the verdict on the tree: each of its reasons is the first of the file's, and its bound is the certificate's
@@ -43,6 +47,25 @@ invariant_of-cases g c =
       whole = held.each_step.whole;
     }
 
+pub memory_reason-requires : goal.memory_reason-requires
+memory_reason-requires g c =
+    lists_some (nodes_of c.args.branches.now) c.args.tree.now.memories.now c.requires.memory.each_list
+
+pub returns-in-Some : goal.returns-in-Some
+returns-in-Some g c =
+    let instance = c.args.instance.now in
+    let tree = c.args.branches.now in
+    let n : ℕ = g.C.Costs.nodes c.args.costs.now in
+    let own : n ≡ nodes_of instance = sym (ap (λ (d : Option ℕ). unwrap_or d 0) c.requires.keeps.count) in
+    let families : List (List (List ℕ)) = families_of c.args.tree.now.families.now in
+    let rows : List SubsetRow = subset_rows_of c.args.tree.now.subset_rows.now in
+    let bad = subst (λ (fs : List (List (List ℕ))). IsBadFamilyIfAny (nodes_of instance) fs c.in_ok-family.family) c.requires.held.families_kept
+    (subst (λ (k : ℕ). IsBadFamilyIfAny k families c.in_ok-family.family) own c.in_ok-family.ensures) in
+    let against = subst (λ (rs : List SubsetRow). IsMemoryReason (memories_listed tree) rs (Some c.in-Some.reason)) c.requires.memory.rows_kept
+    (subst (λ (ls : List (List ℕ)). IsMemoryReason ls rows (Some c.in-Some.reason)) c.requires.memory.lists_kept c.in-Some.ensures) in
+    subst (λ (r : Reason). IsFirstReason (AppliesToCertificate Branches instance tree) r) (sym c.family_or.ensures)
+    (memory_first instance tree c.in_ok-family.family c.in-Some.reason c.requires.kind c.requires.sort c.requires.count bad against)
+
 pub returns-in-Bound-Some : goal.returns-in-Bound-Some
 returns-in-Bound-Some g c =
     let whole = c.in-Bound-Some.is ∙ ap (λ (o : Option ℤ). found.Bound o) c.in-Bound-Some.field-0-is in
@@ -54,13 +77,16 @@ returns-in-Bound-Some g c =
     let families : List (List (List ℕ)) = families_of kept_families in
     let given = c.deref.result.now in
     let steps = steps_of c.args.tree.now.steps.now in
+    let lists : List (List ℕ) = map (λ (list : Vec ℕ). list.items) c.args.tree.now.memories.now in
+    let rows : List SubsetRow = subset_rows_of c.args.tree.now.subset_rows.now in
     let scaled : FitsSigned w64 c.args.tree.now.scale = search rules in
     let are = are_of instance tree c.is_directed-directed.result n (to_z w64 (of_z w64 c.args.tree.now.scale)) kept_families
     c.fixed.result.now given steps
     (directed_is c.is_directed-directed.result instance c.kind.result c.is_directed-directed.ensures c.kind.ensures.value)
     c.requires.keeps.count
     (to_z-of_z w64 c.args.tree.now.scale scaled ∙ c.requires.held.scale_is) c.requires.held.families_kept c.fixed.ensures.value
-    (c.deref.ensures.value ∙ c.in_ok-given.ensures) c.requires.held.steps_are in
+    (c.deref.ensures.value ∙ c.in_ok-given.ensures) c.requires.held.steps_are
+    (lists_neither c.args.branches.now lists rows c.requires.memory c.in_default.ensures) in
     let bound = c.in-Bound-Some.bound in
     let is = subst (IsBranchVerdict c.is_directed-directed.result n costs (to_z w64 (of_z w64 c.args.tree.now.scale)) families
     given steps) whole c.in_ok-bound.ensures.verdict in
@@ -85,13 +111,16 @@ returns-in-Bound-None g c =
     let families : List (List (List ℕ)) = families_of kept_families in
     let given = c.deref.result.now in
     let steps = steps_of c.args.tree.now.steps.now in
+    let lists : List (List ℕ) = map (λ (list : Vec ℕ). list.items) c.args.tree.now.memories.now in
+    let rows : List SubsetRow = subset_rows_of c.args.tree.now.subset_rows.now in
     let scaled : FitsSigned w64 c.args.tree.now.scale = search rules in
     let are = are_of instance tree c.is_directed-directed.result n (to_z w64 (of_z w64 c.args.tree.now.scale)) kept_families
     c.fixed.result.now given steps
     (directed_is c.is_directed-directed.result instance c.kind.result c.is_directed-directed.ensures c.kind.ensures.value)
     c.requires.keeps.count
     (to_z-of_z w64 c.args.tree.now.scale scaled ∙ c.requires.held.scale_is) c.requires.held.families_kept c.fixed.ensures.value
-    (c.deref.ensures.value ∙ c.in_ok-given.ensures) c.requires.held.steps_are in
+    (c.deref.ensures.value ∙ c.in_ok-given.ensures) c.requires.held.steps_are
+    (lists_neither c.args.branches.now lists rows c.requires.memory c.in_default.ensures) in
     let is = subst (IsBranchVerdict c.is_directed-directed.result n costs (to_z w64 (of_z w64 c.args.tree.now.scale)) families
     given steps) whole c.in_ok-bound.ensures.verdict in
     let all_reported = reported instance tree c.is_directed-directed.result n costs _ families given steps (found.Bound None) are is in
@@ -109,13 +138,16 @@ returns-in-BadFamily g c =
     let families : List (List (List ℕ)) = families_of kept_families in
     let given = c.deref.result.now in
     let steps = steps_of c.args.tree.now.steps.now in
+    let lists : List (List ℕ) = map (λ (list : Vec ℕ). list.items) c.args.tree.now.memories.now in
+    let rows : List SubsetRow = subset_rows_of c.args.tree.now.subset_rows.now in
     let scaled : FitsSigned w64 c.args.tree.now.scale = search rules in
     let are = are_of instance tree c.is_directed-directed.result n (to_z w64 (of_z w64 c.args.tree.now.scale)) kept_families
     c.fixed.result.now given steps
     (directed_is c.is_directed-directed.result instance c.kind.result c.is_directed-directed.ensures c.kind.ensures.value)
     c.requires.keeps.count
     (to_z-of_z w64 c.args.tree.now.scale scaled ∙ c.requires.held.scale_is) c.requires.held.families_kept c.fixed.ensures.value
-    (c.deref.ensures.value ∙ c.in_ok-given.ensures) c.requires.held.steps_are in
+    (c.deref.ensures.value ∙ c.in_ok-given.ensures) c.requires.held.steps_are
+    (lists_neither c.args.branches.now lists rows c.requires.memory c.in_default.ensures) in
     let is = subst (IsBranchVerdict c.is_directed-directed.result n costs (to_z w64 (of_z w64 c.args.tree.now.scale)) families
     given steps) c.in-BadFamily.is c.in_ok-bound.ensures.verdict in
     family_first instance tree costs c.in-BadFamily.index c.requires.kind c.requires.sort c.requires.count
@@ -145,13 +177,16 @@ returns-in-BadBranch g c =
     let families : List (List (List ℕ)) = families_of kept_families in
     let given = c.deref.result.now in
     let steps = steps_of c.args.tree.now.steps.now in
+    let lists : List (List ℕ) = map (λ (list : Vec ℕ). list.items) c.args.tree.now.memories.now in
+    let rows : List SubsetRow = subset_rows_of c.args.tree.now.subset_rows.now in
     let scaled : FitsSigned w64 c.args.tree.now.scale = search rules in
     let are = are_of instance tree c.is_directed-directed.result n (to_z w64 (of_z w64 c.args.tree.now.scale)) kept_families
     c.fixed.result.now given steps
     (directed_is c.is_directed-directed.result instance c.kind.result c.is_directed-directed.ensures c.kind.ensures.value)
     c.requires.keeps.count
     (to_z-of_z w64 c.args.tree.now.scale scaled ∙ c.requires.held.scale_is) c.requires.held.families_kept c.fixed.ensures.value
-    (c.deref.ensures.value ∙ c.in_ok-given.ensures) c.requires.held.steps_are in
+    (c.deref.ensures.value ∙ c.in_ok-given.ensures) c.requires.held.steps_are
+    (lists_neither c.args.branches.now lists rows c.requires.memory c.in_default.ensures) in
     let is = subst (IsBranchVerdict c.is_directed-directed.result n costs (to_z w64 (of_z w64 c.args.tree.now.scale)) families
     given steps) c.in-BadBranch.is c.in_ok-bound.ensures.verdict in
     pair_first instance tree costs c.in-BadBranch.index c.requires.kind c.requires.sort c.requires.count
@@ -181,13 +216,16 @@ returns-in-BranchTwice g c =
     let families : List (List (List ℕ)) = families_of kept_families in
     let given = c.deref.result.now in
     let steps = steps_of c.args.tree.now.steps.now in
+    let lists : List (List ℕ) = map (λ (list : Vec ℕ). list.items) c.args.tree.now.memories.now in
+    let rows : List SubsetRow = subset_rows_of c.args.tree.now.subset_rows.now in
     let scaled : FitsSigned w64 c.args.tree.now.scale = search rules in
     let are = are_of instance tree c.is_directed-directed.result n (to_z w64 (of_z w64 c.args.tree.now.scale)) kept_families
     c.fixed.result.now given steps
     (directed_is c.is_directed-directed.result instance c.kind.result c.is_directed-directed.ensures c.kind.ensures.value)
     c.requires.keeps.count
     (to_z-of_z w64 c.args.tree.now.scale scaled ∙ c.requires.held.scale_is) c.requires.held.families_kept c.fixed.ensures.value
-    (c.deref.ensures.value ∙ c.in_ok-given.ensures) c.requires.held.steps_are in
+    (c.deref.ensures.value ∙ c.in_ok-given.ensures) c.requires.held.steps_are
+    (lists_neither c.args.branches.now lists rows c.requires.memory c.in_default.ensures) in
     let is = subst (IsBranchVerdict c.is_directed-directed.result n costs (to_z w64 (of_z w64 c.args.tree.now.scale)) families
     given steps) c.in-BranchTwice.is c.in_ok-bound.ensures.verdict in
     twice_first instance tree costs c.in-BranchTwice.index c.requires.kind c.requires.sort c.requires.count
@@ -217,13 +255,16 @@ returns g c =
     let families : List (List (List ℕ)) = families_of kept_families in
     let given = c.deref.result.now in
     let steps = steps_of c.args.tree.now.steps.now in
+    let lists : List (List ℕ) = map (λ (list : Vec ℕ). list.items) c.args.tree.now.memories.now in
+    let rows : List SubsetRow = subset_rows_of c.args.tree.now.subset_rows.now in
     let scaled : FitsSigned w64 c.args.tree.now.scale = search rules in
     let are = are_of instance tree c.is_directed-directed.result n (to_z w64 (of_z w64 c.args.tree.now.scale)) kept_families
     c.fixed.result.now given steps
     (directed_is c.is_directed-directed.result instance c.kind.result c.is_directed-directed.ensures c.kind.ensures.value)
     c.requires.keeps.count
     (to_z-of_z w64 c.args.tree.now.scale scaled ∙ c.requires.held.scale_is) c.requires.held.families_kept c.fixed.ensures.value
-    (c.deref.ensures.value ∙ c.in_ok-given.ensures) c.requires.held.steps_are in
+    (c.deref.ensures.value ∙ c.in_ok-given.ensures) c.requires.held.steps_are
+    (lists_neither c.args.branches.now lists rows c.requires.memory c.in_default.ensures) in
     let is = subst (IsBranchVerdict c.is_directed-directed.result n costs (to_z w64 (of_z w64 c.args.tree.now.scale)) families
     given steps) c.in-BadLeaf.is c.in_ok-bound.ensures.verdict in
     leaf_first instance tree costs c.in-BadLeaf.index c.requires.kind c.requires.sort c.requires.count

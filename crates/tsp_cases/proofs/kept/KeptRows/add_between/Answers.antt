@@ -1,6 +1,6 @@
 -- The goals of `KeptRows::add_between` in src/kept.rt, which adds a number to the weight between two nodes, in both
 -- rows: what its calls require and what it ensures.
-use Rattle.tsp_cases.proofs.Prelude.{◌≡◌, ◌≤◌, ◌-◌, ◌<◌, ℕ, List, length, ap, sym, subst, ◌∙◌, arith, rules, FitsSigned, ℤ, w64, Vec, eqb-true, to_z-of_z}
+use Rattle.tsp_cases.proofs.Prelude.{◌≤◌, ◌-◌, List, length, ap, sym, subst, ◌∙◌, arith, rules, FitsSigned, ℤ, w64, Vec, eqb-true, to_z-of_z}
 use Rattle.tsp_cases.specs.states.Kept.{IsAddedAt}
 use Rattle.tsp_cases.proofs.RowsKept.{rows_marked, some_left}
 use Rattle.tsp_cases.proofs.kept.KeptRows.add_between.Goals as goal

@@ -1,8 +1,8 @@
 -- The goals of `KeptRows::leave` in src/kept.rt, which moves the marks of decisions to the next case: its loop, what
 -- its calls require and what it ensures.
-use Rattle.tsp_cases.proofs.Prelude.{◌≡◌, ◌∙◌, ◌+◌, ◌-◌, ◌<◌, ◌++◌, ◌∷◌, ℕ, ℤ, Bool, List, Option, None, true, false, take, get_or, length, refl, ap, sym, subst, arith, All, take_all, All-from_recursion, recursion_from_All}
+use Rattle.tsp_cases.proofs.Prelude.{◌≡◌, ◌∙◌, ◌+◌, ◌-◌, ◌++◌, ◌∷◌, ℕ, Bool, List, None, true, false, take, get_or, length, refl, ap, sym, subst, arith, All, take_all, All-from_recursion, recursion_from_All}
 use Rattle.tsp_cases.specs.declared.decision.Decision.{Decision}
-use Rattle.tsp_cases.specs.Cases.{decide, next_stack}
+use Rattle.tsp_cases.specs.Cases.{next_stack}
 use Rattle.tsp_cases.specs.states.OpenCases.{IsDecision, marks_in, stack_of}
 use Rattle.tsp_cases.specs.states.Kept.{HoldsRows}
 use Rattle.tsp_cases.proofs.RowsKept.{same_marks, directed_same, stack_to, turned_next, none_next}

@@ -2,7 +2,7 @@
 -- its calls require and what it ensures.
 use Rattle.tsp_cases.proofs.Prelude.{◌≡◌, ◌∙◌, ◌+◌, ◌-◌, ◌<◌, ℕ, List, ◌∷◌, false, drop, get_or, length, ap, sym, subst, arith, drop-cons, add-one, drop_all}
 use Rattle.tsp_cases.specs.declared.decision.Decision.{Decision}
-use Rattle.tsp_cases.specs.states.OpenCases.{IsDecision, marks_in}
+use Rattle.tsp_cases.specs.states.OpenCases.{marks_in}
 use Rattle.tsp_cases.specs.states.Kept.{HoldsRows}
 use Rattle.tsp_cases.proofs.kept.KeptRows.mark_given.Goals as goal
 

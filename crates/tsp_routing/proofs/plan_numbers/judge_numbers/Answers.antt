@@ -1,9 +1,9 @@
--- The goals of `judge_numbers` in src/verdict.rt, which says whether the numbers of a leaf are good, and copies
+-- The goals of `judge_numbers` in src/plan_numbers.rt, which says whether the numbers of a leaf are good, and copies
 -- them: what it ensures.
 use Rattle.tsp_routing.proofs.Prelude.{false, refl, length, drop, pos, neg_ℤ, both_ways, All-from_recursion, IsFromTo}
 use Rattle.tsp_routing.specs.PlanVerdicts.{most_of_multipliers}
 use Rattle.tsp_routing.proofs.RouteProducts.{each_small}
-use Rattle.tsp_routing.proofs.verdict.judge_numbers.Goals as goal
+use Rattle.tsp_routing.proofs.plan_numbers.judge_numbers.Goals as goal
 
 -- plan: by the potentials in their range, the multipliers in theirs, and the sum of the sizes of these within its limit
 pub returns-then-not-copy_within-2-clause-good : goal.returns-then-not-copy_within-2-clause-good

@@ -1,7 +1,7 @@
--- The loop of `sizes_total` in src/verdict.rt.
+-- The loop of `sizes_total` in src/plan_numbers.rt.
 use Rattle.tsp_routing.proofs.Prelude.{◌≡◌, ◌*◌, drop, pos, ◌+ℤ◌, IsFromTo}
 use Rattle.tsp_routing.specs.PlanVerdicts.{most_of_multipliers, sizes_total}
-use Rattle.tsp_routing.proofs.verdict.sizes_total.Given as goal
+use Rattle.tsp_routing.proofs.plan_numbers.sizes_total.Given as goal
 
 -- the sum so far and the sizes left are the sum of all sizes, no more than as many multipliers can have
 abbrev pub invariant-multipliers : goal.invariant-multipliers

@@ -1,0 +1,63 @@
+-- What is judged of the leaves of a certificate for routes that lists memories or subset rows, in code.
+use Rattle.tsp_routing.specs.Prelude.{Vec, ℕ, List, map, length, ℤ, Step, LeafNumbers, families_with, listed_steps}
+use Rattle.std.specs.Prelude.{◌≡◌, ◌+◌, ◌≤◌, ◌<◌}
+use Rattle.tsp_format.specs.Steps.{SubsetRow}
+use Rattle.tsp_format.specs.declared.steps.RowSets.{RowSets}
+use Rattle.tsp_format.specs.states.TreeSteps.{subset_row_of}
+use Rattle.tsp_cases.specs.declared.family.Crossings.{Crossings}
+use Rattle.tsp_routing.specs.PlanVerdicts.{most_entries}
+use Rattle.tsp_routing.specs.RunBounds.{leaf_rules}
+use Rattle.tsp_routing.specs.RunTrees.{near_of, placed_steps, AreGoodRunLeaves, IsFirstBadRunLeaf, RunTree, IsRunTreeBound}
+use Rattle.tsp_routing.specs.RunVerdicts.{AreFewLeaves, IsFirstFullLeaf}
+use Rattle.tsp_routing.specs.declared.memory_key.MemoryKey.{MemoryKey}
+use Rattle.tsp_routing.specs.declared.plan_tree.PlanVerdict.{PlanVerdict}
+use Rattle.tsp_routing.specs.declared.plan_tree.PlanVerdict.TheVariants as verdict
+use Rattle.tsp_routing.specs.declared.run_judge.RunScratch.{RunScratch}
+use Rattle.tsp_routing.specs.declared.units.Demands.{Demands}
+use Rattle.tsp_routing.specs.states.Demands.{loads_problem}
+use Rattle.tsp_routing.specs.states.Judged.{entries_in}
+use Rattle.tsp_routing.specs.states.MemoryTables.{AreMemoriesOf}
+use Rattle.tsp_routing.specs.states.RunTables.{item_lists}
+
+-- a potential for each node, and a number for each family and each row
+pub record IsRunScratch (n numbers : ℕ) (room : RunScratch) : Type 0 where
+  pub potentials : length room.potentials.items ≡ n
+  pub multipliers : length room.multipliers.items ≡ numbers
+
+-- what all leaves share, by what the judge has of it
+abbrev pub tree_in : Demands → (ℕ → ℕ → ℤ) → ℤ → ℕ → ℕ → List Crossings → List (List (List ℕ)) → List (Vec ℕ) → List RowSets → RunTree
+tree_in demands cost scale unit light crossed families lists rows = record {
+  problem = loads_problem demands cost;
+  scale = scale;
+  unit = unit;
+  light = light;
+  family_count = length crossed;
+  families = families_with crossed families;
+  lists = item_lists lists;
+  row_count = length rows;
+  rows = map subset_row_of rows;
+}
+
+-- the tables are those of every leaf, whatever its rows charge
+abbrev pub AreTablesFor : RunTree → ℕ → List (Vec MemoryKey) → List (Vec ℕ) → Type 0
+AreTablesFor tree count keys places = (numbers : LeafNumbers) (rows : List (SubsetRow × ℤ))
+    → map (λ (row : SubsetRow × ℤ). row.0) rows ≡ tree.rows
+    → AreMemoriesOf (leaf_rules tree.problem tree.scale tree.unit tree.light tree.families numbers (near_of tree.lists) rows)
+    count keys places
+
+-- the verdict on the leaves, where families, memories and branches are good
+abbrev pub IsRunLeafVerdict : RunTree → List Step → PlanVerdict → Type 0
+IsRunLeafVerdict tree steps (verdict.BadLeaf leaf) =
+    IsFirstBadRunLeaf tree.problem.nodes tree.family_count tree.row_count steps leaf
+IsRunLeafVerdict tree steps verdict.TooManyLoads =
+    AreGoodRunLeaves tree.problem.nodes tree.family_count tree.row_count steps
+    × (most_entries < entries_in tree.problem tree.unit tree.light)
+IsRunLeafVerdict tree steps (verdict.TooManyStates leaf) =
+    AreGoodRunLeaves tree.problem.nodes tree.family_count tree.row_count steps
+    × (entries_in tree.problem tree.unit tree.light ≤ most_entries) × IsFirstFullLeaf tree steps leaf
+IsRunLeafVerdict tree steps (verdict.Bound found) =
+    AreGoodRunLeaves tree.problem.nodes tree.family_count tree.row_count steps
+    × (entries_in tree.problem tree.unit tree.light ≤ most_entries) × AreFewLeaves tree steps
+    × IsRunTreeBound tree (listed_steps tree.problem.nodes (tree.family_count + tree.row_count)
+    (placed_steps tree.problem.nodes tree.family_count steps)) found
+IsRunLeafVerdict tree steps other = ⊥

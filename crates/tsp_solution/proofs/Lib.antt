@@ -1,0 +1,1 @@
+-- This crate has no files of lemmas.

@@ -1,0 +1,138 @@
+"""Routes judged plainly, from what docs/format.md says of them: plans one by one, and the runs of a leaf by recursion,
+without any pruning or dominance. For tests/second/memory and tests/second/run."""
+from __future__ import annotations
+
+from collections.abc import Callable, Iterator
+from functools import cache
+from typing import NamedTuple
+
+import recheck
+
+FIRST_ROW = 10_001  # behind the nodes: the index of the first row's multiplier
+Cost = Callable[[int, int], int]
+Limit = tuple[int, int, bool]  # a family's place, t, and whether it is crossed at most 2t times
+State = tuple[int, int, frozenset[int], frozenset[int]]  # load, last customer, what it remembers, open rows
+
+
+def plans(fleet: recheck.Fleet) -> Iterator[list[list[int]]]:
+    """All plans: each customer in turn before another one of a route, after the last one, or in a route of its own."""
+
+    def grown(plan: list[list[int]], rest: list[int]) -> Iterator[list[list[int]]]:
+        if not rest:
+            yield plan
+            return
+        node, *more = rest
+        for at, route in enumerate(plan):
+            if fleet.load([*route, node]) <= fleet.capacity:
+                for place in range(len(route) + 1):
+                    yield from grown([*plan[:at], [*route[:place], node, *route[place:]], *plan[at + 1 :]], more)
+        if fleet.load([node]) <= fleet.capacity:
+            yield from grown([*plan, [node]], more)
+
+    return grown([], fleet.customers)
+
+
+class Certificate(NamedTuple):
+    """What all leaves of a tree of cases share."""
+
+    fleet: recheck.Fleet
+    costs: Cost
+    families: list[list[int]]
+    lists: list[list[int]]  # a customer, and those that it remembers
+    rows: list[tuple[list[int], list[int]]]  # a set, and the further customers that keep it
+    scale: int
+    unit: int
+
+
+class Leaf:
+    """A leaf with its numbers by index. Without lists and rows, a run only remembers the customer before its last one."""
+
+    def __init__(self, certificate: Certificate, of: dict[int, int]) -> None:
+        self.own, self.of, self.fleet = certificate, of, certificate.fleet
+        whole = {node: self.fleet.demands[node] // certificate.unit for node in self.fleet.customers}
+        light = sum(load == 0 for load in whole.values())
+        self.load = {node: load * (light + 1) or 1 for node, load in whole.items()}
+        self.room = self.fleet.capacity // certificate.unit * (light + 1) + light
+        self.stands = bool(certificate.lists or certificate.rows)
+        self.near = {node: frozenset(others) for node, *others in certificate.lists}
+        self.gains = [of.get(self.fleet.count + FIRST_ROW + row, 0) for row in range(len(certificate.rows))]
+        self.most = 2 * of.get(self.fleet.depot, 0)
+        self.weight = cache(self.weight_of)
+
+    def multiplier(self, family: int) -> int:
+        return self.of.get(self.fleet.count + 1 + family, 0)
+
+    def weight_of(self, i: int, j: int) -> int:
+        crossed = (self.multiplier(at) for at, nodes in enumerate(self.own.families) if (i in nodes) != (j in nodes))
+        return self.own.scale * self.own.costs(i, j) + self.of.get(i, 0) + self.of.get(j, 0) - sum(crossed)
+
+    def starts(self) -> Iterator[tuple[int, State]]:
+        """The weights and states of runs after their first customer."""
+        for node, load in self.load.items():
+            if load <= self.room:
+                opened = frozenset(row for row, (nodes, _) in enumerate(self.own.rows) if node in nodes)
+                yield self.weight(self.fleet.depot, node), (load, node, frozenset(), opened)
+
+    def steps(self, state: State) -> Iterator[tuple[int, State]]:
+        """What a run weighs more with one customer more, and its state then."""
+        load, last, remembered, opened = state
+        for node, more in self.load.items():
+            if node == last or node in remembered or load + more > self.room:
+                continue
+            cost, still = self.weight(last, node), set()
+            for row, (nodes, others) in enumerate(self.own.rows):
+                cost += self.gains[row] if row in opened and node in nodes else 0
+                if node in (*nodes, *others) and (row in opened) != (node in nodes):
+                    still.add(row)
+            known = (remembered | {last}) & self.near.get(node, frozenset()) if self.stands else frozenset({last})
+            yield cost, (load + more, node, known, frozenset(still))
+
+    def least(self) -> int | None:
+        """The least weight of a run, or None if there is none."""
+
+        @cache
+        def rest(state: State) -> int:
+            return min([self.weight(state[1], self.fleet.depot), *(cost + rest(after) for cost, after in self.steps(state))])
+
+        return min((cost + rest(state) for cost, state in self.starts()), default=None)
+
+    def kept_states(self) -> int:
+        """How many states have starts of runs that could end below twice the depot's potential by the cheapest ways home, on
+        which nothing is remembered."""
+
+        @cache
+        def home(load: int, last: int) -> int:
+            onward = [(node, load + more) for node, more in self.load.items() if node != last and load + more <= self.room]
+            return min([self.weight(last, self.fleet.depot), *(self.weight(last, node) + home(sum_, node) for node, sum_ in onward)])
+
+        layers: list[dict[State, int]] = [{} for _ in range(self.room + 1)]
+
+        def offer(weight: int, state: State) -> None:
+            layer = layers[state[0]]
+            if weight + home(state[0], state[1]) < self.most and weight < layer.get(state, weight + 1):
+                layer[state] = weight
+
+        for weight, state in self.starts():
+            offer(weight, state)
+        for layer in layers:
+            for state, weight in layer.items():
+                for cost, after in self.steps(state):
+                    offer(weight + cost, after)
+        return sum(map(len, layers))
+
+    def bound(self, limits: list[Limit]) -> int | None:
+        """The bound under these limits, or None if there is no run."""
+        fleet, least = self.fleet, self.least()
+        if self.stands:
+            least = self.most if least is None else min(least, self.most)
+        if least is None:
+            return None
+        need = lambda nodes: max(1, -(-sum(fleet.demands[node] for node in nodes) // fleet.capacity))
+        each = (least - self.most) * (need(fleet.customers) if least > self.most else len(fleet.customers))
+        value = each - 2 * sum(self.of.get(node, 0) for node in fleet.customers)
+        value -= sum(gain * (len(nodes) // 2) for gain, (nodes, _) in zip(self.gains, self.own.rows))
+        for at, nodes in enumerate(self.own.families):
+            low = max([2 * need(nodes), *(2 * t + 2 for family, t, is_most in limits if family == at and not is_most)])
+            high = min([2 * (fleet.count - 1), *(2 * t for family, t, is_most in limits if family == at and is_most)])
+            value += self.multiplier(at) * (low if self.multiplier(at) > 0 else high)
+        return -(-value // self.own.scale)
