@@ -1,4 +1,4 @@
-//! A certificate of branches for a tour, exact.
+//! The bound of a tree of cases for a tour, exact.
 //!
 //! The weights without the potentials are in one matrix through all leaves: a branch marks two cells
 //! of it, and a multiplier that changes changes the pairs inside a set of its family. The crossings of a
@@ -6,91 +6,12 @@
 //! A leaf takes a least 1-tree under TYPE TSP, and the least open arc of each row under TYPE ATSP.
 
 use crate::fail;
-use crate::fields::{Fields, Pair, combs_of, costs_of};
-use std::collections::HashSet;
-use std::process::exit;
+use crate::file::Fields;
+use crate::matrix::costs_of;
 
 const MARK: i64 = 4_000_000_000_000_000_000;
-const MOST_POTENTIAL: i128 = 1_000_000_000_000_000;
-const MOST_CROSSED: i128 = 900_000_000_000_000_000;
-const MOST_SETS: usize = 63;
-const MOST_PARTS: usize = 14;
 
-// ---- instances
-
-struct Instance {
-    directed: bool,
-    count: usize,
-    costs: Vec<i64>,
-    fixed: Vec<Pair>,
-}
-
-/// The pair of two nodes: an arc, or without a direction the smaller node first.
-fn pair_of(directed: bool, i: i64, j: i64) -> Pair {
-    let turned = !directed && i > j;
-    let (from, to) = if turned { (j, i) } else { (i, j) };
-    (from as usize - 1, to as usize - 1)
-}
-
-impl Instance {
-    fn of(fields: &Fields) -> Instance {
-        let directed = match fields.first("TYPE") {
-            "TSP" => false,
-            "ATSP" => true,
-            _ => fail("wrong kind"),
-        };
-        let count = fields.number("DIMENSION").unwrap_or(0) as usize;
-        let costs = costs_of(fields, count);
-        let listed = fields.numbers("FIXED_EDGES_SECTION");
-        let fixed = listed.chunks_exact(2).take_while(|pair| pair[0] != -1);
-        let fixed = fixed.map(|pair| pair_of(directed, pair[0], pair[1])).collect();
-        Instance { directed, count, costs, fixed }
-    }
-
-    fn asymmetric(&self) -> Option<Pair> {
-        let differs = |i: usize, j: usize| self.costs[i * self.count + j] != self.costs[j * self.count + i];
-        (0..self.count).find_map(|i| (i + 1..self.count).find(|j| differs(i, *j)).map(|j| (i + 1, j + 1)))
-    }
-}
-
-// ---- tours
-
-/// The length of the tour in a file, or the reason against it.
-fn length_of(instance: &Instance, fields: &Fields) -> Result<i64, String> {
-    let reason = |text: &str| Err(text.to_string());
-    if fields.first("TYPE") != "TOUR" {
-        return reason("NotASolution");
-    }
-    if instance.count < 3 {
-        return reason("TooFewNodes");
-    }
-    if let Some((i, j)) = instance.asymmetric().filter(|_| !instance.directed) {
-        return Err(format!("NotSymmetric {i} {j}"));
-    }
-    if fields.number("DIMENSION").is_some_and(|count| count != instance.count as i64) {
-        return reason("Dimension");
-    }
-    let words = fields.numbers("TOUR_SECTION");
-    let tours: Vec<&[i64]> = words.split(|node| *node == -1).filter(|tour| !tour.is_empty()).collect();
-    let [tour] = tours.as_slice() else { return reason("TourCount") };
-    if tour.len() != instance.count {
-        return reason("TourLength");
-    }
-    if let Some(place) = tour.iter().position(|node| *node > instance.count as i64) {
-        return Err(format!("NodeOutOfRange {}", place + 1));
-    }
-    let mut seen = HashSet::new();
-    if let Some(place) = tour.iter().position(|node| !seen.insert(*node)) {
-        return Err(format!("RepeatedNode {}", place + 1));
-    }
-    let next = tour.iter().cycle().skip(1);
-    let edges: Vec<Pair> = tour.iter().zip(next).map(|(i, j)| pair_of(instance.directed, *i, *j)).collect();
-    let used: HashSet<&Pair> = edges.iter().collect();
-    if let Some(index) = instance.fixed.iter().position(|pair| !used.contains(pair)) {
-        return Err(format!("FixedEdgeUnused {}", index + 1));
-    }
-    Ok(edges.iter().map(|(i, j)| instance.costs[i * instance.count + j]).sum())
-}
+type Pair = (usize, usize);
 
 // ---- certificates
 
@@ -99,11 +20,28 @@ enum Step {
     Leaf(Vec<(usize, i64)>),
 }
 
-struct Certificate {
-    scale: i64,
-    combs: Vec<Vec<Vec<usize>>>,
-    crossed: Vec<(i128, i128)>,
-    steps: Vec<Step>,
+/// Runs of nodes that -1 ends; a second -1 ends a family, and one more the list.
+pub fn families_of(words: &[i64]) -> Vec<Vec<Vec<usize>>> {
+    let (mut families, mut family, mut set) = (Vec::new(), Vec::new(), Vec::new());
+    for word in words {
+        if *word != -1 {
+            set.push(*word as usize - 1);
+        } else if !set.is_empty() {
+            family.push(std::mem::take(&mut set));
+        } else if !family.is_empty() {
+            families.push(std::mem::take(&mut family));
+        } else {
+            break;
+        }
+    }
+    families
+}
+
+/// The pair of two nodes: an arc, or without a direction the smaller node first.
+fn pair_of(directed: bool, i: i64, j: i64) -> Pair {
+    let turned = !directed && i > j;
+    let (from, to) = if turned { (j, i) } else { (i, j) };
+    (from as usize - 1, to as usize - 1)
 }
 
 /// The steps in the words of a section, up to the end of the tree.
@@ -118,11 +56,7 @@ fn steps_of(words: &[i64], directed: bool) -> Vec<Step> {
             continue;
         }
         let mut numbers = Vec::new();
-        loop {
-            let index = next();
-            if index == -1 {
-                break;
-            }
+        while let Some(index) = Some(next()).filter(|index| *index != -1) {
             numbers.push((index as usize, next()));
         }
         steps.push(Step::Leaf(numbers));
@@ -132,6 +66,7 @@ fn steps_of(words: &[i64], directed: bool) -> Vec<Step> {
 }
 
 /// Goes along the tree: the decisions above each step, by calls at a decision and at its end.
+#[derive(Default)]
 struct Cycle {
     path: Vec<(Pair, bool)>,
 }
@@ -155,60 +90,37 @@ impl Cycle {
     }
 }
 
-fn is_good(comb: &[Vec<usize>], count: usize) -> bool {
-    let teeth = comb.len() - 1;
+/// Whether a family of several sets is a comb: an odd number of teeth, each across the border of the first set.
+fn is_comb(family: &[Vec<usize>], count: usize) -> bool {
+    let teeth = &family[1..];
     let mut inside = vec![false; count];
-    for node in &comb[0] {
-        if std::mem::replace(&mut inside[*node], true) {
-            return false;
-        }
-    }
-    if teeth == 0 {
-        return comb[0].len() < count;
-    }
-    if teeth < 3 || teeth % 2 == 0 {
-        return false;
-    }
+    family[0].iter().for_each(|node| inside[*node] = true);
     let mut used = vec![false; count];
-    comb[1..].iter().all(|tooth| {
-        let apart = tooth.iter().all(|node| !std::mem::replace(&mut used[*node], true));
+    let is_tooth = |tooth: &Vec<usize>| {
+        let is_apart = tooth.iter().all(|node| !std::mem::replace(&mut used[*node], true));
         let within = tooth.iter().filter(|node| inside[**node]).count();
-        apart && within > 0 && within < tooth.len()
-    })
+        is_apart && within > 0 && within < tooth.len()
+    };
+    teeth.len() >= 3 && teeth.len() % 2 == 1 && teeth.iter().all(is_tooth)
 }
 
-/// How often tours cross a family at the least, and edges at the most.
-fn crossings_of(comb: &[Vec<usize>], count: usize) -> Option<(i128, i128)> {
-    if is_good(comb, count) {
-        let sets = comb.len() as i128;
-        return Some((if sets == 1 { 2 } else { 3 * sets - 2 }, 3));
+/// How often tours cross a family at the least.
+fn crossings_of(family: &[Vec<usize>], count: usize) -> i128 {
+    if family.len() == 1 {
+        return 2;
     }
-    if comb.len() > MOST_SETS {
-        return None;
+    if is_comb(family, count) {
+        return 3 * family.len() as i128 - 2;
     }
     let mut marks = vec![0u64; count];
-    for (number, set) in comb.iter().enumerate() {
-        for node in set {
-            let mark = 1 << number;
-            if marks[*node] & mark != 0 {
-                return None;
-            }
-            marks[*node] |= mark;
-        }
+    for (number, set) in family.iter().enumerate() {
+        set.iter().for_each(|node| marks[*node] |= 1 << number);
     }
-    let mut parts: Vec<u64> = Vec::new();
-    for mark in marks {
-        if !parts.contains(&mark) {
-            if parts.len() == MOST_PARTS {
-                return None;
-            }
-            parts.push(mark);
-        }
-    }
-    let costs: Vec<Vec<u32>> =
-        parts.iter().map(|a| parts.iter().map(|b| (a ^ b).count_ones()).collect()).collect();
-    let most = costs.iter().flatten().max().copied().unwrap_or(0);
-    (parts.len() > 1).then(|| (i128::from(least_cycle(&costs)), i128::from(most)))
+    marks.sort_unstable();
+    marks.dedup();
+    let apart = |a: &u64| marks.iter().map(|b| (a ^ b).count_ones()).collect();
+    let costs: Vec<Vec<u32>> = marks.iter().map(apart).collect();
+    i128::from(least_cycle(&costs))
 }
 
 /// The least length of a cycle: the shortest paths from each part through a set of others to the last.
@@ -216,10 +128,7 @@ fn least_cycle(costs: &[Vec<u32>]) -> u32 {
     let others = costs.len() - 1;
     let mut shortest = vec![u32::MAX; others << others];
     for set in 1usize..1 << others {
-        for from in 0..others {
-            if set >> from & 1 == 0 {
-                continue;
-            }
+        for from in (0..others).filter(|from| set >> from & 1 == 1) {
             let rest = set & !(1 << from);
             let paths = &shortest[rest * others..][..others];
             let sums = costs[from][..others].iter().zip(paths).map(|(cost, path)| cost.saturating_add(*path));
@@ -231,56 +140,6 @@ fn least_cycle(costs: &[Vec<u32>]) -> u32 {
     costs[others][..others].iter().zip(whole).map(|(cost, path)| cost + path).min().unwrap_or(0)
 }
 
-/// The first branch whose pair is decided above it or fixed.
-fn branch_twice(instance: &Instance, steps: &[Step]) -> Option<usize> {
-    let mut decided: HashSet<Pair> = instance.fixed.iter().copied().collect();
-    let mut cycle = Cycle { path: Vec::new() };
-    let mut index = 0;
-    for step in steps {
-        let Step::Branch(pair) = step else {
-            for pair in cycle.back().0 {
-                decided.remove(&pair);
-            }
-            continue;
-        };
-        index += 1;
-        if !decided.insert(*pair) {
-            return Some(index);
-        }
-        cycle.down(*pair);
-    }
-    None
-}
-
-/// The first leaf with an index that is too large or a number that isn't allowed.
-fn bad_leaf(count: usize, certificate: &Certificate) -> Option<usize> {
-    let mut numbers = vec![0i128; count + certificate.combs.len()];
-    let mut sum = 0;
-    let leaves = certificate.steps.iter().filter_map(|step| match step {
-        Step::Leaf(list) => Some(list),
-        Step::Branch(_) => None,
-    });
-    for (index, list) in leaves.enumerate() {
-        for (place, difference) in list {
-            if *place > numbers.len() {
-                return Some(index + 1);
-            }
-            numbers[place - 1] += i128::from(*difference);
-            if *place > count {
-                sum += i128::from(*difference) * certificate.crossed[place - count - 1].1;
-            }
-        }
-        let wrong = |place: usize| match numbers[place - 1] {
-            number if place <= count => number.abs() > MOST_POTENTIAL,
-            number => number < 0,
-        };
-        if sum > MOST_CROSSED || list.iter().any(|(place, _)| wrong(*place)) {
-            return Some(index + 1);
-        }
-    }
-    None
-}
-
 // ---- the bound
 
 /// The weights of the pairs but for the numbers of the nodes, these, and what the bound adds to the
@@ -288,6 +147,8 @@ fn bad_leaf(count: usize, certificate: &Certificate) -> Option<usize> {
 struct Weights {
     directed: bool,
     count: usize,
+    families: Vec<Vec<Vec<usize>>>,
+    crossed: Vec<i128>,
     between: Vec<i64>,
     ends: Vec<i64>,
     added: i128,
@@ -295,16 +156,13 @@ struct Weights {
 }
 
 impl Weights {
-    fn new(instance: &Instance, scale: i64) -> Weights {
-        let between = instance.costs.iter().map(|cost| scale * cost).collect();
-        let ends = vec![0; instance.count];
-        let Instance { directed, count, .. } = *instance;
-        let mut weights = Weights { directed, count, between, ends, added: 0, taken: 0 };
-        for pair in instance.fixed.iter().collect::<HashSet<_>>() {
-            weights.mark(*pair, -MARK);
-            weights.taken += 1;
-        }
-        weights
+    fn new(instance: &Fields, certificate: &Fields) -> Weights {
+        let (directed, count) = (instance.kind == "ATSP", instance.count);
+        let families = families_of(&certificate.families);
+        let crossed = families.iter().map(|family| crossings_of(family, count)).collect();
+        let scale = certificate.scale.unwrap_or(1);
+        let between = costs_of(instance).into_iter().map(|cost| scale * cost).collect();
+        Weights { directed, count, families, crossed, between, ends: vec![0; count], added: 0, taken: 0 }
     }
 
     /// Marks a pair that is decided. Arcs are closed by `least_arcs`.
@@ -316,16 +174,16 @@ impl Weights {
         self.between[j * self.count + i] += change;
     }
 
-    /// Changes a potential, or the multiplier of a comb.
-    fn change(&mut self, place: usize, difference: i64, certificate: &Certificate) {
+    /// Changes a potential, or the multiplier of a family.
+    fn change(&mut self, place: usize, difference: i64) {
         if place <= self.count {
             self.ends[place - 1] += difference;
             self.added -= 2 * i128::from(difference);
             return;
         }
-        let comb = place - self.count - 1;
-        self.added += i128::from(difference) * certificate.crossed[comb].0;
-        for set in &certificate.combs[comb] {
+        let family = place - self.count - 1;
+        self.added += i128::from(difference) * self.crossed[family];
+        for set in &self.families[family] {
             for i in set {
                 self.ends[*i] -= difference;
                 let row = &mut self.between[i * self.count..][..self.count];
@@ -403,83 +261,29 @@ impl Weights {
 }
 
 /// The least bound of the leaves.
-fn bound_of(instance: &Instance, certificate: &Certificate) -> i128 {
-    let mut weights = Weights::new(instance, certificate.scale);
-    let mut cycle = Cycle { path: Vec::new() };
-    let fixed: HashSet<&Pair> = instance.fixed.iter().collect();
-    let fixed: Vec<(Pair, bool)> = fixed.into_iter().map(|pair| (*pair, true)).collect();
-    let mut least = i128::MAX;
-    for step in &certificate.steps {
-        match step {
+pub fn bound(instance: &Fields, certificate: &Fields) -> i128 {
+    let mut weights = Weights::new(instance, certificate);
+    let (mut cycle, mut least) = (Cycle::default(), i128::MAX);
+    for step in steps_of(&certificate.tree, weights.directed) {
+        let numbers = match step {
             Step::Branch(pair) => {
-                cycle.down(*pair);
-                weights.mark(*pair, -MARK);
+                cycle.down(pair);
+                weights.mark(pair, -MARK);
                 weights.taken += 1;
+                continue;
             }
-            Step::Leaf(numbers) => {
-                for (place, difference) in numbers {
-                    weights.change(*place, *difference, certificate);
-                }
-                least = least.min(match instance.directed {
-                    false => weights.value(),
-                    true => {
-                        let decided = [fixed.as_slice(), &cycle.path].concat();
-                        weights.least_arcs(&decided).unwrap_or(i128::MAX)
-                    }
-                });
-                let (done, turned) = cycle.back();
-                for pair in done {
-                    weights.mark(pair, -MARK);
-                }
-                if let Some(pair) = turned {
-                    weights.mark(pair, MARK);
-                    weights.mark(pair, MARK);
-                    weights.taken -= 1;
-                }
-            }
+            Step::Leaf(numbers) => numbers,
+        };
+        numbers.into_iter().for_each(|(place, difference)| weights.change(place, difference));
+        let value = if weights.directed { weights.least_arcs(&cycle.path) } else { Some(weights.value()) };
+        least = least.min(value.unwrap_or(i128::MAX));
+        let (done, turned) = cycle.back();
+        done.into_iter().for_each(|pair| weights.mark(pair, -MARK));
+        if let Some(pair) = turned {
+            weights.mark(pair, MARK);
+            weights.mark(pair, MARK);
+            weights.taken -= 1;
         }
     }
-    -(-least).div_euclid(i128::from(certificate.scale))
-}
-
-/// The bound of a file, or the reason against it.
-fn certificate_of(instance: &Instance, fields: &Fields) -> Result<Certificate, String> {
-    if fields.first("TYPE") != "BRANCHES" {
-        return Err("NotBranches".to_string());
-    }
-    if fields.number("DIMENSION") != Some(instance.count as i64) {
-        return Err("BranchesDimension".to_string());
-    }
-    let mut certificate = Certificate {
-        scale: fields.number("SCALE").unwrap_or(1),
-        combs: combs_of(&fields.numbers("COMB_SECTION")),
-        crossed: Vec::new(),
-        steps: steps_of(&fields.numbers("BRANCH_SECTION"), instance.directed),
-    };
-    for (index, comb) in certificate.combs.iter().enumerate() {
-        match crossings_of(comb, instance.count) {
-            Some(crossed) => certificate.crossed.push(crossed),
-            None => return Err(format!("BadComb {}", index + 1)),
-        }
-    }
-    if let Some(index) = branch_twice(instance, &certificate.steps) {
-        return Err(format!("BranchTwice {index}"));
-    }
-    if let Some(index) = bad_leaf(instance.count, &certificate) {
-        return Err(format!("BadLeaf {index}"));
-    }
-    Ok(certificate)
-}
-
-fn no(reason: String) -> ! {
-    println!("no {reason}");
-    exit(1)
-}
-
-/// The length of a tour, and the bound of a certificate; a reason against one of them ends the program.
-pub fn judge(instance: &Fields, tour: &Fields, branches: &str) -> (i64, i128) {
-    let instance = Instance::of(instance);
-    let length = length_of(&instance, tour).unwrap_or_else(|reason| no(reason));
-    let certificate = certificate_of(&instance, &Fields::read(branches)).unwrap_or_else(|reason| no(reason));
-    (length, bound_of(&instance, &certificate))
+    -(-least).div_euclid(i128::from(certificate.scale.unwrap_or(1)))
 }

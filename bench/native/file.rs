@@ -1,4 +1,4 @@
-//! The fields of a file that whole runs need. Another keyword, section or type ends the program.
+//! The fields of a file that the benchmarks have. Another keyword, section or type ends the program.
 
 use crate::fail;
 use crate::text::Source;
@@ -13,6 +13,7 @@ pub struct Fields {
     pub kind: String,
     pub count: usize,
     pub capacity: i64,
+    pub unit: Option<i64>,
     pub scale: Option<i64>,
     pub weight_type: String,
     pub layout: String,
@@ -24,6 +25,10 @@ pub struct Fields {
     pub numbers: Vec<i64>,
     pub rows: Vec<i64>,
     pub columns: Vec<i64>,
+    pub families: Vec<i64>,
+    pub memories: Vec<i64>,
+    pub subset_rows: Vec<i64>,
+    pub tree: Vec<i64>,
 }
 
 /// The nodes of all tours, and behind which of them each tour ends.
@@ -36,13 +41,11 @@ pub struct Tours {
 impl Tours {
     fn read(source: &mut Source) -> Tours {
         let mut tours = Tours::default();
-        while !matches!(source.peek(), 0 | b'A'..=b'Z' | b'a'..=b'z') {
-            match source.whole() {
-                -1 => tours.end(),
-                node @ 1..=MOST_NODES => tours.nodes.push(node as u32),
-                _ => fail("a node is out of range"),
-            }
-        }
+        source.numbers(|word| match word {
+            -1 => tours.end(),
+            node @ 1..=MOST_NODES => tours.nodes.push(node as u32),
+            _ => fail("a node is out of range"),
+        });
         tours.end();
         tours
     }
@@ -81,6 +84,13 @@ fn point(source: &mut Source, in_space: bool) -> [i64; 3] {
     [x, y, if in_space { source.decimal() } else { 0 }]
 }
 
+/// The numbers of a section up to the next keyword.
+fn listed(source: &mut Source) -> Vec<i64> {
+    let mut numbers = Vec::new();
+    source.numbers(|number| numbers.push(number));
+    numbers
+}
+
 fn within(value: i64, low: i64, high: i64) -> i64 {
     if value < low || value > high {
         fail("a number is out of range");
@@ -113,6 +123,7 @@ impl Fields {
             "TYPE" => self.kind = value,
             "DIMENSION" => self.count = within(number(&value), 1, MOST_NODES) as usize,
             "CAPACITY" => self.capacity = number(&value),
+            "LOAD_UNIT" => self.unit = Some(number(&value)),
             "SCALE" => self.scale = Some(within(number(&value), 1, 1_000_000)),
             "EDGE_WEIGHT_TYPE" => self.weight_type = value,
             "EDGE_WEIGHT_FORMAT" => self.layout = value,
@@ -131,11 +142,17 @@ impl Fields {
             "ROW_POTENTIAL_SECTION" => self.rows = by_node(source, count, 0, potential),
             "COLUMN_POTENTIAL_SECTION" => self.columns = by_node(source, count, 0, potential),
             "TOUR_SECTION" => self.tours = Tours::read(source),
+            "COMB_SECTION" => self.families = listed(source),
+            "MEMORY_SECTION" => self.memories = listed(source),
+            "SUBSET_ROW_SECTION" => self.subset_rows = listed(source),
+            "BRANCH_SECTION" => self.tree = listed(source),
             "EDGE_WEIGHT_SECTION" => {
                 self.weights = vec![0; self.cells()];
                 source.wholes(&mut self.weights, MOST_WEIGHT);
             }
-            "DEPOT_SECTION" => self.depots = std::iter::from_fn(|| Some(source.whole())).take_while(|it| *it != -1).collect(),
+            "DEPOT_SECTION" => {
+                self.depots = std::iter::from_fn(|| Some(source.whole())).take_while(|it| *it != -1).collect()
+            }
             _ => fail(keyword),
         }
     }

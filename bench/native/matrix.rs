@@ -1,6 +1,9 @@
 //! What is done with matrices: symmetry, a least 1-tree, duals.
 
 use crate::fail;
+use crate::file::Fields;
+use crate::points::{Metric, Nearest};
+use crate::whole::plane;
 
 const TILE: usize = 32;
 
@@ -88,7 +91,14 @@ pub fn upper_place(count: usize, i: usize, j: usize) -> usize {
 pub fn upper_tree(weights: &[i64], count: usize, numbers: &[i64], scale: i64) -> i128 {
     let starts: Vec<usize> = (0..count).map(|i| (i * (2 * count - i - 1) / 2).wrapping_sub(i + 1)).collect();
     let starts = starts.as_slice();
-    one_tree(count, numbers, scale, |from| {
-        move |node| weights[starts[from.min(node)].wrapping_add(from.max(node))]
-    })
+    one_tree(count, numbers, scale, |from| move |node| weights[starts[from.min(node)].wrapping_add(from.max(node))])
+}
+
+/// The costs of an instance, row by row: of a full matrix, or of points in a plane to the nearest whole number.
+pub fn costs_of(instance: &Fields) -> Vec<i64> {
+    if instance.weight_type != "EUC_2D" {
+        return instance.weights.clone();
+    }
+    let points = plane(instance);
+    points.iter().flat_map(|a| points.iter().map(|b| Nearest::exact(a, b))).collect()
 }

@@ -2,6 +2,8 @@
 
 pub const UNIT: i64 = 1_000_000_000;
 const SQUARE_UNIT: i128 = 1_000_000_000_000_000_000;
+/// Whole coordinates whose squares are exact in doubles.
+const MOST_SPAN: i64 = 1 << 24;
 
 pub trait Metric {
     /// The cost between points in billionths.
@@ -20,6 +22,18 @@ pub struct Att;
 #[inline(always)]
 pub fn whole_of(near: f64) -> i64 {
     unsafe { near.to_int_unchecked() }
+}
+
+/// Whether the squared distances of points are exact in doubles, in units of 1.
+pub fn are_whole<const D: usize>(points: &[[i64; D]]) -> bool {
+    let all = || points.iter().flatten();
+    let span = || all().max().unwrap_or(&0) - all().min().unwrap_or(&0);
+    all().all(|axis| axis % UNIT == 0) && span() < MOST_SPAN * UNIT
+}
+
+#[inline(always)]
+pub fn square<const D: usize>(a: &[f64; D], b: &[f64; D]) -> f64 {
+    (0..D).map(|axis| (a[axis] - b[axis]) * (a[axis] - b[axis])).sum()
 }
 
 /// The square of a distance: near it, and exactly.
@@ -55,7 +69,7 @@ impl Metric for Nearest {
     fn exact<const D: usize>(a: &[i64; D], b: &[i64; D]) -> i64 {
         let (near, square) = squares(a, b);
         let whole = whole_of(near.sqrt() * 1e-9 + 0.5);
-        let edge = i128::from(2 * whole + 1) * i128::from(UNIT);
+        let edge = i128::from((2 * whole + 1) * UNIT);
         let past = edge * edge - 4 * square;
         if past > 0 && (past <= i128::from(whole) * (8 * SQUARE_UNIT) || whole == 0) {
             return whole;
@@ -82,7 +96,7 @@ impl Metric for Ceiling {
     fn exact<const D: usize>(a: &[i64; D], b: &[i64; D]) -> i64 {
         let (near, square) = squares(a, b);
         let whole = whole_of(near.sqrt() * 1e-9 + 0.999_999_999);
-        let edge = i128::from(whole) * i128::from(UNIT);
+        let edge = i128::from(whole * UNIT);
         let past = edge * edge - square;
         if past >= 0 && past < i128::from(2 * whole - 1) * SQUARE_UNIT {
             return whole;
@@ -108,7 +122,7 @@ impl Metric for Att {
     fn exact<const D: usize>(a: &[i64; D], b: &[i64; D]) -> i64 {
         let (near, square) = squares(a, b);
         let whole = whole_of((near * 0.1).sqrt() * 1e-9 + 0.999_999_999);
-        let edge = i128::from(whole) * i128::from(UNIT);
+        let edge = i128::from(whole * UNIT);
         let past = 10 * (edge * edge) - square;
         if past >= 0 && past < i128::from(20 * whole - 10) * SQUARE_UNIT {
             return whole;

@@ -1,12 +1,16 @@
-//! A certificate of branches for routes, exact.
+//! The bound of a tree of cases for routes, exact.
 //!
 //! The weights without the potentials are in one matrix through all leaves, by where a link ends, so that
 //! the steps to a customer read one row. A table has, for each load and customer, the least weight of a walk
 //! from the depot to there, the customer before, and the least over all others before.
 
+use crate::branches::families_of;
 use crate::fail;
-use crate::fields::{Fields, combs_of, costs_of};
+use crate::file::Fields;
+use crate::matrix::costs_of;
+use crate::runs::{Memory, Runs};
 
+const FIRST_ROW: usize = 10_000; // behind the nodes: where the multipliers of subset rows begin
 const FAR: i64 = 1 << 61;
 const MOST_SUM: i128 = 1 << 60;
 
@@ -20,37 +24,22 @@ struct Instance {
 
 impl Instance {
     fn of(fields: &Fields) -> Instance {
-        let count = fields.number("DIMENSION").unwrap_or(0) as usize;
-        let mut demands = vec![0; count];
-        for entry in fields.numbers("DEMAND_SECTION").chunks_exact(2) {
-            demands[entry[0] as usize - 1] = entry[1];
-        }
-        let depot = fields.number("DEPOT_SECTION").unwrap_or(1) as usize - 1;
-        let capacity = fields.number("CAPACITY").unwrap_or_else(|| fail("CAPACITY"));
-        Instance { count, depot, costs: costs_of(fields, count), demands, capacity }
+        let [depot] = fields.depots[..] else { fail("DepotCount") };
+        let (costs, demands) = (costs_of(fields), fields.demands.clone());
+        Instance { count: fields.count, depot: depot as usize - 1, costs, demands, capacity: fields.capacity }
     }
 
     /// How many routes carry this at the least.
     fn need(&self, demand: i64) -> i128 {
         i128::from((-(-demand).div_euclid(self.capacity)).max(1))
     }
-
-    fn length(&self, routes: &[i64]) -> i64 {
-        let (mut sum, mut at) = (0, self.depot);
-        for node in routes {
-            let to = if *node == -1 { self.depot } else { *node as usize - 1 };
-            sum += if to == at { 0 } else { self.costs[at * self.count + to] };
-            at = to;
-        }
-        sum
-    }
 }
 
 // ---- loads
 
-struct Loads {
-    each: Vec<usize>,
-    room: usize,
+pub struct Loads {
+    pub each: Vec<usize>,
+    pub room: usize,
 }
 
 impl Loads {
@@ -123,17 +112,29 @@ struct Certificate {
     scale: i64,
     loads: Loads,
     sets: Vec<Vec<usize>>,
+    memory: Option<Memory>,
     words: Vec<i64>,
 }
 
 impl Certificate {
-    fn read(path: &str, instance: &Instance) -> Certificate {
-        let fields = Fields::read(path);
-        let loads = Loads::new(instance, fields.number("LOAD_UNIT").unwrap_or(1));
-        let families = combs_of(&fields.numbers("COMB_SECTION"));
-        let sets = families.into_iter().map(|mut sets| sets.swap_remove(0)).collect();
-        let (scale, words) = (fields.number("SCALE").unwrap_or(1), fields.numbers("BRANCH_SECTION"));
-        Certificate { scale, loads, sets, words }
+    fn of(fields: &Fields, instance: &Instance) -> Certificate {
+        let loads = Loads::new(instance, fields.unit.unwrap_or(1));
+        let sets = families_of(&fields.families).into_iter().map(|mut sets| sets.swap_remove(0)).collect();
+        let memory = Memory::of(fields, instance.count);
+        Certificate { scale: fields.scale.unwrap_or(1), loads, sets, memory, words: fields.tree.clone() }
+    }
+
+    fn rows(&self) -> usize {
+        self.memory.as_ref().map_or(0, Memory::rows)
+    }
+
+    /// The place of an index among the numbers: those of the nodes, of the sets and of the rows.
+    fn place_of(&self, index: usize, count: usize) -> usize {
+        if index <= count + FIRST_ROW {
+            index - 1
+        } else {
+            index - 1 - FIRST_ROW + self.sets.len()
+        }
     }
 }
 
@@ -154,7 +155,7 @@ impl<'a> Leaf<'a> {
         let cost = |to: usize, from: usize| certificate.scale * instance.costs[from * n + to];
         let between = (0..n * n).map(|place| cost(place / n, place % n)).collect();
         let table = Table::new((certificate.loads.room + 1) * n);
-        let (numbers, ends, weights) = (vec![0; n + certificate.sets.len()], vec![0; n], vec![0; n * n]);
+        let (numbers, ends, weights) = (vec![0; n + certificate.sets.len() + certificate.rows()], vec![0; n], vec![0; n * n]);
         Leaf { instance, certificate, numbers, ends, between, weights, table }
     }
 
@@ -165,7 +166,7 @@ impl<'a> Leaf<'a> {
             self.ends[place] += difference;
             return;
         }
-        let set = &self.certificate.sets[place - n];
+        let Some(set) = self.certificate.sets.get(place - n) else { return };
         for i in set {
             self.ends[*i] -= difference;
             for j in set {
@@ -189,20 +190,29 @@ impl<'a> Leaf<'a> {
             }
             self.weights[to * n + to] = FAR;
         }
-        let least = self.table.least(&self.weights, &self.certificate.loads, depot, n)?;
-        let (own, multipliers) = self.numbers.split_at(n);
+        let (own, others) = self.numbers.split_at(n);
+        let (multipliers, gains) = others.split_at(self.certificate.sets.len());
+        let loads = &self.certificate.loads;
+        let (least, paid) = match &self.certificate.memory {
+            Some(memory) => {
+                let runs = Runs::new(memory, gains, &self.weights, loads, depot);
+                (runs.least(2 * own[depot]), memory.given_back(gains))
+            }
+            None => (self.table.least(&self.weights, loads, depot, n)?, 0),
+        };
         let each = i128::from(least) - 2 * i128::from(own[depot]);
         let given: i128 = (0..n).filter(|node| *node != depot).map(|node| 2 * i128::from(own[node])).sum();
-        let sums = multipliers.iter().zip(limits).map(|(number, (low, high))| {
-            i128::from(*number) * if *number < 0 { *high } else { *low }
-        });
+        let sums = multipliers
+            .iter()
+            .zip(limits)
+            .map(|(number, (low, high))| i128::from(*number) * if *number < 0 { *high } else { *low });
         let fewest = self.instance.need(self.instance.demands.iter().sum());
-        Some((fewest * each).min((n as i128 - 1) * each) - given + sums.sum::<i128>())
+        Some((fewest * each).min((n as i128 - 1) * each) - given - paid + sums.sum::<i128>())
     }
 }
 
 /// The least bound of the leaves, where one has a walk.
-fn bound_of(instance: &Instance, certificate: &Certificate) -> Option<i128> {
+fn least_bound(instance: &Instance, certificate: &Certificate) -> Option<i128> {
     let n = instance.count;
     let demand = |set: &Vec<usize>| set.iter().map(|node| instance.demands[*node]).sum();
     let own = certificate.sets.iter().map(|set| (2 * instance.need(demand(set)), 2 * (n as i128 - 1)));
@@ -217,7 +227,7 @@ fn bound_of(instance: &Instance, certificate: &Certificate) -> Option<i128> {
             open += 1;
         } else {
             while let Some(place) = Some(next()).filter(|place| *place != -1) {
-                leaf.change(place as usize - 1, next());
+                leaf.change(certificate.place_of(place as usize, n), next());
             }
             least = [least, leaf.value(&limits)].into_iter().flatten().min();
             open -= 1;
@@ -229,16 +239,18 @@ fn bound_of(instance: &Instance, certificate: &Certificate) -> Option<i128> {
         limits.copy_from_slice(&plain);
         for (set, times, first) in &above {
             let (low, high) = &mut limits[*set];
-            if *first { *high = (*high).min(2 * times) } else { *low = (*low).max(2 * times + 2) }
+            if *first {
+                *high = (*high).min(2 * times)
+            } else {
+                *low = (*low).max(2 * times + 2)
+            }
         }
     }
     least.map(|value| -(-value).div_euclid(i128::from(certificate.scale)))
 }
 
-/// The length of routes, and the bound of a certificate.
-pub fn judge(instance: &Fields, routes: &Fields, branches: &str) -> (i64, i128) {
+/// The least bound of the leaves.
+pub fn bound(instance: &Fields, certificate: &Fields) -> i128 {
     let instance = Instance::of(instance);
-    let certificate = Certificate::read(branches, &instance);
-    let bound = bound_of(&instance, &certificate).unwrap_or_else(|| fail("no walk"));
-    (instance.length(&routes.numbers("TOUR_SECTION")), bound)
+    least_bound(&instance, &Certificate::of(certificate, &instance)).unwrap_or_else(|| fail("no walk"))
 }

@@ -10,49 +10,51 @@ const AT_HAND: usize = 4_200;
 /// Line ends behind the end of the file, and then a byte that no number has.
 const PAD: usize = 64;
 const UNIT: i64 = 1_000_000_000;
-const POWERS: [i64; 10] =
-    [1, 10, 100, 1000, 10_000, 100_000, 1_000_000, 10_000_000, 100_000_000, 1_000_000_000];
+const POWERS: [i64; 10] = [1, 10, 100, 1000, 10_000, 100_000, 1_000_000, 10_000_000, 100_000_000, 1_000_000_000];
 
-/// How many digits eight bytes begin with, and their number.
+/// How many digits the eight bytes from `at` on begin with, and their number, which is anything if there are none.
 #[inline(always)]
-fn digits_of_eight(bytes: [u8; 8]) -> (usize, i64) {
-    let text = u64::from_le_bytes(bytes);
-    let digits = text.wrapping_sub(0x3030_3030_3030_3030);
-    let above = text.wrapping_add(0x4646_4646_4646_4646);
-    let others = (digits | above) & 0x8080_8080_8080_8080;
-    let count = (others.trailing_zeros() / 8) as usize;
-    if count == 0 {
-        return (0, 0);
-    }
-    let digits = digits << (64 - 8 * count);
-    let pairs = digits.wrapping_mul(10).wrapping_add(digits >> 8);
+fn digits_of_eight(text: &[u8], at: usize) -> (usize, i64) {
+    let chunk = u64::from_le_bytes(text[at..at + 8].try_into().unwrap());
+    let digits = chunk ^ 0x3030_3030_3030_3030;
+    let others = (digits.wrapping_add(0x7676_7676_7676_7676) | digits) & 0x8080_8080_8080_8080;
+    let bits = others.trailing_zeros() & !7;
+    let front = digits.wrapping_shl(64 - bits);
+    let pairs = front.wrapping_mul(10).wrapping_add(front >> 8);
     let low = (pairs & 0x0000_00ff_0000_00ff).wrapping_mul(0x000f_4240_0000_0064);
     let high = ((pairs >> 16) & 0x0000_00ff_0000_00ff).wrapping_mul(0x0000_2710_0000_0001);
-    (count, (low.wrapping_add(high) >> 32) as i64)
+    (bits as usize / 8, (low.wrapping_add(high) >> 32) as i64)
 }
 
 /// The number of one to seven digits from `at` on, and the place behind the blank that ends it.
 #[inline(always)]
 fn short_at(text: &[u8], at: usize) -> Option<(i64, usize)> {
-    let chunk = u64::from_le_bytes(text[at..at + 8].try_into().unwrap());
-    let digits = chunk ^ 0x3030_3030_3030_3030;
-    let others = (digits.wrapping_add(0x7676_7676_7676_7676) | digits) & 0x8080_8080_8080_8080;
-    let bits = others.trailing_zeros() & !7;
-    if bits == 0 || bits == 64 || !matches!((chunk >> bits) as u8, b' ' | b'\n') {
-        return None;
+    let (count, number) = digits_of_eight(text, at);
+    let is_short = (1..8).contains(&count) && matches!(text[at + count], b' ' | b'\n');
+    is_short.then_some((number, at + count + 1))
+}
+
+/// The same for a decimal of at most seven digits before the point and behind it, in billionths.
+#[inline(always)]
+fn short_decimal_at(text: &[u8], at: usize) -> Option<(i64, usize)> {
+    let (count, whole) = digits_of_eight(text, at);
+    if !(1..8).contains(&count) || text[at + count] != b'.' {
+        return short_at(text, at).map(|(whole, end)| (whole * UNIT, end));
     }
-    let digits = digits << (64 - bits);
-    let pairs = digits.wrapping_mul(10).wrapping_add(digits >> 8);
-    let low = (pairs & 0x0000_00ff_0000_00ff).wrapping_mul(0x000f_4240_0000_0064);
-    let high = ((pairs >> 16) & 0x0000_00ff_0000_00ff).wrapping_mul(0x0000_2710_0000_0001);
-    Some(((low.wrapping_add(high) >> 32) as i64, at + bits as usize / 8 + 1))
+    let (places, part) = digits_of_eight(text, at + count + 1);
+    let end = at + count + 1 + places;
+    let is_short = (1..8).contains(&places) && matches!(text[end], b' ' | b'\n');
+    is_short.then(|| (whole * UNIT + part * POWERS[9 - places], end + 1))
 }
 
 /// The digits from `start` on, at most 18, as a number, and where they end.
 #[inline(always)]
 fn digits(text: &[u8], start: usize) -> (i64, usize) {
-    let (count, mut value) = digits_of_eight(text[start..start + 8].try_into().unwrap());
+    let (count, mut value) = digits_of_eight(text, start);
     let mut at = start + count;
+    if count == 0 {
+        return (0, at);
+    }
     if count == 8 {
         while text[at].is_ascii_digit() && at < start + 18 {
             value = value * 10 + i64::from(text[at] - b'0');
@@ -74,7 +76,11 @@ fn word_start(text: &[u8], mut at: usize) -> (usize, bool) {
 
 #[inline(always)]
 fn signed(negative: bool, size: i64) -> i64 {
-    if negative { -size } else { size }
+    if negative {
+        -size
+    } else {
+        size
+    }
 }
 
 /// The whole number from `at` on, and the place behind the blank that ends it.
@@ -96,9 +102,11 @@ fn long_at(text: &[u8], at: usize) -> (i64, usize) {
 /// The decimal from `at` on in billionths, and the place behind the blank that ends it.
 #[inline(always)]
 fn decimal_at(text: &[u8], at: usize) -> (i64, usize) {
-    if let Some((whole, end)) = short_at(text, at) {
-        return (whole * UNIT, end);
-    }
+    short_decimal_at(text, at).unwrap_or_else(|| long_decimal_at(text, at))
+}
+
+/// The same for any decimal, after any blanks.
+fn long_decimal_at(text: &[u8], at: usize) -> (i64, usize) {
     let (start, negative) = word_start(text, at);
     let (whole, mut end) = digits(text, start);
     let (mut part, mut places) = (0, 0);
@@ -192,6 +200,24 @@ impl Source {
         let (number, at) = decimal_at(&self.buffer, self.at);
         self.moved(at);
         number
+    }
+
+    /// Takes the whole numbers up to the next keyword.
+    #[inline(always)]
+    pub fn numbers(&mut self, mut take: impl FnMut(i64)) {
+        while !matches!(self.peek(), 0 | b'A'..=b'Z' | b'a'..=b'z') {
+            let (text, mut at) = (self.buffer.as_slice(), self.at);
+            let stop = if self.ended { self.end } else { self.end - PAD };
+            let (number, next) = whole_at(text, at);
+            take(number);
+            at = next;
+            while at < stop {
+                let Some((number, next)) = short_at(text, at) else { break };
+                take(number);
+                at = next;
+            }
+            self.moved(at);
+        }
     }
 
     /// Whole numbers of at most this size, as many as there are slots.

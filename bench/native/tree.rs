@@ -1,9 +1,8 @@
 //! A least tree over points: rounds in which each component adds its least link, over a tree of boxes.
 //!
-//!
 //! Boxes are left alone by doubles with a margin for their rounding. Weights are exact.
 
-use crate::points::{Metric, UNIT, whole_of};
+use crate::points::{Metric, UNIT, are_whole, square, whole_of};
 
 const LEAF: usize = 8;
 /// No weight: above all of them, and far from the limits of sums.
@@ -11,8 +10,6 @@ const NONE: i64 = i64::MAX / 4;
 const MARGIN: f64 = 1.0 + 1e-12;
 /// A label that no component has.
 const MIXED: u32 = u32::MAX;
-/// Whole coordinates whose squares are exact in doubles.
-const MOST_SPAN: i64 = 1 << 24;
 
 #[derive(Clone, Copy)]
 struct Area<const D: usize> {
@@ -70,11 +67,6 @@ fn split<const D: usize>(items: &mut [([f64; D], u32)], depth: u32, levels: u32,
     let (left, right) = items.split_at_mut(middle);
     split(left, depth + 1, levels, 2 * v, count);
     split(right, depth + 1, levels, 2 * v + 1, count);
-}
-
-#[inline(always)]
-fn square<const D: usize>(a: &[f64; D], b: &[f64; D]) -> f64 {
-    (0..D).map(|axis| (a[axis] - b[axis]) * (a[axis] - b[axis])).sum()
 }
 
 impl<const D: usize> Area<D> {
@@ -301,7 +293,7 @@ fn root(above: &mut [u32], mut label: u32) -> u32 {
 pub fn one_tree<M: Metric, const D: usize>(points: &[[i64; D]], numbers: &[i64], scale: i64) -> i128 {
     let all = || points.iter().flatten();
     let (low, high) = (all().min().copied().unwrap_or(0), all().max().copied().unwrap_or(0));
-    let is_whole = high - low < MOST_SPAN * UNIT && all().all(|it| it % UNIT == 0);
+    let is_whole = are_whole(points);
     // Of a coordinate the double is 3 roundings away at most, so a distance 12.
     let slack = if is_whole { 0.0 } else { (high - low) as f64 * 1e-9 * f64::EPSILON * 8.0 };
     let spokes = (1..points.len()).map(|node| scale * M::exact(&points[0], &points[node]) + numbers[0] + numbers[node]);

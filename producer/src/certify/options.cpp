@@ -74,8 +74,7 @@ void declare(CLI::App& app, Options& options) {
   app.add_flag("--short-file", options.short_file,
                "shrink the certificate of a TSP; this may take longer than the search");
   app.add_flag("--memory", options.memory,
-               "for a CVRP: q-routes that remember customers, and subset-row cuts. examples/recheck.py "
-               "judges these certificates, but tsp doesn't read them yet");
+               "for a CVRP: q-routes that remember customers, and subset-row cuts");
   // of tests: an empty group is left out of the help
   app.add_flag("--sparse", options.sparse, "without a matrix, as more than 5,000 points")->group("");
   app.add_option_function<std::vector<std::size_t>>(

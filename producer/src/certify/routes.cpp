@@ -58,9 +58,9 @@ int certify_routes(const Options& options, const std::string& tsp, std::unique_p
   Progress progress(options.log);
   Clock::catch_signals();
   const Clock clock(options.limit);
-  FoundRoutes found = find_routes(instance, given, options.seed, [&] {
-    return Clock::signal() ? 1.0 : clock.used() / kRemovals.part_of_time;
-  });
+  const auto used = [&] { return Clock::signal() ? 1.0 : clock.used() / kRemovals.part_of_time; };
+  FoundRoutes found = find_routes(instance, given, options.seed, used,
+                                  options.memory ? kRemovals.steps_before_dives : kRemovals.steps);
   begin.routes = std::move(found.best);
   begin.met = std::move(found.met);
   begin.named = given.has_value();

@@ -1,6 +1,7 @@
 #include "memory/memory_growth.h"
 
 #include <algorithm>
+#include <map>
 
 #include "memory/memory_parameters.h"
 
@@ -44,14 +45,34 @@ int most_payments(const SubsetRow& row, const Route& run) {
 }
 }  // namespace
 
+void MemoryGrowth::Tally::change(const std::vector<Visits>& visits, int sign) {
+  for (const Visits& own : visits) {
+    int& count = counts_[own.run];
+    payments_ -= used_[own.run].part * (count / 2);
+    count += sign * own.times;
+    payments_ += used_[own.run].part * (count / 2);
+  }
+}
+
+double MemoryGrowth::Tally::payments_with(const std::vector<Visits>& visits) const {
+  double sum = payments_;
+  for (const Visits& own : visits) {
+    const int count = counts_[own.run];
+    sum += used_[own.run].part * ((count + own.times) / 2 - count / 2);
+  }
+  return sum;
+}
+
 MemoryGrowth::MemoryGrowth(Memory& memory, std::vector<UsedRun> used, int bits)
     : memory_(memory), used_(std::move(used)), bits_(bits) {
   std::stable_sort(used_.begin(), used_.end(),
                    [](const UsedRun& a, const UsedRun& b) { return a.part > b.part; });
   for (int v = 0; v < static_cast<int>(memory.near.size()); v++) kept_.push_back(memory.kept_at(v));
-  visits_.assign(memory.near.size(), std::vector<unsigned char>(used_.size(), 0));
+  visits_.resize(memory.near.size());
   for (std::size_t k = 0; k < used_.size(); k++) {
-    for (const int v : used_[k].run) visits_[v][k]++;
+    std::map<int, int> times;
+    for (const int v : used_[k].run) times[v]++;
+    for (const auto& [v, count] : times) visits_[v].push_back({static_cast<int>(k), count});
   }
 }
 
@@ -76,31 +97,27 @@ int MemoryGrowth::forbid_cycles() {
 }
 
 double MemoryGrowth::payments_of(const NodeSet& set) const {
-  double sum = 0;
-  for (std::size_t k = 0; k < used_.size(); k++) {
-    int visits = 0;
-    for (const int v : set) visits += visits_[v][k];
-    sum += used_[k].part * (visits / 2);
-  }
-  return sum;
+  Tally tally(used_);
+  for (const int v : set) tally.add(visits_[v]);
+  return tally.payments();
 }
 
 // Rows of three whose violation is more than this, the most broken first.
 std::vector<MemoryGrowth::Broken> MemoryGrowth::triples(double least) const {
   std::vector<Broken> broken;
   const int nodes = static_cast<int>(visits_.size());
-  std::vector<unsigned char> pair(used_.size());
+  Tally tally(used_);
   for (int i = 1; i < nodes; i++) {
+    tally.add(visits_[i]);
     for (int j = i + 1; j < nodes; j++) {
-      for (std::size_t k = 0; k < used_.size(); k++) {
-        pair[k] = static_cast<unsigned char>(visits_[i][k] + visits_[j][k]);
-      }
+      tally.add(visits_[j]);
       for (int l = j + 1; l < nodes; l++) {
-        double sum = -1;
-        for (std::size_t k = 0; k < used_.size(); k++) sum += used_[k].part * ((pair[k] + visits_[l][k]) / 2);
-        if (sum > least) broken.push_back({sum, {i, j, l}});
+        const double violation = tally.payments_with(visits_[l]) - 1;
+        if (violation > least) broken.push_back({violation, {i, j, l}});
       }
+      tally.remove(visits_[j]);
     }
+    tally.remove(visits_[i]);
   }
   std::stable_sort(broken.begin(), broken.end(),
                    [](const Broken& a, const Broken& b) { return a.violation > b.violation; });
@@ -111,22 +128,20 @@ std::vector<MemoryGrowth::Broken> MemoryGrowth::triples(double least) const {
 std::optional<MemoryGrowth::Broken> MemoryGrowth::grown(const NodeSet& triple) const {
   Broken best{kSubsetRows.least_violation, {}};
   const int nodes = static_cast<int>(visits_.size());
-  std::vector<unsigned char> four(used_.size());
+  Tally tally(used_);
+  for (const int v : triple) tally.add(visits_[v]);
   const auto has = [&](int v) { return std::find(triple.begin(), triple.end(), v) != triple.end(); };
   for (int a = 1; a < nodes; a++) {
     if (has(a)) continue;
-    for (std::size_t k = 0; k < used_.size(); k++) {
-      four[k] = visits_[a][k];
-      for (const int v : triple) four[k] = static_cast<unsigned char>(four[k] + visits_[v][k]);
-    }
+    tally.add(visits_[a]);
     for (int b = a + 1; b < nodes; b++) {
       if (has(b)) continue;
-      double sum = -2;
-      for (std::size_t k = 0; k < used_.size(); k++) sum += used_[k].part * ((four[k] + visits_[b][k]) / 2);
-      if (sum <= best.violation) continue;
-      best = {sum, triple};
+      const double violation = tally.payments_with(visits_[b]) - 2;
+      if (violation <= best.violation) continue;
+      best = {violation, triple};
       best.set.insert(best.set.end(), {a, b});
     }
+    tally.remove(visits_[a]);
   }
   if (best.set.empty()) return std::nullopt;
   std::sort(best.set.begin(), best.set.end());

@@ -31,6 +31,26 @@ class MemoryGrowth {
     double violation;
     NodeSet set;
   };
+  // How often a used run comes to a customer, if it does.
+  struct Visits {
+    int run, times;
+  };
+  // A set of customers, and how often used runs would pay for its row if all customers kept it.
+  class Tally {
+   public:
+    explicit Tally(const std::vector<UsedRun>& used) : used_(used), counts_(used.size(), 0) {}
+    void add(const std::vector<Visits>& visits) { change(visits, 1); }
+    void remove(const std::vector<Visits>& visits) { change(visits, -1); }
+    double payments() const { return payments_; }
+    // With one customer more.
+    double payments_with(const std::vector<Visits>& visits) const;
+
+   private:
+    void change(const std::vector<Visits>& visits, int sign);
+    const std::vector<UsedRun>& used_;
+    std::vector<int> counts_;
+    double payments_ = 0;
+  };
   double payments_of(const NodeSet& set) const;
   std::vector<Broken> triples(double least) const;
   std::optional<Broken> grown(const NodeSet& triple) const;
@@ -43,7 +63,7 @@ class MemoryGrowth {
   Memory& memory_;
   std::vector<UsedRun> used_;  // the most used first
   const int bits_;
-  std::vector<int> kept_;                           // by customer: what it keeps
-  std::vector<std::vector<unsigned char>> visits_;  // by customer: how often used runs come there
+  std::vector<int> kept_;                    // by customer: what it keeps
+  std::vector<std::vector<Visits>> visits_;  // by customer
 };
 }  // namespace certify::routes

@@ -10,13 +10,15 @@
 namespace certify::routes {
 // What customers remember. Each thing is a bit of a state, and the checker has to keep all states.
 struct MemoryParameters {
-  int near = 3;                       // nearest customers that each remembers at first
-  int bits = 20, least_bits = 6;      // customers and rows that a customer keeps in one case
-  int fewer_bits = 4;                 // less, where there are too many states
-  int file_bits = 64;                 // in a file
-  std::size_t most_rows = 250;        // of a case
-  std::size_t states = 6000000;       // that the root should keep, where the tree has the same memory
-  std::size_t most_states = 9000000;  // that it may keep: the checker has a limit of 10,000,000
+  int near = 3;                             // nearest customers that each remembers at first
+  int bits = 20, least_bits = 6;            // customers and rows that a customer keeps in one case
+  int fewer_bits = 4;                       // less, where there are too many states
+  int file_bits = 64;                       // in a file
+  std::size_t most_rows = 250;              // of a case
+  std::size_t states = 8000000;             // that the root should keep, where the tree has the same memory
+  std::size_t most_states = 9000000;        // of a leaf by its own memory
+  std::size_t file_states = 10000000;       // by the file's, which is the checker's limit
+  std::size_t most_coarse_states = 500000;  // of a leaf whose numbers are made shorter
 };
 inline constexpr MemoryParameters kMemory{};
 

@@ -11,6 +11,7 @@ struct SettledLeaf {
   RunDuals duals{};
   RunLeaf numbers{};
   Memory memory{};
+  std::size_t states = 0;  // of the rounded numbers with this memory
   bool is_empty() const { return duals.potentials.empty() && numbers.potentials.empty(); }
   bool is_rounded() const { return !numbers.potentials.empty(); }
 };

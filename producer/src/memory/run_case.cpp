@@ -153,6 +153,7 @@ bool RunCaseSolver::settle(Rounds& rounds, RunOutcome& outcome) {
   outcome.value = made->value;
   outcome.leaf.numbers = std::move(made->numbers);
   outcome.leaf.memory = rounds.best.memory.with_rows_of(outcome.leaf.numbers.rows);
+  outcome.leaf.states = bound_.states();
   return true;
 }
 

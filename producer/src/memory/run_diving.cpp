@@ -44,7 +44,6 @@ std::optional<Routes> dive(const SolvedRunCase& here, Weight length, const std::
     const int run = most_used(program);
     if (run < 0) return program.plan();
     program.fix(run);
-    program.solve();
   }
   return std::nullopt;
 }

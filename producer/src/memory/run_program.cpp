@@ -169,6 +169,12 @@ std::optional<Routes> RunProgram::plan() const {
   return is_plan(instance_, routes) ? std::optional(routes) : std::nullopt;
 }
 
+// The duals stay feasible, so that the dual simplex needs few iterations.
+void RunProgram::fix(int run) {
+  program_.setColumnLower(first_ + run, 1);
+  program_.dual(0);
+}
+
 void RunProgram::note_solution() {
   const RunDuals own = duals();
   int row = customers(), column = customers();

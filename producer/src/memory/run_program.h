@@ -46,8 +46,8 @@ class RunProgram : public RouteProgram {
   std::vector<std::pair<double, int>> used() const;
   // Those that the solution uses wholly, if it uses no others and they are a plan.
   std::optional<Routes> plan() const;
-  // The run is used wholly from here on.
-  void fix(int run) { program_.setColumnLower(first_ + run, 1); }
+  // The run is used wholly from here on. Solves the program with that.
+  void fix(int run);
   // Notes which rows are slack in the solution, and its basis. To be called before rows change.
   void note_solution();
   // The least reduced costs first.

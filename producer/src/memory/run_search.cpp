@@ -78,6 +78,7 @@ void RunSearch::settle(Tree::Place& here, const std::vector<Limit>& limits) {
   here.value = made->value;
   leaf.numbers = std::move(made->numbers);
   leaf.memory = leaf.memory.with_rows_of(leaf.numbers.rows);
+  leaf.states = bound_.states();
 }
 
 // Where a shorter plan was found, the duals from above may do.
@@ -127,7 +128,7 @@ void RunSearch::join_memory() {
 // Where a leaf has too many states by the file's memory, it loses rows, a tenth at once, the lightest first.
 void RunSearch::lighten(SettledLeaf& leaf, const std::vector<Limit>& limits) {
   std::map<NodeSet, Weight>& rows = leaf.numbers.rows;
-  while (!rows.empty() && bound_.value(leaf.numbers, memory_, limits, kMemory.most_states) == kNoValue) {
+  while (!rows.empty() && bound_.value(leaf.numbers, memory_, limits, kMemory.file_states) == kNoValue) {
     std::vector<std::pair<Weight, NodeSet>> order;
     for (const auto& [set, multiplier] : rows) order.emplace_back(multiplier, set);
     std::sort(order.begin(), order.end());
@@ -137,7 +138,14 @@ void RunSearch::lighten(SettledLeaf& leaf, const std::vector<Limit>& limits) {
   }
 }
 
+// Each trial of a grid goes through the states of a leaf at least. So where these are many, the file stays
+// long.
 void RunSearch::coarsen() {
+  const std::vector<int> leaves = tree_.leaves();
+  if (std::any_of(leaves.begin(), leaves.end(),
+                  [&](int leaf) { return tree_[leaf].numbers.states > kMemory.most_coarse_states; })) {
+    return;
+  }
   const auto numbers_of = [&](int place, Weight grid) -> std::optional<SettledLeaf> {
     const SettledLeaf& own = tree_[place].numbers;
     RunDuals duals;
@@ -151,7 +159,7 @@ void RunSearch::coarsen() {
     for (const auto& [set, multiplier] : own.numbers.rows) {
       duals.rows[set] = static_cast<double>(multiplier) / scale;
     }
-    auto made = bound_.rounded(duals, memory_, limits_of(place), grid, aim(), kMemory.most_states);
+    auto made = bound_.rounded(duals, memory_, limits_of(place), grid, aim(), kMemory.file_states);
     if (!made || made->value < aim()) return std::nullopt;
     SettledLeaf leaf;
     leaf.numbers = std::move(made->numbers);
@@ -175,7 +183,7 @@ void RunSearch::add_leaf(int place) {
   lighten(leaf, limits);
   made_.add_leaf(leaf.numbers);
   add_rows(leaf.numbers);
-  least_ = std::min(least_, bound_.value(leaf.numbers, memory_, limits, kMemory.most_states));
+  least_ = std::min(least_, bound_.value(leaf.numbers, memory_, limits, kMemory.file_states));
   states_ = std::max(states_, bound_.states());
 }
 

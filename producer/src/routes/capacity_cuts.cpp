@@ -59,11 +59,20 @@ void CapacityCuts::link_parts(const Graph& support, const std::vector<int>& part
   forbidden_.assign(parts, 0);
 }
 
+// As many routes at least serve customers of this demand. Most demands that are asked for need as many routes
+// as the set at hand, and that takes no division.
+int CapacityCuts::routes_for(Weight demand) const {
+  const Weight most = routes_ * instance_.capacity;
+  if (demand <= most && demand > most - instance_.capacity) return routes_;
+  return instance_.fewest_routes(demand);
+}
+
 // Puts a part into the set, or takes it out.
 void CapacityCuts::toggle(int part) {
   const bool add = inside_[part] == 0;
   crossings_ += add ? grown_by(part) : -grown_by(part);
   demand_ += add ? demands_[part] : -demands_[part];
+  routes_ = routes_for(demand_);
   inside_[part] = static_cast<char>(add);
   if (add) {
     set_.push_back(part);
@@ -86,6 +95,7 @@ void CapacityCuts::clear() {
   touched_.clear();
   crossings_ = 0;
   demand_ = 0;
+  routes_ = 1;
 }
 
 void CapacityCuts::record() {
@@ -128,7 +138,7 @@ int CapacityCuts::best_to_add(Rule rule) const {
     double key = -inward_[part];
     if (rule == Rule::kDensity) key = grown_by(part) - 2 * filled;
     if (rule == Rule::kSlack) {
-      key = grown_by(part) - 2 * instance_.fewest_routes(demand_ + demands_[part]) - 1e-3 * filled;
+      key = grown_by(part) - 2 * routes_for(demand_ + demands_[part]) - 1e-3 * filled;
     }
     if (best >= 0 && key >= least) continue;
     best = part;
@@ -145,7 +155,7 @@ int CapacityCuts::best_move(int routes, int step) const {
     if (forbidden_[part] > step) return;
     const bool leaves = inside_[part] != 0;
     const Weight demand = leaves ? demand_ - demands_[part] : demand_ + demands_[part];
-    if (demand <= 0 || instance_.fewest_routes(demand) != routes) return;
+    if (demand <= 0 || routes_for(demand) != routes) return;
     if (leaves ? set_.size() < 2 : inward_[part] < kUnlinked) return;
     const double key = leaves ? -grown_by(part) : grown_by(part) - 1e-4 * static_cast<double>(demands_[part]);
     if (best >= 0 && key >= least) return;

@@ -40,7 +40,8 @@ class CapacityCuts {
   void toggle(int part);
   void record();
   void clear();
-  int routes() const { return instance_.fewest_routes(demand_); }
+  int routes() const { return routes_; }
+  int routes_for(Weight demand) const;
   double grown_by(int part) const { return degrees_[part] - 2 * inward_[part]; }
 
   const CvrpInstance& instance_;
@@ -57,6 +58,7 @@ class CapacityCuts {
   std::vector<int> set_, touched_, forbidden_;
   double crossings_ = 0;
   Weight demand_ = 0;
+  int routes_ = 1;  // that serve this demand
   // What was found.
   std::set<NodeSet> met_;
   std::vector<CapacityCut> found_, between_;

@@ -10,8 +10,9 @@
 namespace certify::routes {
 // Plans by string removals: most numbers are those of the source.
 struct RemovalParameters {
-  int runs = 4;               // at once, since one alone may miss the shortest plan
-  std::int64_t steps = 8000;  // of each, for each customer
+  int runs = 4;                            // at once, since one alone may miss the shortest plan
+  std::int64_t steps = 8000;               // of each, for each customer
+  std::int64_t steps_before_dives = 2000;  // at first, where dives find plans too
   std::int64_t few_steps = 20000;
   int near = 40;        // customers beside which another one is put back
   double removed = 10;  // customers of a step, on the average

@@ -255,12 +255,12 @@ Routes StringRemovals::run(const Routes& first, std::int64_t steps, const std::f
 }
 
 FoundRoutes find_routes(const CvrpInstance& instance, const std::optional<Routes>& given, std::uint64_t seed,
-                        const std::function<double()>& used) {
+                        const std::function<double()>& used, std::int64_t steps_of_customer) {
   Routes first;
   for (const int v : instance.customers()) first.push_back({v});
   if (given) first = *given;
   const std::int64_t steps =
-      std::max(kRemovals.few_steps, kRemovals.steps * static_cast<std::int64_t>(instance.nodes()));
+      std::max(kRemovals.few_steps, steps_of_customer * static_cast<std::int64_t>(instance.nodes()));
   std::vector<Routes> found(kRemovals.runs);
   std::vector<std::set<Route>> met(kRemovals.runs);
   for_each_at_once(found.size(), [&](std::size_t k) {

@@ -76,5 +76,6 @@ struct FoundRoutes {
 
 // The best of several runs, which depend on the seed alone where there is time.
 FoundRoutes find_routes(const CvrpInstance& instance, const std::optional<Routes>& given, std::uint64_t seed,
-                        const std::function<double()>& used);
+                        const std::function<double()>& used,
+                        std::int64_t steps_of_customer = kRemovals.steps);
 }  // namespace certify::routes

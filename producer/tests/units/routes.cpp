@@ -274,6 +274,36 @@ TEST_CASE("Capacity cuts are sets that are crossed too seldom") {
   CHECK(found[0].slack == Approx(-4));  // it needs two routes, and is crossed by none
 }
 
+// Three customers of demand 2, a vehicle for 5: two routes have to come, which cross their set four times.
+TEST_CASE("A capacity cut is found at a fractional point that breaks it, and not where it holds") {
+  const CvrpInstance instance{Matrix(5), {0, 2, 2, 2, 5}, 5, {1, 2, 3, 4, 5}, true};
+  const auto point = [&](double inside) {
+    Graph support(5);
+    const auto add = [&](int a, int b, double value) {
+      support[a].push_back({b, value});
+      support[b].push_back({a, value});
+    };
+    for (int v = 1; v <= 3; v++) {
+      add(0, v, 2 - 2 * inside);
+      for (int u = v + 1; u <= 3; u++) add(v, u, inside);
+    }
+    add(0, 4, 2);
+    return support;
+  };
+  CapacityCuts cuts(instance, 1);
+  const std::vector<CapacityCut> found = cuts.violated(point(0.5), true, 0.02);
+  REQUIRE(found.size() == 1);
+  CHECK(found[0].set == NodeSet{1, 2, 3});
+  CHECK(found[0].slack == Approx(-1));
+  // Two of them are crossed three times, where two are needed.
+  REQUIRE_FALSE(cuts.between().empty());
+  for (const CapacityCut& set : cuts.between()) {
+    CHECK(set.set.size() == 2);
+    CHECK(set.slack == Approx(1));
+  }
+  CHECK(cuts.violated(point(1.0 / 3), true, 0.02).empty());
+}
+
 TEST_CASE("Found cuts are violated as they say") {
   Random random(3);
   for (int k = 0; k < 20; k++) {
