@@ -5,7 +5,7 @@ ghost use Rattle.std.specs.Prelude.{◌≡◌, true, IfOk};
 ghost use Rattle.example_check.specs.Texts.{IsAcceptedOnTexts};
 
 use std::alloc::Global;
-use tsp_judge::{RunFault, Watched, run_check};
+use tsp_judge::{Output, RunFault, Watched, run_check};
 
 /// Judges a solution of an instance, and returns whether it is accepted, with the report.
 ///
@@ -21,7 +21,7 @@ pub fn report_on(
 {
     let mut first = Watched::new(instance);
     let mut second = Watched::new(solution);
-    let mut report = Watched::new(Vec::new(alloc));
+    let mut report = Output::new(Vec::new(alloc));
     let accepted = run_check(alloc, &mut first, &mut second, &mut report)?;
     Ok((accepted, report.into_inner()))
 }

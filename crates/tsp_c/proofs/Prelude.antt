@@ -8,7 +8,8 @@ pub use Rattle.tsp_file.specs.Cost.{origin}
 unfoldable pub use Rattle.tsp_file.specs.Cost.{cost, distance}
 pub use Rattle.tsp_file.specs.Fields.{Fields, nodes_of}
 pub use Rattle.tsp_io.specs.Streams.{HasWritten, ReadTrace, Sink}
-pub use Rattle.tsp_io.specs.states.Watched.{read_trace_of, sink_of, watched}
+pub use Rattle.tsp_io.specs.states.Output.{sink_of, writer_of}
+pub use Rattle.tsp_io.specs.states.Watched.{read_trace_of}
 pub use Rattle.tsp_judge.specs.CheckRun.{AreRead, EndsWithout, Given, IsFaultOfRun, IsFileIn, IsRun, IsSomeFile, JudgesFiles, acceptance}
 pub use Rattle.tsp_judge.specs.BoundRun.{BoundsFiles, EndsUnbounded, IsBoundRun, IsBoundRunOf, SaysBound}
 pub use Rattle.tsp_judge.specs.RunStatus.{status_of, status_of_fault}

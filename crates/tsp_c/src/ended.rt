@@ -3,7 +3,7 @@
 //! (`call_end.rt`).
 
 ghost use Rattle.std.specs.Prelude.{◌≡◌, ◌≢◌, IsErr, MatchResult, [], IfOk};
-ghost use Rattle.tsp_io.specs.states.Watched.{watched};
+ghost use Rattle.tsp_io.specs.states.Output.{writer_of};
 ghost use Rattle.tsp_c.specs.CallResult.{blank_result};
 ghost use Rattle.tsp_c.specs.NumberCalls.{EndsOnTexts, IsPlaced, IsPrinted, without_devices, fault_line};
 ghost use Rattle.tsp_c.specs.Texts.{IsRefusedNumber};
@@ -13,7 +13,7 @@ use crate::call_result::CallResult;
 use std::alloc::Global;
 use std::io::{self, Write};
 use std::marker::Model;
-use tsp_judge::{ReadFault, RunError, RunFault, Status, Watched, WriteFault, status_of};
+use tsp_judge::{Output, ReadFault, RunError, RunFault, Status, WriteFault, status_of};
 
 /// The status of a call on texts, and its text. Contracts see a pair.
 ///
@@ -61,8 +61,8 @@ impl Answer {
 
 /// The status with which a run on texts ends, and the text that goes to the caller: what the run
 /// wrote, or the line of its fault. If there is no memory for a line, the text is empty.
-pub(crate) fn ended(answer: Result<bool, RunError>, report: Watched<Vec<u8>>) -> Answer
-    ensures { EndsOnTexts answer (watched report).items result.0 result.1 }
+pub(crate) fn ended(answer: Result<bool, RunError>, report: Output<Vec<u8>>) -> Answer
+    ensures { EndsOnTexts answer (writer_of report).items result.0 result.1 }
 {
     match printed(answer, report) {
         Ok(printed) => printed,
@@ -78,9 +78,9 @@ pub(crate) fn ended(answer: Result<bool, RunError>, report: Watched<Vec<u8>>) ->
 /// # Errors
 ///
 /// Out of memory for the line of a fault.
-fn printed(answer: Result<bool, RunError>, report: Watched<Vec<u8>>) -> Result<Answer, NoLine>
+fn printed(answer: Result<bool, RunError>, report: Output<Vec<u8>>) -> Result<Answer, NoLine>
     ensures { MatchResult result
-        (λ printed. IsPrinted answer (watched report).items printed.0 printed.1)
+        (λ printed. IsPrinted answer (writer_of report).items printed.0 printed.1)
         (λ no_line. IsErr answer) }
 {
     let text = report.into_inner();

@@ -6,7 +6,9 @@ ghost use Rattle.tsp_c.specs.Texts.{ExplainsTexts, IsExplained};
 use crate::picked_runs::{bound_asked, certificate_of, claim_of, layout_of, strict_of};
 use std::alloc::{AllocError, Global};
 use std::str;
-use tsp_judge::{ReadFault, RunFault, Status, Watched, explain_fault, explain_outcome, perform};
+use tsp_judge::{
+    Output, ReadFault, RunFault, Status, Watched, explain_fault, explain_outcome, perform,
+};
 use tsp_report::{FileTask, Task};
 
 /// The calls that are explained, by their numbers.
@@ -99,7 +101,7 @@ fn task_of<'a>(numbers: Numbers, texts: Texts<'a>) -> Option<FileTask<Named<'a>>
 /// Appends the explanation of the result of a task on texts.
 fn explain(alloc: Global, text: &mut Vec<u8>, task: FileTask<Named<'_>>) -> Result<(), AllocError> {
     let mut readers = task.map(|file| Watched::new(file.bytes));
-    let mut report = Watched::new(Vec::new(alloc));
+    let mut report = Output::new(Vec::new(alloc));
     let ended = perform(alloc, &mut readers, &mut report);
     drop(report);
     let task = Task::Files(task);

@@ -3,7 +3,7 @@
 
 ghost use Rattle.tsp_c.specs.Prelude.{None, Some, MatchResult, report_of, IsSized, is_yes, Open, IsOpened, IsUnopened, status_of_fault, OutOfMemory};
 ghost use Rattle.std.specs.Prelude.{◌≡◌, ◌<◌, ◌*◌, ◌-◌};
-ghost use Rattle.tsp_io.specs.states.Watched.{sink_of};
+ghost use Rattle.tsp_io.specs.states.Output.{sink_of};
 ghost use Rattle.tsp_c.specs.CallResult.{result_of_fault};
 ghost use Rattle.tsp_c.specs.NumberCalls.{Reports, nth, EndsCount, EndsLengths, EndsMatrix, EndsWeights};
 ghost use Rattle.tsp_c.specs.Opened.{BindsOpen, BindsText, ChecksAsTexts, ChecksHeld, EndsSection, OfHeld, OpensText, TellsJudged};
@@ -18,10 +18,10 @@ use crate::picked_runs::{certificate_of, claim_of, strict_of};
 use crate::point_calls::{lengths_of, points_of_file};
 use std::alloc::Global;
 use std::boxed::Box;
-use std::io::Write;
 use tsp_cost::{Costs, Instance};
+use tsp_io::Takes;
 use tsp_judge::{
-    CertificateKind, Opened, RunError, Verdict, Watched, report_verdict, verdicts_mean_reports,
+    CertificateKind, Opened, Output, RunError, Verdict, report_verdict, verdicts_mean_reports,
 };
 use tsp_verdict::strict_verdict;
 
@@ -171,7 +171,7 @@ fn check_opened(
     ensures numbers { TellsJudged opened.now claimed strict solution.now result.0.0 result.1 }
 {
     verdicts_mean_reports();
-    let mut report = Watched::new(Vec::new(alloc));
+    let mut report = Output::new(Vec::new(alloc));
     match opened.judge(alloc, solution, claimed) {
         Err(error) => {
             let answer = ended(Err(error), report);
@@ -191,10 +191,10 @@ fn check_opened(
 }
 
 /// Writes the report on a verdict, and returns whether it accepts.
-fn reported<W: Write>(
+fn reported<W: Takes>(
     instance: &Instance,
     verdict: Verdict,
-    out: &mut Watched<W>,
+    out: &mut Output<W>,
 ) -> Result<bool, RunError>
     requires { IsSized verdict }
     ensures { Reports (sink_of W.contents out.old out.new) (report_of instance.now verdict) (is_yes verdict) result }

@@ -14,8 +14,8 @@ use crate::call_result::CallResult;
 use crate::ended::{Answer, ended};
 use std::alloc::Global;
 use tsp_judge::{
-    Bounded, CertificateKind, Judged, Layout, RunError, Watched, convert_file, run, run_bound,
-    show_file, verdicts_mean_reports,
+    Bounded, CertificateKind, Judged, Layout, Output, RunError, Watched, convert_file, run,
+    run_bound, show_file, verdicts_mean_reports,
 };
 
 /// What a check asks for besides the verdict. `flags` is a sum: 1 for a claimed length, 2 if a line
@@ -148,7 +148,7 @@ pub(crate) fn shown(alloc: Global, file: &[u8]) -> Answer
     ensures { ShowsText file.now result.0 result.1 }
 {
     let mut reader = Watched::new(file);
-    let mut report = Watched::new(Vec::new(alloc));
+    let mut report = Output::new(Vec::new(alloc));
     let answer = done(show_file(alloc, &mut reader, &mut report));
     ended(answer, report)
 }
@@ -158,7 +158,7 @@ fn converted(alloc: Global, file: &[u8], to: Option<Layout>) -> Answer
     ensures { ConvertsText to file.now result.0 result.1 }
 {
     let mut reader = Watched::new(file);
-    let mut report = Watched::new(Vec::new(alloc));
+    let mut report = Output::new(Vec::new(alloc));
     let answer = done(convert_file(alloc, &mut reader, to, &mut report));
     ended(answer, report)
 }
@@ -182,7 +182,7 @@ fn checked(
     let mut first = Watched::new(instance);
     let mut second = Watched::new(solution);
     let mut named = named_reader(by, certificate);
-    let mut report = Watched::new(Vec::new(alloc));
+    let mut report = Output::new(Vec::new(alloc));
     let judged = run(
         alloc,
         &mut first,
@@ -226,7 +226,7 @@ fn bounded(
 {
     let mut first = Watched::new(instance);
     let mut second = Watched::new(certificate);
-    let mut report = Watched::new(Vec::new(alloc));
+    let mut report = Output::new(Vec::new(alloc));
     let found = run_bound(alloc, &mut first, by, &mut second, strict, &mut report);
     let numbers = CallResult::of_bound_run(&found);
     let answer = ended(bound_answer(found), report);

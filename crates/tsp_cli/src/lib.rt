@@ -34,5 +34,5 @@ pub use job::{InputPath, Job, JobFault, TaskFault, Verb, input_path_at, job_of, 
 pub use laws::{explained_on_a_terminal, faults_are_one_line};
 pub use running::{HostContext, run, tell_unread, tell_waiting};
 pub use solution_run::{SolutionTask, solution_task_of};
-pub use tsp_judge::{Outcome, Watched, WriteFault, perform};
+pub use tsp_judge::{Outcome, Output, Watched, WriteFault, perform};
 pub use tsp_report::FileTask;

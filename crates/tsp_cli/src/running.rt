@@ -5,7 +5,7 @@ ghost use Rattle.std.specs.Io.KnownBytes.{Appends, Keeps};
 ghost use Rattle.std.specs.IoError.{error_kind};
 ghost use Rattle.std.specs.Prelude.{◌≡◌, ◌≢◌, ◌||◌, IfOk, OnOk, Some, drop, map, ◌≤◌, ◌<◌, true, false, length};
 ghost use Rattle.std.specs.String.{string_bytes};
-ghost use Rattle.tsp_io.specs.states.Watched.{sink_of};
+ghost use Rattle.tsp_io.specs.states.Output.{FailsByWrite, sink_of};
 ghost use Rattle.tsp_cli.specs.ProgramRun.{IsComparedAs, AreOpened, IsFresh, EndsProgram, EndsRefused, EndsWith, HasNoWords, IsDoneAs, Runs, RunsComparison, RunsJob, RunsFileTask, begins_with_help, AreFresh};
 ghost use Rattle.tsp_cli.specs.declared.job.Verb.TheVariants as verbs;
 ghost use Rattle.tsp_cli.specs.RunEnd.{Prints, PrintsSome, version_text, status_of_run_end, Tells, TellsAfter, TellsAll, waiting_line};
@@ -22,7 +22,7 @@ use std::alloc::{AllocError, Global};
 use std::fmt::{self, Display, Formatter};
 use std::io::{self, Read, Write};
 use std::marker::PhantomData;
-use tsp_io::{Gives, write_text};
+use tsp_io::{Gives, Output, Takes, write_text};
 use tsp_judge::{Watched, WriteFault, compare, perform};
 use tsp_report::{Comparison, FileTask, Task};
 
@@ -46,16 +46,17 @@ pub struct HostContext {
 /// explanation follows; a comparison explains each line that accepts no solution right after it,
 /// and on a terminal counts its solutions. The version, with the text of the build, and the help of
 /// the verb `help` go to `out`.
-pub fn run<F: Gives + Drop, O: Open<F>, W: Write, E: Write>(
+pub fn run<F: Gives + Drop, O: Open<F>, W: Takes, E: Write>(
     alloc: Global,
     line: &[String],
     files: &O,
-    out: &mut Watched<W>,
+    out: &mut Output<W>,
     errors: &mut E,
     host_context: HostContext,
 ) -> (u8, io::Result<()>)
-    ensures { Runs (EndsProgram F.remaining F.gives (O.opens files.now) host_context.on_terminal host_context.build.now (map string_bytes line.now)
+    ensures ends { Runs (EndsProgram F.remaining F.gives (O.opens files.now) host_context.on_terminal host_context.build.now (map string_bytes line.now)
         (sink_of W.contents out.old out.new)) (E.contents errors.old) (E.contents errors.new) result }
+    ensures cause { FailsByWrite W.takes out.new }
 {
     let Ok(words) = words_after_first(alloc, line) else {
         return end(&RunEnd::NoJob(JobFault::OutOfMemory), errors);
@@ -75,12 +76,12 @@ pub fn run<F: Gives + Drop, O: Open<F>, W: Write, E: Write>(
 }
 
 /// The end if `clap` refuses the words: the version and, by the verb `help`, help are printed.
-fn end_of_refusal<W: Write>(
+fn end_of_refusal<W: Takes>(
     alloc: Global,
     refusal: Refusal,
     words: &[&str],
     build: &str,
-    out: &mut Watched<W>,
+    out: &mut Output<W>,
 ) -> RunEnd
     ensures { EndsRefused build.now (map (λ word. word.now) words.now) (sink_of W.contents out.old out.new) refusal result }
 {
@@ -125,11 +126,11 @@ fn end<E: Write>(run_end: &RunEnd, errors: &mut E) -> (u8, io::Result<()>)
 
 /// Does the job, and tells how that ended, with its explanation if that is wanted. The result is
 /// as that of `run`.
-fn run_job<F: Gives + Drop, O: Open<F>, W: Write, E: Write>(
+fn run_job<F: Gives + Drop, O: Open<F>, W: Takes, E: Write>(
     alloc: Global,
     job: &Job,
     files: &O,
-    out: &mut Watched<W>,
+    out: &mut Output<W>,
     errors: &mut E,
     host_context: HostContext,
 ) -> (u8, io::Result<()>)
@@ -196,10 +197,10 @@ pub(crate) fn tell_fault_of_job<E: Write>(
 }
 
 /// Does a task on its files, each opened in its place, and tells how that ended.
-fn run_file_task<F: Gives + Drop, O: Open<F>, W: Write, E: Write>(
+fn run_file_task<F: Gives + Drop, O: Open<F>, W: Takes, E: Write>(
     task_run: &TaskRun<'_, F, O>,
     task: &FileTask<InputPath<'_>>,
-    out: &mut Watched<W>,
+    out: &mut Output<W>,
     errors: &mut E,
 ) -> (u8, io::Result<()>)
     ensures { RunsFileTask (IsDoneAs F.remaining F.gives (O.opens task_run.now.files.now) task.now (sink_of W.contents out.old out.new))
@@ -213,10 +214,10 @@ fn run_file_task<F: Gives + Drop, O: Open<F>, W: Write, E: Write>(
 
 /// Compares solutions, and tells how that ended. The instance is opened in its place, and the
 /// certificate if one is named, and after them each solution in its own place.
-fn run_comparison<F: Gives + Drop, O: Open<F>, W: Write, E: Write>(
+fn run_comparison<F: Gives + Drop, O: Open<F>, W: Takes, E: Write>(
     task_run: &TaskRun<'_, F, O>,
     comparison: &Comparison<'_, InputPath<'_>>,
-    out: &mut Watched<W>,
+    out: &mut Output<W>,
     errors: &mut E,
 ) -> (u8, io::Result<()>)
     ensures { RunsComparison (IsComparedAs F.remaining F.gives (O.opens task_run.now.files.now) comparison.now
@@ -338,10 +339,10 @@ impl Display for Version<'_> {
 /// # Errors
 ///
 /// `Device` if the writer fails; `OutOfMemory`.
-fn print_version<W: Write>(
+fn print_version<W: Takes>(
     alloc: Global,
     build: &str,
-    out: &mut Watched<W>,
+    out: &mut Output<W>,
 ) -> Result<(), WriteFault>
     ensures { Prints (sink_of W.contents out.old out.new) (version_text build.now) result }
 {
@@ -357,10 +358,10 @@ fn print_version<W: Write>(
 /// # Errors
 ///
 /// `Device` if the writer fails; `OutOfMemory`.
-fn print_help<W: Write>(
+fn print_help<W: Takes>(
     alloc: Global,
     help: &Refusal,
-    out: &mut Watched<W>,
+    out: &mut Output<W>,
 ) -> Result<(), WriteFault>
     ensures { PrintsSome (sink_of W.contents out.old out.new) result }
 {

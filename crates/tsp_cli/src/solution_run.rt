@@ -2,7 +2,7 @@
 
 ghost use Rattle.std.specs.Prelude.{◌≡◌, ◌↔◌, IsTrue, OnOk, Some};
 ghost use Rattle.tsp_cli.specs.Grammar.{text_in};
-ghost use Rattle.tsp_io.specs.states.Watched.{sink_of};
+ghost use Rattle.tsp_io.specs.states.Output.{sink_of};
 ghost use Rattle.tsp_solution.specs.SolutionRun.{IsSolutionRun};
 ghost use Rattle.tsp_cli.specs.ProgramRun.{EndsWith, RunsJob};
 ghost use Rattle.tsp_cli.specs.RunEnd.{TellsAll, status_of_solved};
@@ -18,7 +18,7 @@ use std::alloc::Global;
 use std::io::{self, Write};
 use tsp_explain::push_lines;
 use tsp_format::MOST_NODES;
-use tsp_io::{Gives, Watched, WriteFault, write_text};
+use tsp_io::{Gives, Output, Takes, WriteFault, write_text};
 use tsp_number::parse_whole;
 use tsp_solution::{
     Form, Hints, Numbering, SolutionFault, SolutionRunFault, table_of_forms, write_solution,
@@ -126,11 +126,11 @@ fn depot_of(word: &Option<String>) -> Result<Option<u32>, TaskFault>
 
 /// Writes the solution of a job, or lists the forms, and tells how that ended. The result is as that
 /// of `run`.
-pub(crate) fn run_solution<F: Gives + Drop, O: Open<F>, W: Write, E: Write>(
+pub(crate) fn run_solution<F: Gives + Drop, O: Open<F>, W: Takes, E: Write>(
     alloc: Global,
     job: &Job,
     files: &O,
-    out: &mut Watched<W>,
+    out: &mut Output<W>,
     errors: &mut E,
     explain: bool,
 ) -> (u8, io::Result<()>)
@@ -151,11 +151,11 @@ pub(crate) fn run_solution<F: Gives + Drop, O: Open<F>, W: Write, E: Write>(
 }
 
 /// Opens the files of a solution, and writes it anew.
-fn solve<F: Gives + Drop, O: Open<F>, W: Write>(
+fn solve<F: Gives + Drop, O: Open<F>, W: Takes>(
     alloc: Global,
     task: SolutionTask<'_>,
     files: &O,
-    out: &mut Watched<W>,
+    out: &mut Output<W>,
 ) -> Result<(), SolutionRunFault>
     ensures { IsSolutionRun (sink_of W.contents out.old out.new) result }
 {
@@ -168,7 +168,7 @@ fn solve<F: Gives + Drop, O: Open<F>, W: Write>(
 }
 
 /// Prints the table of the forms.
-fn list_forms<W: Write>(alloc: Global, out: &mut Watched<W>) -> Result<(), SolutionRunFault>
+fn list_forms<W: Takes>(alloc: Global, out: &mut Output<W>) -> Result<(), SolutionRunFault>
     ensures { Lists (sink_of W.contents out.old out.new) result }
 {
     let Ok(text) = table_of_forms(alloc) else {

@@ -28,7 +28,7 @@ pub use Rattle.tsp_format.specs.declared.layout.Layout.{Layout}
 pub use Rattle.tsp_format.specs.declared.layout.Layout.TheVariants.{FullMatrix, LowerCol, LowerDiagCol, LowerDiagRow, LowerRow, UpperCol, UpperDiagCol, UpperDiagRow, UpperRow}
 pub use Rattle.tsp_format.specs.states.TreeSteps.{subset_row_of, subset_rows_of, step_of, steps_of}
 pub use Rattle.tsp_io.proofs.Carrying.{carried_all, carried_failed, carried_mapped, carried_next, carried_next_or, carried_node, carried_node_or, carried_nodes, carried_none, carried_then, text_stopped, text_written}
-pub use Rattle.tsp_io.specs.states.Watched.{Carried, Way, way_of}
+pub use Rattle.tsp_io.specs.states.Output.{Carried, Way, way_of}
 pub use Rattle.tsp_number.specs.NumberWord.{spelling}
 unfoldable pub use Rattle.tsp_number.specs.NumberWord.{decimals}
 pub use Rattle.tsp_number.specs.declared.decimal.Point.{Point}

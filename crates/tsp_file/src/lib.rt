@@ -46,7 +46,7 @@ pub use table::bad_field;
 pub use tsp_format::{
     CoordKind, DisplayKind, Field, Kind, Layout, RowSets, TreeStep, WeightFormat, WeightKind,
 };
-pub use tsp_io::{Watched, WriteFault};
+pub use tsp_io::{Output, WriteFault};
 pub use typed::{DualData, ListedWeights, NodeData, RoutingData, TreeData, first_asymmetric};
 pub use validity::is_kept;
 pub use writer::write_file;

@@ -6,7 +6,7 @@
 ghost use Rattle.tsp_file.specs.Prelude.{flat_map, option_map, None, map, [], Leaf, subset_row_of, subset_rows_of, step_of, steps_of};
 ghost use Rattle.std.specs.Prelude.{◌≡◌};
 ghost use Rattle.tsp_io.specs.Streams.{Writes};
-ghost use Rattle.tsp_io.specs.states.Watched.{sink_of, Puts};
+ghost use Rattle.tsp_io.specs.states.Output.{sink_of, Puts};
 ghost use Rattle.tsp_file.specs.CanonicalText.{text_of, text_of_field, text_of_section, text_of_value, value_line, keyword_line, other_line, optional, before_blank, set_line, family_lines, family_list, row_lines, row_list, change_words, step_line, case_tree_lines, section_text};
 ghost use Rattle.tsp_file.specs.Rules.{fault_of};
 ghost use Rattle.tsp_file.specs.states.Drafts.{fields_of, families_of};
@@ -23,9 +23,8 @@ use crate::writer::sections::{
 };
 use itoa::{Buffer, Integer};
 use std::alloc::Global;
-use std::io::Write;
 use tsp_format::{Field, RowSets, Shape, TreeStep, ValueShape, Word};
-use tsp_io::{Piece, Watched, WriteFault, hand_over, put, put_number};
+use tsp_io::{Output, Piece, Takes, WriteFault, hand_over, put, put_number};
 
 /// Writes the canonical text of a file.
 ///
@@ -33,11 +32,7 @@ use tsp_io::{Piece, Watched, WriteFault, hand_over, put, put_number};
 ///
 /// `Device` if the writer fails, or had failed before: then a prefix of the text was written, and
 /// nothing else. No memory is taken, so `OutOfMemory` is never returned.
-pub fn write_file<W: Write>(
-    _alloc: Global,
-    f: &File,
-    out: &mut Watched<W>,
-) -> Result<(), WriteFault>
+pub fn write_file<W: Takes>(_alloc: Global, f: &File, out: &mut Output<W>) -> Result<(), WriteFault>
     ensures written { Writes (sink_of W.contents out.old out.new) (text_of f.now) result }
     ensures valid { fault_of f.now ≡ None }
 {
@@ -48,7 +43,7 @@ pub fn write_file<W: Write>(
 ///
 /// At `Device` a prefix of the text was written, and nothing else. A writer that had failed before
 /// gets nothing. No memory is taken, and `OutOfMemory` is never returned.
-fn write_draft<W: Write>(draft: &Draft, out: &mut Watched<W>) -> Result<(), WriteFault>
+fn write_draft<W: Takes>(draft: &Draft, out: &mut Output<W>) -> Result<(), WriteFault>
     ensures { Writes (sink_of W.contents out.old out.new) (text_of (fields_of draft.now)) result }
 {
     if out.failed() {
@@ -66,7 +61,7 @@ fn write_draft<W: Write>(draft: &Draft, out: &mut Watched<W>) -> Result<(), Writ
 }
 
 /// Adds the texts of some fields, one after the other.
-fn put_fields<W: Write>(piece: &mut Piece, out: &mut Watched<W>, draft: &Draft, fields: &[Field])
+fn put_fields<W: Takes>(piece: &mut Piece, out: &mut Output<W>, draft: &Draft, fields: &[Field])
     ensures { Puts W.contents out.old piece.old out.new piece.new
         (flat_map (text_of_field (fields_of draft.now)) fields.now) }
 {
@@ -76,7 +71,7 @@ fn put_fields<W: Write>(piece: &mut Piece, out: &mut Watched<W>, draft: &Draft, 
 }
 
 /// Adds the text of a field, if the draft has it.
-fn put_field<W: Write>(piece: &mut Piece, out: &mut Watched<W>, draft: &Draft, field: Field)
+fn put_field<W: Takes>(piece: &mut Piece, out: &mut Output<W>, draft: &Draft, field: Field)
     ensures { Puts W.contents out.old piece.old out.new piece.new
         (text_of_field (fields_of draft.now) field) }
 {
@@ -98,9 +93,9 @@ fn put_field<W: Write>(piece: &mut Piece, out: &mut Watched<W>, draft: &Draft, f
 }
 
 /// Adds the line of a keyword whose value is a number, if the draft has it.
-fn put_keyword<W: Write>(
+fn put_keyword<W: Takes>(
     piece: &mut Piece,
-    out: &mut Watched<W>,
+    out: &mut Output<W>,
     draft: &Draft,
     field: Field,
     shape: Option<ValueShape>,
@@ -115,9 +110,9 @@ fn put_keyword<W: Write>(
 }
 
 /// Adds the text of a section of this shape, if the draft has it.
-fn put_section<W: Write>(
+fn put_section<W: Takes>(
     piece: &mut Piece,
-    out: &mut Watched<W>,
+    out: &mut Output<W>,
     draft: &Draft,
     field: Field,
     shape: Shape,
@@ -151,7 +146,7 @@ fn put_section<W: Write>(
 // ---- writes the keyword lines of a canonical text
 
 /// Adds the line of a keyword and its value.
-fn put_value<W: Write>(piece: &mut Piece, out: &mut Watched<W>, keyword: &[u8], value: &[u8])
+fn put_value<W: Takes>(piece: &mut Piece, out: &mut Output<W>, keyword: &[u8], value: &[u8])
     ensures { Puts W.contents out.old piece.old out.new piece.new
         (value_line keyword.now value.now) }
 {
@@ -165,9 +160,9 @@ fn put_value<W: Write>(piece: &mut Piece, out: &mut Watched<W>, keyword: &[u8], 
 }
 
 /// Adds the line of a keyword whose value is a word, if the file has one.
-fn put_word<W: Write, V: Word>(
+fn put_word<W: Takes, V: Word>(
     piece: &mut Piece,
-    out: &mut Watched<W>,
+    out: &mut Output<W>,
     field: Field,
     value: Option<V>,
 )
@@ -180,9 +175,9 @@ fn put_word<W: Write, V: Word>(
 }
 
 /// Adds the line of a keyword whose value is a whole number, if the file has one.
-fn put_whole<W: Write, N: Integer>(
+fn put_whole<W: Takes, N: Integer>(
     piece: &mut Piece,
-    out: &mut Watched<W>,
+    out: &mut Output<W>,
     field: Field,
     value: Option<N>,
 )
@@ -201,7 +196,7 @@ fn put_whole<W: Write, N: Integer>(
 }
 
 /// Adds one COMMENT line for each comment.
-fn put_comments<W: Write>(piece: &mut Piece, out: &mut Watched<W>, comments: &[Vec<u8>])
+fn put_comments<W: Takes>(piece: &mut Piece, out: &mut Output<W>, comments: &[Vec<u8>])
     ensures { Puts W.contents out.old piece.old out.new piece.new
         (flat_map (keyword_line Field.CommentKey) (map (λ v. v.items) comments.now)) }
 {
@@ -211,7 +206,7 @@ fn put_comments<W: Write>(piece: &mut Piece, out: &mut Watched<W>, comments: &[V
 }
 
 /// Adds the lines of the unknown keywords.
-fn put_others<W: Write>(piece: &mut Piece, out: &mut Watched<W>, others: &[(Vec<u8>, Vec<u8>)])
+fn put_others<W: Takes>(piece: &mut Piece, out: &mut Output<W>, others: &[(Vec<u8>, Vec<u8>)])
     ensures { Puts W.contents out.old piece.old out.new piece.new
         (flat_map other_line (map (λ p. (p.0.items, p.1.items)) others.now)) }
 {
@@ -221,7 +216,7 @@ fn put_others<W: Write>(piece: &mut Piece, out: &mut Watched<W>, others: &[(Vec<
 }
 
 /// Adds the line of NAME, if the file has one.
-fn put_name<W: Write>(piece: &mut Piece, out: &mut Watched<W>, name: &Option<Vec<u8>>)
+fn put_name<W: Takes>(piece: &mut Piece, out: &mut Output<W>, name: &Option<Vec<u8>>)
     ensures { Puts W.contents out.old piece.old out.new piece.new
         (optional (keyword_line Field.NameKey) (option_map (λ v. v.items) name.now)) }
 {
@@ -233,7 +228,7 @@ fn put_name<W: Write>(piece: &mut Piece, out: &mut Watched<W>, name: &Option<Vec
 // ---- writes the sections of a certificate by branching
 
 /// Adds the digits of a whole number and a blank.
-fn put_before_blank<W: Write, N: Integer>(piece: &mut Piece, out: &mut Watched<W>, number: N)
+fn put_before_blank<W: Takes, N: Integer>(piece: &mut Piece, out: &mut Output<W>, number: N)
     ensures { Puts W.contents out.old piece.old out.new piece.new (before_blank (N.text number)) }
 {
     put_number(piece, out, number);
@@ -241,7 +236,7 @@ fn put_before_blank<W: Write, N: Integer>(piece: &mut Piece, out: &mut Watched<W
 }
 
 /// Adds the line of a set of nodes, which -1 ends.
-fn put_set<W: Write>(piece: &mut Piece, out: &mut Watched<W>, set: &[u32])
+fn put_set<W: Takes>(piece: &mut Piece, out: &mut Output<W>, set: &[u32])
     ensures { Puts W.contents out.old piece.old out.new piece.new (set_line set.now) }
 {
     'nodes: for node in set {
@@ -251,7 +246,7 @@ fn put_set<W: Write>(piece: &mut Piece, out: &mut Watched<W>, set: &[u32])
 }
 
 /// Adds a line for each set of a family, or for each list of a memory, and then the line -1.
-fn put_family<W: Write>(piece: &mut Piece, out: &mut Watched<W>, family: &[Vec<u32>])
+fn put_family<W: Takes>(piece: &mut Piece, out: &mut Output<W>, family: &[Vec<u32>])
     ensures { Puts W.contents out.old piece.old out.new piece.new
         (family_lines (map (λ set. set.items) family.now)) }
 {
@@ -262,7 +257,7 @@ fn put_family<W: Write>(piece: &mut Piece, out: &mut Watched<W>, family: &[Vec<u
 }
 
 /// Adds the lines of each family, and then one more line -1.
-fn put_families<W: Write>(piece: &mut Piece, out: &mut Watched<W>, families: &[Vec<Vec<u32>>])
+fn put_families<W: Takes>(piece: &mut Piece, out: &mut Output<W>, families: &[Vec<Vec<u32>>])
     ensures { Puts W.contents out.old piece.old out.new piece.new (family_list (families_of families.now)) }
 {
     'families: for family in families {
@@ -272,7 +267,7 @@ fn put_families<W: Write>(piece: &mut Piece, out: &mut Watched<W>, families: &[V
 }
 
 /// Adds the two lines of a subset row.
-fn put_row<W: Write>(piece: &mut Piece, out: &mut Watched<W>, row: &RowSets)
+fn put_row<W: Takes>(piece: &mut Piece, out: &mut Output<W>, row: &RowSets)
     ensures { Puts W.contents out.old piece.old out.new piece.new (row_lines (subset_row_of row.now)) }
 {
     put_set(piece, out, &row.set);
@@ -280,7 +275,7 @@ fn put_row<W: Write>(piece: &mut Piece, out: &mut Watched<W>, row: &RowSets)
 }
 
 /// Adds the lines of each subset row, and the line -1.
-fn put_rows<W: Write>(piece: &mut Piece, out: &mut Watched<W>, rows: &[RowSets])
+fn put_rows<W: Takes>(piece: &mut Piece, out: &mut Output<W>, rows: &[RowSets])
     ensures { Puts W.contents out.old piece.old out.new piece.new (row_list (subset_rows_of rows.now)) }
 {
     'rows: for row in rows {
@@ -290,7 +285,7 @@ fn put_rows<W: Write>(piece: &mut Piece, out: &mut Watched<W>, rows: &[RowSets])
 }
 
 /// Adds the index and the difference of a number, with a blank after each.
-fn put_change<W: Write>(piece: &mut Piece, out: &mut Watched<W>, index: u32, difference: i64)
+fn put_change<W: Takes>(piece: &mut Piece, out: &mut Output<W>, index: u32, difference: i64)
     ensures { Puts W.contents out.old piece.old out.new piece.new
         (flat_map before_blank (change_words (index, difference))) }
 {
@@ -299,7 +294,7 @@ fn put_change<W: Write>(piece: &mut Piece, out: &mut Watched<W>, index: u32, dif
 }
 
 /// Adds the indexes and the differences of numbers, with a blank after each.
-fn put_changes<W: Write>(piece: &mut Piece, out: &mut Watched<W>, changes: &[(u32, i64)])
+fn put_changes<W: Takes>(piece: &mut Piece, out: &mut Output<W>, changes: &[(u32, i64)])
     ensures { Puts W.contents out.old piece.old out.new piece.new
         (flat_map before_blank (flat_map change_words changes.now)) }
 {
@@ -309,7 +304,7 @@ fn put_changes<W: Write>(piece: &mut Piece, out: &mut Watched<W>, changes: &[(u3
 }
 
 /// Adds the line of a leaf, which -1 ends.
-fn put_leaf<W: Write>(piece: &mut Piece, out: &mut Watched<W>, changes: &[(u32, i64)])
+fn put_leaf<W: Takes>(piece: &mut Piece, out: &mut Output<W>, changes: &[(u32, i64)])
     ensures { Puts W.contents out.old piece.old out.new piece.new (step_line (Leaf changes.now)) }
 {
     put(piece, out, b"0 ");
@@ -318,7 +313,7 @@ fn put_leaf<W: Write>(piece: &mut Piece, out: &mut Watched<W>, changes: &[(u32, 
 }
 
 /// Adds the line of a step.
-fn put_step<W: Write>(piece: &mut Piece, out: &mut Watched<W>, step: &TreeStep)
+fn put_step<W: Takes>(piece: &mut Piece, out: &mut Output<W>, step: &TreeStep)
     ensures { Puts W.contents out.old piece.old out.new piece.new (step_line (step_of step.now)) }
 {
     match step {
@@ -328,7 +323,7 @@ fn put_step<W: Write>(piece: &mut Piece, out: &mut Watched<W>, step: &TreeStep)
 }
 
 /// Adds a line for each step.
-fn put_steps<W: Write>(piece: &mut Piece, out: &mut Watched<W>, steps: &[TreeStep])
+fn put_steps<W: Takes>(piece: &mut Piece, out: &mut Output<W>, steps: &[TreeStep])
     ensures { Puts W.contents out.old piece.old out.new piece.new
         (case_tree_lines (steps_of steps.now)) }
 {
@@ -338,9 +333,9 @@ fn put_steps<W: Write>(piece: &mut Piece, out: &mut Watched<W>, steps: &[TreeSte
 }
 
 /// Adds a section of families, if the file has it.
-fn put_family_section<W: Write>(
+fn put_family_section<W: Takes>(
     piece: &mut Piece,
-    out: &mut Watched<W>,
+    out: &mut Output<W>,
     field: Field,
     families: &Option<Vec<Vec<Vec<u32>>>>,
 )
@@ -354,9 +349,9 @@ fn put_family_section<W: Write>(
 }
 
 /// Adds a section of what customers remember, if the file has it.
-fn put_memory_section<W: Write>(
+fn put_memory_section<W: Takes>(
     piece: &mut Piece,
-    out: &mut Watched<W>,
+    out: &mut Output<W>,
     field: Field,
     lists: &Option<Vec<Vec<u32>>>,
 )
@@ -370,9 +365,9 @@ fn put_memory_section<W: Write>(
 }
 
 /// Adds a section of subset rows, if the file has it.
-fn put_row_section<W: Write>(
+fn put_row_section<W: Takes>(
     piece: &mut Piece,
-    out: &mut Watched<W>,
+    out: &mut Output<W>,
     field: Field,
     rows: &Option<Vec<RowSets>>,
 )
@@ -386,9 +381,9 @@ fn put_row_section<W: Write>(
 }
 
 /// Adds a section of the steps of a tree, if the file has it.
-fn put_step_section<W: Write>(
+fn put_step_section<W: Takes>(
     piece: &mut Piece,
-    out: &mut Watched<W>,
+    out: &mut Output<W>,
     field: Field,
     steps: &Option<Vec<TreeStep>>,
 )

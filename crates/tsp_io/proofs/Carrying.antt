@@ -11,7 +11,7 @@ use Rattle.std.proofs.lemmas.List.FromFn.{length-enumerate_from, get_or-enumerat
 use Rattle.std.specs.Io.KnownBytes.{Appends}
 use Rattle.std.specs.List.{flat_map, enumerate_from}
 use Rattle.tsp_io.specs.Streams.{HasWritten, HasStopped, Sink}
-use Rattle.tsp_io.specs.states.Watched.{Way, Carries, Carried}
+use Rattle.tsp_io.specs.states.Output.{Way, Carries, Carried}
 
 -- the sink between two states
 abbrev pub between : Way → Way → Sink

@@ -1,3 +1,5 @@
--- Definitions of what a call does to a reader or a writer (Streams), and of how this crate sees one (`states`).
+-- Definitions of what a call does to a reader or a writer (Streams), of failed writes (Writing), and of how this crate sees
+-- a reader and a writer (`states`).
 pub mod states
 pub mod Streams
+pub mod Writing

@@ -6,7 +6,7 @@ ghost use Rattle.std.specs.Prelude.{◌≡◌, true, false, [], ◌∷◌, Ok, E
 ghost use Rattle.std.specs.declared.io.Error.{Error};
 ghost use Rattle.tsp_io.specs.declared.piece.WriteFault.TheVariants as faults;
 ghost use Rattle.tsp_io.specs.Streams.{write_fault_text};
-ghost use Rattle.tsp_io.specs.states.Watched.{write_fails};
+ghost use Rattle.tsp_io.specs.Writing.{write_fails};
 
 /// Which writes fail: those that return an error, even for an empty text, and those that take no
 /// byte of a text that has some. Taking a part isn't a failure, and neither is taking nothing of an

@@ -1,5 +1,5 @@
 //! The way out of every report and canonical text: bytes gather in a buffer of 4,096 and go to the
-//! writer when it is full. `Puts` in `specs/states/Watched.antt` says that none is lost, added or
+//! writer when it is full. `Puts` in `specs/states/Output.antt` says that none is lost, added or
 //! moved, so the size of the buffer matters only for speed.
 //!
 //! A failure sticks: a writer that has failed gets nothing more, so code that adds to a text need
@@ -9,13 +9,13 @@ ghost use Rattle.std.specs.Io.KnownBytes.{Appends};
 ghost use Rattle.std.specs.Prelude.{◌≡◌, [], ◌∷◌, ◌≤◌, ◌<◌, Result, ℕ, true, false, length, take};
 ghost use Rattle.std.specs.declared.io.Error.{Error};
 ghost use Rattle.tsp_io.specs.Streams.{HasWritten, HasStopped, Writes};
-ghost use Rattle.tsp_io.specs.states.Watched.{watched, has_failed, error_of, KeepsError, sink_of, Puts};
+ghost use Rattle.tsp_io.specs.states.Output.{writer_of, output_failed, output_error, KeepsError, sink_of, Puts};
 
-use crate::watched::{Takes, Watched};
+use crate::output::{Output, Takes};
 use arrayvec::ArrayVec;
 use itoa::{Buffer, Integer};
 use std::fmt;
-use std::io::{self, ErrorKind, Write};
+use std::io::{self, ErrorKind};
 use thiserror::Error;
 
 /// The most bytes of a piece.
@@ -26,7 +26,7 @@ pub type Piece = ArrayVec<u8, PIECE>;
 
 /// Sends the piece to the writer, and begins a new one.
 #[cold]
-pub fn hand_over<W: Write>(piece: &mut Piece, out: &mut Watched<W>)
+pub fn hand_over<W: Takes>(piece: &mut Piece, out: &mut Output<W>)
     ensures carried { Puts W.contents out.old piece.old out.new piece.new [] }
     ensures empty { piece.new.items ≡ [] }
 {
@@ -36,7 +36,7 @@ pub fn hand_over<W: Write>(piece: &mut Piece, out: &mut Watched<W>)
 
 /// Adds bytes to the text.
 #[inline(always)]
-pub fn put<W: Write>(piece: &mut Piece, out: &mut Watched<W>, bytes: &[u8])
+pub fn put<W: Takes>(piece: &mut Piece, out: &mut Output<W>, bytes: &[u8])
     ensures { Puts W.contents out.old piece.old out.new piece.new bytes.now }
 {
     if piece.try_extend_from_slice(bytes).is_ok() {
@@ -51,7 +51,7 @@ pub fn put<W: Write>(piece: &mut Piece, out: &mut Watched<W>, bytes: &[u8])
 
 /// Adds the digits of a whole number.
 #[inline(always)]
-pub fn put_number<W: Write, N: Integer>(piece: &mut Piece, out: &mut Watched<W>, number: N)
+pub fn put_number<W: Takes, N: Integer>(piece: &mut Piece, out: &mut Output<W>, number: N)
     ensures { Puts W.contents out.old piece.old out.new piece.new (N.text number) }
 {
     let mut buffer = Buffer::new();
@@ -60,7 +60,7 @@ pub fn put_number<W: Write, N: Integer>(piece: &mut Piece, out: &mut Watched<W>,
 
 /// Adds a blank and the digits of a whole number.
 #[inline(always)]
-pub fn put_next_number<W: Write, N: Integer>(piece: &mut Piece, out: &mut Watched<W>, number: N)
+pub fn put_next_number<W: Takes, N: Integer>(piece: &mut Piece, out: &mut Output<W>, number: N)
     ensures { Puts W.contents out.old piece.old out.new piece.new (32 ∷ N.text number) }
 {
     put(piece, out, b" ");
@@ -95,10 +95,10 @@ impl fmt::Display for WriteFault {
 /// Sends a text to a writer that may take any part of it at once, and stops if the writer fails.
 ///
 /// A writer that had failed before gets nothing.
-pub fn send<W: Write>(out: &mut Watched<W>, text: &[u8])
-    ensures stopped { has_failed out.new ≡ true →
+pub fn send<W: Takes>(out: &mut Output<W>, text: &[u8])
+    ensures stopped { output_failed out.new ≡ true →
         HasStopped (sink_of W.contents out.old out.new) text.now }
-    ensures written { has_failed out.new ≡ false →
+    ensures written { output_failed out.new ≡ false →
         HasWritten (sink_of W.contents out.old out.new) text.now }
 {
     if out.failed() {
@@ -117,14 +117,15 @@ pub fn send<W: Write>(out: &mut Watched<W>, text: &[u8])
 
 /// Makes one write, and returns how many bytes the writer took. If it fails, the result is 0, and
 /// `out` remembers the failure and what the system said.
-fn send_part<W: Takes>(out: &mut Watched<W>, text: &[u8]) -> usize
+fn send_part<W: Takes>(out: &mut Output<W>, text: &[u8]) -> usize
+    requires sound { output_failed out.old ≡ false }
     ensures part { result ≤ length text.now }
-    ensures bytes { Appends (W.contents (watched out.old))
-        (W.contents (watched out.new)) (take result text.now) }
-    ensures sound { 0 < result → has_failed out.new ≡ has_failed out.old }
-    ensures failed { result ≡ 0 → 0 < length text.now → has_failed out.new ≡ true }
-    ensures error { (answer : Result ℕ Error) × W.takes (watched out.old) text.now answer
-        (watched out.new) × KeepsError answer (error_of out.old) (error_of out.new) }
+    ensures bytes { Appends (W.contents (writer_of out.old))
+        (W.contents (writer_of out.new)) (take result text.now) }
+    ensures sound { 0 < result → output_failed out.new ≡ false }
+    ensures failed { result ≡ 0 → 0 < length text.now → output_failed out.new ≡ true }
+    ensures error { (answer : Result ℕ Error) × W.takes (writer_of out.old) text.now answer
+        (writer_of out.new) × KeepsError answer (output_error out.old) (output_error out.new) }
 {
     match out.write(text) {
         Err(error) => {
@@ -145,7 +146,7 @@ fn send_part<W: Takes>(out: &mut Watched<W>, text: &[u8]) -> usize
 ///
 /// `Device` if the writer fails, or had failed before: then a prefix of the text was written, and
 /// nothing else. `OutOfMemory` is never returned.
-pub fn write_text<W: Write>(out: &mut Watched<W>, text: &[u8]) -> Result<(), WriteFault>
+pub fn write_text<W: Takes>(out: &mut Output<W>, text: &[u8]) -> Result<(), WriteFault>
     ensures { Writes (sink_of W.contents out.old out.new) text.now result }
 {
     send(out, text);

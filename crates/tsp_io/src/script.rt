@@ -27,11 +27,11 @@ impl Script {
 }
 
 /// A watched script returns its next answer, and uses up only that one. So call by call the answers
-/// come out as they went in. The script is asked through `ask`, like every reader and writer.
+/// come out as they went in. The script is asked through `ask`, like every reader.
 pub fn answers_go_through(script: &mut Watched<Script>) -> io::Result<usize>
     ensures next { AnswersNext (answers_of (watched script.old)) result
         (answers_of (watched script.new)) }
     ensures failed { has_failed script.new ≡ (has_failed script.old || is_err result) }
 {
-    script.ask(&mut [], |inner, _| (inner.next(), false))
+    script.ask(&mut [], |inner, _| inner.next())
 }

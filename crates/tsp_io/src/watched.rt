@@ -1,15 +1,14 @@
-//! `Watched` wraps each reader and writer of a run, and remembers whether it failed: `device` in a
-//! report rests on this flag. The traits `Gives` and `Takes` keep secret what a call may answer, so
-//! a clause that names `gives` or `takes` proves that exactly one call was made.
+//! `Watched` wraps each reader of a run, and remembers whether it failed: `device` in a report
+//! rests on this flag. The trait `Gives` keeps secret what a read may answer, so a clause that
+//! names `gives` proves that exactly one call was made.
 
-ghost use Rattle.std.specs.Io.{ReadsAtMost, WritesAtMost};
-ghost use Rattle.std.specs.Io.KnownBytes.{ReadConsumes, WriteAppends, Keeps};
-ghost use Rattle.std.specs.Option.{option_map};
-ghost use Rattle.std.specs.Prelude.{ℕ, List, Result, ⊤, ◌≡◌, Bool, false, is_err, ◌||◌, None, Some};
+ghost use Rattle.std.specs.Io.{ReadsAtMost};
+ghost use Rattle.std.specs.Io.KnownBytes.{ReadConsumes};
+ghost use Rattle.std.specs.Prelude.{ℕ, List, Result, ⊤, ◌≡◌, false, is_err, ◌||◌};
 ghost use Rattle.std.specs.declared.io.Error.{Error};
-ghost use Rattle.tsp_io.specs.states.Watched.{watched, has_failed, error_of, write_fails, Calls};
+ghost use Rattle.tsp_io.specs.states.Watched.{watched, has_failed, Calls};
 
-use std::io::{self, Read, Write};
+use std::io::{self, Read};
 
 /// A reader that can be asked once.
 ///
@@ -36,120 +35,56 @@ impl<R: Read> Gives for R {
     }
 }
 
-/// A writer that can be asked once, to write or to flush. Every writer is one.
-pub trait Takes: Write {
-    /// Whether one write of a text may return this result, and leave the writer so.
-    ghost takes: { Self → List ℕ → Result ℕ Error → Self → Type 0 };
+// ---- a reader that remembers whether it has failed
 
-    /// Whether one flush may return this result, and leave the writer so.
-    ghost flushes: { Self → Result (Unit {0}) Error → Self → Type 0 };
-
-    /// Writes once.
-    fn take_some(&mut self, text: &[u8]) -> io::Result<usize>
-        ensures bound { WritesAtMost result text.now }
-        ensures bytes { WriteAppends (Self.contents self.old)
-            (Self.contents self.new) result text.now }
-        ensures once { takes self.old text.now result self.new };
-
-    /// Flushes once.
-    fn flush_once(&mut self) -> io::Result<()>
-        ensures bytes { Keeps (Self.contents self.old) (Self.contents self.new) }
-        ensures once { flushes self.old result self.new };
-}
-
-impl<W: Write> Takes for W {
-    ghost takes = { λ _ _ _ _. ⊤ };
-
-    ghost flushes = { λ _ _ _. ⊤ };
-
-    fn take_some(&mut self, text: &[u8]) -> io::Result<usize> {
-        self.write(text)
-    }
-
-    fn flush_once(&mut self) -> io::Result<()> {
-        self.flush()
-    }
-}
-
-// ---- a reader or a writer that remembers whether it has failed
-
-/// A reader or a writer that remembers whether one of its reads or writes has failed.
+/// A reader that remembers whether one of its reads has failed.
 ///
-/// It implements `Read` or `Write` if `T` does, with the same bytes. It has failed from the first
-/// read or write on that returns an error, even an interruption, or that takes no byte of a text
-/// that isn't empty. An error of `flush` counts, too.
+/// It implements `Read` if `T` does, with the same bytes. It has failed from the first read on that
+/// returns an error, even an interruption.
 #[derive(Debug, Drop)]
 pub struct Watched<T> {
     inner: T,
     failed: bool,
-    /// What the system said about the failure, if a caller has kept it.
-    error: Option<io::Error>,
 }
 
 impl<T> Watched<T> {
-    /// Wraps a reader or writer, as one that has not failed.
+    /// Wraps a reader, as one that has not failed.
     pub fn new(inner: T) -> Watched<T>
         ensures inner { watched result ≡ inner }
         ensures sound { has_failed result ≡ false }
-        ensures error { error_of result ≡ None }
     {
         Watched {
             inner,
             failed: false,
-            error: None,
         }
     }
 
-    /// Whether a read or a write has failed so far.
+    /// Whether a read has failed so far.
     pub fn failed(&self) -> bool
         ensures { result ≡ has_failed self.now }
     {
         self.failed
     }
 
-    /// The reader or writer that was wrapped.
+    /// The reader that was wrapped.
     pub fn into_inner(self) -> T
         ensures { result ≡ watched self }
     {
-        let Watched {
-            inner,
-            failed: _,
-            error,
-        } = self;
-        drop(error);
+        let Watched { inner, failed: _ } = self;
         inner
     }
 
-    /// What the system said about the failure that ended a text; `None` if it wasn't kept.
-    pub fn error(&self) -> Option<&io::Error>
-        ensures { option_map (λ error. error.now) result ≡ error_of self.now }
-    {
-        self.error.as_ref()
-    }
-
-    /// Keeps what the system said about a failure, to be shown to a person. Nothing else changes.
-    pub fn keep_error(&mut self, error: io::Error)
-        ensures inner { watched self.new ≡ watched self.old }
-        ensures failed { has_failed self.new ≡ has_failed self.old }
-        ensures error { error_of self.new ≡ Some error }
-    {
-        self.error = Some(error);
-    }
-
     /// Asks the inner value once, with a buffer for its bytes, returns its result unchanged, and
-    /// remembers a failure: an error, or, as `call` says, a result that took nothing although it
-    /// could have.
+    /// remembers an error.
     pub(crate) fn ask<A, F>(&mut self, room: &mut [u8], call: F) -> io::Result<A>
     where
-        F: FnOnce(&mut T, &mut [u8]) -> (io::Result<A>, bool),
+        F: FnOnce(&mut T, &mut [u8]) -> io::Result<A>,
         requires { F.IsAlwaysCallable call }
-        ensures asked { (took_nothing : Bool) × Calls F.FnOnce call (watched self.old) room.old
-            (result, took_nothing) (watched self.new) room.new
-            × (has_failed self.new ≡ (has_failed self.old || is_err result || took_nothing)) }
-        ensures error { error_of self.new ≡ error_of self.old }
+        ensures asked { Calls F.FnOnce call (watched self.old) room.old result (watched self.new) room.new }
+        ensures failed { has_failed self.new ≡ (has_failed self.old || is_err result) }
     {
-        let (outcome, took_nothing) = call(&mut self.inner, room);
-        self.failed = self.failed || outcome.is_err() || took_nothing;
+        let outcome = call(&mut self.inner, room);
+        self.failed = self.failed || outcome.is_err();
         outcome
     }
 }
@@ -163,36 +98,7 @@ impl<R: Gives> Read for Watched<R> {
             (R.remaining (watched self.new)) result buf.new }
         ensures once { R.gives (watched self.old) buf.old result buf.new (watched self.new) }
         ensures failed { has_failed self.new ≡ (has_failed self.old || is_err result) }
-        ensures error { error_of self.new ≡ error_of self.old }
     {
-        self.ask(buf, |inner, room| (inner.give(room), false))
-    }
-}
-
-impl<W: Takes> Write for Watched<W> {
-    ghost contents = { λ w. W.contents (watched w) };
-
-    fn write(&mut self, buf: &[u8]) -> io::Result<usize>
-        ensures bound { WritesAtMost result buf.now }
-        ensures bytes { WriteAppends (W.contents (watched self.old)) (W.contents (watched self.new))
-            result buf.now }
-        ensures once { W.takes (watched self.old) buf.now result (watched self.new) }
-        ensures failed { has_failed self.new ≡ (has_failed self.old || write_fails result buf.now) }
-        ensures error { error_of self.new ≡ error_of self.old }
-    {
-        self.ask(&mut [], |inner, _| {
-            let outcome = inner.take_some(buf);
-            let took_nothing = matches!(outcome, Ok(0)) && !buf.is_empty();
-            (outcome, took_nothing)
-        })
-    }
-
-    fn flush(&mut self) -> io::Result<()>
-        ensures bytes { Keeps (W.contents (watched self.old)) (W.contents (watched self.new)) }
-        ensures once { W.flushes (watched self.old) result (watched self.new) }
-        ensures failed { has_failed self.new ≡ (has_failed self.old || is_err result) }
-        ensures error { error_of self.new ≡ error_of self.old }
-    {
-        self.ask(&mut [], |inner, _| (inner.flush_once(), false))
+        self.ask(buf, |inner, room| inner.give(room))
     }
 }

@@ -1,10 +1,11 @@
 -- What a comparison has written after each solution, and what its lines mean.
-use Rattle.tsp_judge.proofs.Prelude.{◌≡◌, ◌||◌, ℕ, suc, ◌+◌, ◌<◌, ◌≤◌, List, [], ◌∷◌, ◌++◌, length, take, Option, true, false, Bool, refl, sym, ap, subst, ◌∙◌, append_assoc, append-nil, arith, inl, inr, add-one, ◌⊎◌, Appends-nil, Appends-trans, Appends-kept, max, Result, Ok, Err, IfOk, slice_index_or, Some, None, ℤ, IsTrue, ReadTrace, Sink, IsUnwritten, HasWritten, HasStopped, Writes, sink_of, read_trace_of, watched, has_failed, Fields, HasReads, IsReadOn, IsFile, most_taken, ReadFault, IsProblem, problem_of, routing_of, solution_line, IsSized, report_of, head_of, is_clear, is_yes, CertificateKind, AppliesToTouring, AppliesToRouting, AppliesToInstanceBy, AppliesToBounded, IsBoundVerdict, AppliesToCertificate, HasNoSolutionBy, IsCertifiedTourVerdict, IsCertifiedRoutesVerdict, IsCertifiedVerdictBy, IsCertifiedVerdict, IsKnownBound, IsVerdictFrom, IsJudgedWhole, strict_reason, IsKnownBoundAsked, IsKnownBoundAlone, IsKnownBoundBy, IsVerdictBy, IsVerdictWith}
+use Rattle.tsp_judge.proofs.Prelude.{◌≡◌, ◌||◌, ℕ, suc, ◌+◌, ◌<◌, ◌≤◌, List, [], ◌∷◌, ◌++◌, length, take, Option, true, false, Bool, refl, sym, ap, subst, ◌∙◌, append_assoc, append-nil, arith, inl, inr, add-one, ◌⊎◌, Appends-nil, Appends-trans, Appends-kept, max, Result, Ok, Err, IfOk, slice_index_or, Some, None, ℤ, IsTrue, ReadTrace, Sink, IsUnwritten, HasWritten, HasStopped, Writes, output_failed, sink_of, writer_of, read_trace_of, watched, has_failed, Fields, HasReads, IsReadOn, IsFile, most_taken, ReadFault, IsProblem, problem_of, routing_of, solution_line, IsSized, report_of, head_of, is_clear, is_yes, CertificateKind, AppliesToTouring, AppliesToRouting, AppliesToInstanceBy, AppliesToBounded, IsBoundVerdict, AppliesToCertificate, HasNoSolutionBy, IsCertifiedTourVerdict, IsCertifiedRoutesVerdict, IsCertifiedVerdictBy, IsCertifiedVerdict, IsKnownBound, IsVerdictFrom, IsJudgedWhole, strict_reason, IsKnownBoundAsked, IsKnownBoundAlone, IsKnownBoundBy, IsVerdictBy, IsVerdictWith}
 use Rattle.std.proofs.lemmas.Bool.{false≢true}
 use Rattle.std.specs.Io.KnownBytes.{Appends}
 use Rattle.std.specs.declared.io.Error.{Error}
 use Rattle.tsp_io.specs.declared.piece.WriteFault.{WriteFault}
 use Rattle.tsp_io.specs.declared.piece.WriteFault.TheVariants as write_faults
+use Rattle.tsp_io.specs.declared.output.Output.{Output}
 use Rattle.tsp_io.specs.declared.watched.Watched.{Watched}
 use Rattle.tsp_format.specs.declared.kinds.Kind.{Kind}
 use Rattle.tsp_format.specs.declared.kinds.Kind.TheVariants as kinds
@@ -37,21 +38,21 @@ take-append-add (x ∷ xs) ys n =
     ap (λ k. take k (x ∷ (xs ++ ys))) e ∙ ap (λ l. x ∷ l) (take-append-add xs ys n)
 
 -- a text was written, and then another
-pub written_then : {W : Type 0} (contents : W → Option (List ℕ)) (a b c : Watched W) (x y : List ℕ) → HasWritten (sink_of contents a b) x → HasWritten (sink_of contents b c) y
+pub written_then : {W : Type 0} {T : _} (contents : W → Option (List ℕ)) (a b c : Output W T) (x y : List ℕ) → HasWritten (sink_of contents a b) x → HasWritten (sink_of contents b c) y
     → HasWritten (sink_of contents a c) (x ++ y)
 written_then contents a b c x y h k = (h.0, k.1, Appends-trans _ _ _ x y h.2 k.2)
 
 -- a text was written, and then a prefix of another
-pub stopped_then : {W : Type 0} (contents : W → Option (List ℕ)) (a b c : Watched W) (x y : List ℕ) → HasWritten (sink_of contents a b) x → HasStopped (sink_of contents b c) y
+pub stopped_then : {W : Type 0} {T : _} (contents : W → Option (List ℕ)) (a b c : Output W T) (x y : List ℕ) → HasWritten (sink_of contents a b) x → HasStopped (sink_of contents b c) y
     → HasStopped (sink_of contents a c) (x ++ y)
 stopped_then contents a b c x y h k = (
   k.0,
   (λ had. absurd (false≢true (sym h.0 ∙ had))),
-  (length x + k.2.0, subst (λ t. Appends (contents (watched a)) (contents (watched c)) t) (sym (take-append-add x y k.2.0)) (Appends-trans (contents (watched a)) (contents (watched b)) (contents (watched c)) x (take k.2.0 y) h.2 k.2.1)),
+  (length x + k.2.0, subst (λ t. Appends (contents (writer_of a)) (contents (writer_of c)) t) (sym (take-append-add x y k.2.0)) (Appends-trans (contents (writer_of a)) (contents (writer_of b)) (contents (writer_of c)) x (take k.2.0 y) h.2 k.2.1)),
 )
 
 -- a text was written, and then nothing
-pub unwritten_then : {W : Type 0} (contents : W → Option (List ℕ)) (a b c : Watched W) (x : List ℕ) → HasWritten (sink_of contents a b) x → IsUnwritten (sink_of contents b c)
+pub unwritten_then : {W : Type 0} {T : _} (contents : W → Option (List ℕ)) (a b c : Output W T) (x : List ℕ) → HasWritten (sink_of contents a b) x → IsUnwritten (sink_of contents b c)
     → HasWritten (sink_of contents a c) x
 unwritten_then contents a b c x h k = (h.0, k.1 ∙ h.1, Appends-kept _ _ _ x h.2 k.0)
 
@@ -140,17 +141,17 @@ pub record HasCompared (IsReadTrace : ℕ → ReadTrace → Type 0) (paths : Lis
   pub written : HasWritten sink (all_solution_lines found paths)
   pub largest : status ≡ largest_status found
 
-pub compared_none : {W : Type 0} (contents : W → Option (List ℕ)) (a : Watched W) (IsReadTrace : ℕ → ReadTrace → Type 0) (paths : List (List ℕ)) (common : ComparisonContext) → has_failed a ≡ false
+pub compared_none : {W : Type 0} {T : _} (contents : W → Option (List ℕ)) (a : Output W T) (IsReadTrace : ℕ → ReadTrace → Type 0) (paths : List (List ℕ)) (common : ComparisonContext) → output_failed a ≡ false
     → HasCompared IsReadTrace paths common (sink_of contents a a) 0 0
 compared_none contents a IsReadTrace paths common sound = record {
   found = [];
   are = tt;
   counted = refl;
-  written = (sound, sound, Appends-nil (contents (watched a)));
+  written = (sound, sound, Appends-nil (contents (writer_of a)));
   largest = refl;
 }
 
-pub compared_next : {W : Type 0} (contents : W → Option (List ℕ)) (a b c : Watched W) (IsReadTrace : ℕ → ReadTrace → Type 0) (paths : List (List ℕ)) (common : ComparisonContext) (count status : ℕ) (found : Found)
+pub compared_next : {W : Type 0} {T : _} (contents : W → Option (List ℕ)) (a b c : Output W T) (IsReadTrace : ℕ → ReadTrace → Type 0) (paths : List (List ℕ)) (common : ComparisonContext) (count status : ℕ) (found : Found)
     → HasCompared IsReadTrace paths common (sink_of contents a b) count status → count < length paths → ComparesOne IsReadTrace paths common count (sink_of contents b c) (Ok found)
     → HasCompared IsReadTrace paths common (sink_of contents a c) (count + 1) (max (status_of_found (result_of found)) status)
 compared_next contents a b c IsReadTrace paths common count status found h more k =
@@ -166,7 +167,7 @@ compared_next contents a b c IsReadTrace paths common count status found h more 
     }
 
 -- one solution ends the comparison
-pub compared_ends : {W : Type 0} (contents : W → Option (List ℕ)) (a b c : Watched W) (IsReadTrace : ℕ → ReadTrace → Type 0) (paths : List (List ℕ)) (common : ComparisonContext) (count status : ℕ) (fault : RunFault)
+pub compared_ends : {W : Type 0} {T : _} (contents : W → Option (List ℕ)) (a b c : Output W T) (IsReadTrace : ℕ → ReadTrace → Type 0) (paths : List (List ℕ)) (common : ComparisonContext) (count status : ℕ) (fault : RunFault)
     → HasCompared IsReadTrace paths common (sink_of contents a b) count status → count < length paths → ComparesOne IsReadTrace paths common count (sink_of contents b c) (Err fault)
     → ComparesAll IsReadTrace paths common [] (sink_of contents a c) (Err fault)
 compared_ends contents a b c IsReadTrace paths common count status OutOfMemory h more k = (
@@ -190,13 +191,13 @@ compared_ends contents a b c IsReadTrace paths common count status WrongKind h m
 compared_ends contents a b c IsReadTrace paths common count status (File file fault) h more k = absurd k
 compared_ends contents a b c IsReadTrace paths common count status (Relayout fault) h more k = absurd k
 
-pub compared_all : {W : Type 0} (contents : W → Option (List ℕ)) (a b : Watched W) (IsReadTrace : ℕ → ReadTrace → Type 0) (paths : List (List ℕ)) (common : ComparisonContext) (count status : ℕ)
+pub compared_all : {W : Type 0} {T : _} (contents : W → Option (List ℕ)) (a b : Output W T) (IsReadTrace : ℕ → ReadTrace → Type 0) (paths : List (List ℕ)) (common : ComparisonContext) (count status : ℕ)
     → HasCompared IsReadTrace paths common (sink_of contents a b) count status → count ≡ length paths → ComparesAll IsReadTrace paths common [] (sink_of contents a b) (Ok status)
 compared_all contents a b IsReadTrace paths common count status h all = (h.found, h.are, h.counted ∙ all, h.written, h.largest)
 
 -- ---- the head before them
 
-pub after_head : {W : Type 0} (contents : W → Option (List ℕ)) (a b c : Watched W) (IsReadTrace : ℕ → ReadTrace → Type 0) (paths : List (List ℕ)) (common : ComparisonContext) (head : List ℕ) (ended : Result ℕ RunFault)
+pub after_head : {W : Type 0} {T : _} (contents : W → Option (List ℕ)) (a b c : Output W T) (IsReadTrace : ℕ → ReadTrace → Type 0) (paths : List (List ℕ)) (common : ComparisonContext) (head : List ℕ) (ended : Result ℕ RunFault)
     → HasWritten (sink_of contents a b) head → ComparesAll IsReadTrace paths common [] (sink_of contents b c) ended → ComparesAll IsReadTrace paths common head (sink_of contents a c) ended
 after_head contents a b c IsReadTrace paths common head (Ok status) h k = (k.0, k.1, k.2, written_then contents a b c head (all_solution_lines k.0 paths) h k.3, k.4)
 after_head contents a b c IsReadTrace paths common head (Err OutOfMemory) h k = (k.0, k.1, k.2, k.3, written_then contents a b c head (all_solution_lines k.0 paths) h k.4)

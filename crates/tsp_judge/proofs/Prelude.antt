@@ -5,7 +5,8 @@ pub use Rattle.std.specs.Prelude.{IfOk, IsTrue, Result, codes, if◌then◌else�
 pub use Rattle.tsp_cost.specs.Problems.{IsProblem, depot_of, depots_of, problem_of, routing_of}
 pub use Rattle.tsp_file.specs.Fields.{Fields, nodes_of}
 pub use Rattle.tsp_io.specs.Streams.{HasStopped, HasWritten, IsUnread, IsUnwritten, ReadTrace, Sink, Writes}
-pub use Rattle.tsp_io.specs.states.Watched.{has_failed, read_trace_of, sink_of, watched}
+pub use Rattle.tsp_io.specs.states.Output.{output_failed, sink_of, writer_of}
+pub use Rattle.tsp_io.specs.states.Watched.{has_failed, read_trace_of, watched}
 pub use Rattle.tsp_read.proofs.BegunSteps.{propagated}
 pub use Rattle.tsp_read.proofs.PieceSteps.{read_none}
 pub use Rattle.tsp_read.specs.Reads.{HasReads, IsFile, IsReadOn, StopsAt, most_taken}

@@ -3,7 +3,8 @@ pub use Rattle.std.specs.Prelude.{Bool, Err, IsTrue, List, MatchResult, None, Ok
 pub use Rattle.tsp_cost.specs.Problems.{IsProblem, IsProblemOf, IsRoutingOf}
 pub use Rattle.tsp_file.specs.Fields.{Fields}
 pub use Rattle.tsp_io.specs.Streams.{HasStopped, HasWritten, IsUnread, IsUnwritten, ReadTrace, Sink, TakesAtMost, write_fault_text}
-pub use Rattle.tsp_io.specs.states.Watched.{has_failed, read_trace_of, sink_of}
+pub use Rattle.tsp_io.specs.states.Output.{FailsByWrite, output_failed, sink_of}
+pub use Rattle.tsp_io.specs.states.Watched.{read_trace_of}
 pub use Rattle.tsp_read.specs.Reads.{HasReads, IsFile, IsReadOn, Reads, StopsAt, most_taken}
 pub use Rattle.tsp_report.specs.Report.{IsSized, bound_report_of, head_of, report_of, solution_line}
 pub use Rattle.tsp_report.specs.Verdicts.{is_bound_yes, is_clear, is_yes}

@@ -2,7 +2,7 @@
 //! case of the run of a verb, such as `run` in `check.rt`, and its fault is a plain `RunFault`.
 //! Also the runs of a check and a comparison without a certificate.
 
-ghost use Rattle.tsp_judge.specs.Prelude.{None, Some, false, TakesAtMost, sink_of, read_trace_of, IsReadOn, most_taken};
+ghost use Rattle.tsp_judge.specs.Prelude.{None, Some, false, TakesAtMost, FailsByWrite, sink_of, read_trace_of, IsReadOn, most_taken};
 ghost use Rattle.std.specs.Prelude.{◌≡◌};
 ghost use Rattle.tsp_report.specs.declared.task.CertificateKind.TheVariants as certificates;
 ghost use Rattle.tsp_judge.specs.CheckRun.{acceptance, IsCheck, IsCheckBy, IsRunOf};
@@ -12,9 +12,8 @@ use crate::check::{Judged, judge_read, read_file, run};
 use crate::convert_run::{convert_file, show_file};
 use crate::run_status::{RunError, RunFault};
 use std::alloc::Global;
-use std::io::Write;
 use tsp_format::Layout;
-use tsp_io::{Gives, Watched};
+use tsp_io::{Gives, Output, Takes, Watched};
 use tsp_verdict::CertificateKind;
 
 /// Judges a solution of an instance, and writes the report.
@@ -30,16 +29,17 @@ use tsp_verdict::CertificateKind;
 /// of TYPE TOUR, POTENTIALS or BRANCHES; `OutOfMemory` if the judgement runs out of memory, and
 /// then no reason up to `NodeOutOfRange`, in the order of its TYPE, applies to the second; `Write`
 /// if the writer fails. Of each file at most 4,096 bytes past `MOST_FILE_BYTES` are read.
-pub fn run_check<I: Gives, S: Gives, W: Write>(
+pub fn run_check<I: Gives, S: Gives, W: Takes>(
     alloc: Global,
     inst: &mut Watched<I>,
     sol: &mut Watched<S>,
-    out: &mut Watched<W>,
+    out: &mut Output<W>,
 ) -> Result<bool, RunFault>
     ensures answer { TakesAtMost most_taken (read_trace_of I.remaining inst.old inst.new) (λ first.
         TakesAtMost most_taken (read_trace_of S.remaining sol.old sol.new) (λ second.
         IsCheck first second (sink_of W.contents out.old out.new) result)) }
     ensures asked { IsReadOn I.gives inst.old inst.new × IsReadOn S.gives sol.old sol.new }
+    ensures cause { FailsByWrite W.takes out.new }
 {
     let mut none: Option<(CertificateKind, Watched<&[u8]>)> = None;
     acceptance(run(alloc, inst, sol, &mut none, None, false, out))
@@ -65,12 +65,12 @@ pub fn run_check<I: Gives, S: Gives, W: Write>(
 /// first is of TYPE CVRP, TOUR, POTENTIALS or BRANCHES; `OutOfMemory` if the judgement runs out
 /// of memory, and then no reason up to `NodeOutOfRange` applies to the tour; `Write` if the
 /// writer fails. Of each file at most 4,096 bytes past `MOST_FILE_BYTES` are read.
-pub fn run_bound_check<I: Gives, S: Gives, P: Gives, W: Write>(
+pub fn run_bound_check<I: Gives, S: Gives, P: Gives, W: Takes>(
     alloc: Global,
     inst: &mut Watched<I>,
     sol: &mut Watched<S>,
     pot: &mut Watched<P>,
-    out: &mut Watched<W>,
+    out: &mut Output<W>,
 ) -> Result<bool, RunFault>
     ensures answer { TakesAtMost most_taken (read_trace_of I.remaining inst.old inst.new) (λ first.
         TakesAtMost most_taken (read_trace_of S.remaining sol.old sol.new) (λ second.
@@ -78,6 +78,7 @@ pub fn run_bound_check<I: Gives, S: Gives, P: Gives, W: Write>(
         IsCheckBy certificates.Potentials first second third (sink_of W.contents out.old out.new) result))) }
     ensures asked { IsReadOn I.gives inst.old inst.new × IsReadOn S.gives sol.old sol.new
         × IsReadOn P.gives pot.old pot.new }
+    ensures cause { FailsByWrite W.takes out.new }
 {
     let by = CertificateKind::Potentials;
     acceptance(run_by(alloc, inst, sol, by, pot, out))
@@ -103,12 +104,12 @@ pub fn run_bound_check<I: Gives, S: Gives, P: Gives, W: Write>(
 /// first isn't of TYPE TSP or ATSP; `OutOfMemory` if the judgement runs out of memory, and then
 /// no reason up to `NodeOutOfRange` applies to the tour; `Write` if the writer fails. Of each
 /// file at most 4,096 bytes past `MOST_FILE_BYTES` are read.
-pub fn run_branch_check<I: Gives, S: Gives, B: Gives, W: Write>(
+pub fn run_branch_check<I: Gives, S: Gives, B: Gives, W: Takes>(
     alloc: Global,
     inst: &mut Watched<I>,
     sol: &mut Watched<S>,
     tree: &mut Watched<B>,
-    out: &mut Watched<W>,
+    out: &mut Output<W>,
 ) -> Result<bool, RunFault>
     ensures answer { TakesAtMost most_taken (read_trace_of I.remaining inst.old inst.new) (λ first.
         TakesAtMost most_taken (read_trace_of S.remaining sol.old sol.new) (λ second.
@@ -116,6 +117,7 @@ pub fn run_branch_check<I: Gives, S: Gives, B: Gives, W: Write>(
         IsCheckBy certificates.Branches first second third (sink_of W.contents out.old out.new) result))) }
     ensures asked { IsReadOn I.gives inst.old inst.new × IsReadOn S.gives sol.old sol.new
         × IsReadOn B.gives tree.old tree.new }
+    ensures cause { FailsByWrite W.takes out.new }
 {
     let by = CertificateKind::Branches;
     acceptance(run_by(alloc, inst, sol, by, tree, out))
@@ -132,14 +134,15 @@ pub fn run_branch_check<I: Gives, S: Gives, B: Gives, W: Write>(
 ///
 /// `File` if the bytes are no file, or can't be read; `Write` if the writer fails. Nothing
 /// is written but at `Write`. At most 4,096 bytes past `MOST_FILE_BYTES` are read.
-pub fn run_show<R: Gives, W: Write>(
+pub fn run_show<R: Gives, W: Takes>(
     alloc: Global,
     r: &mut Watched<R>,
-    out: &mut Watched<W>,
+    out: &mut Output<W>,
 ) -> Result<(), RunFault>
     ensures answer { TakesAtMost most_taken (read_trace_of R.remaining r.old r.new) (λ read_trace.
         IsShowRun read_trace (sink_of W.contents out.old out.new) result) }
     ensures asked { IsReadOn R.gives r.old r.new }
+    ensures cause { FailsByWrite W.takes out.new }
 {
     Ok(show_file(alloc, r, out)?)
 }
@@ -155,15 +158,16 @@ pub fn run_show<R: Gives, W: Write>(
 /// go into the layout, or there is no memory for that; `Write` if the writer fails.
 /// `OutOfMemory` is never returned. Nothing is written but at `Write`. At most 4,096 bytes past
 /// `MOST_FILE_BYTES` are read.
-pub fn run_convert<R: Gives, W: Write>(
+pub fn run_convert<R: Gives, W: Takes>(
     alloc: Global,
     r: &mut Watched<R>,
     to: Option<Layout>,
-    out: &mut Watched<W>,
+    out: &mut Output<W>,
 ) -> Result<(), RunFault>
     ensures answer { TakesAtMost most_taken (read_trace_of R.remaining r.old r.new) (λ read_trace.
         IsConvertRun to read_trace (sink_of W.contents out.old out.new) result) }
     ensures asked { IsReadOn R.gives r.old r.new }
+    ensures cause { FailsByWrite W.takes out.new }
 {
     Ok(convert_file(alloc, r, to, out)?)
 }
@@ -184,13 +188,13 @@ fn acceptance(ended: Result<Judged, RunError>) -> Result<bool, RunFault>
 /// # Errors
 ///
 /// Those of `run`.
-fn run_by<I: Gives, S: Gives, C: Gives, W: Write>(
+fn run_by<I: Gives, S: Gives, C: Gives, W: Takes>(
     alloc: Global,
     inst: &mut Watched<I>,
     sol: &mut Watched<S>,
     by: CertificateKind,
     cert: &mut Watched<C>,
-    out: &mut Watched<W>,
+    out: &mut Output<W>,
 ) -> Result<Judged, RunError>
     ensures answer { TakesAtMost most_taken (read_trace_of I.remaining inst.old inst.new) (λ first.
         TakesAtMost most_taken (read_trace_of S.remaining sol.old sol.new) (λ second.
@@ -198,6 +202,7 @@ fn run_by<I: Gives, S: Gives, C: Gives, W: Write>(
         IsRunOf (Some (by, third)) None false first second (sink_of W.contents out.old out.new) result))) }
     ensures asked { IsReadOn I.gives inst.old inst.new × IsReadOn S.gives sol.old sol.new
         × IsReadOn C.gives cert.old cert.new }
+    ensures cause { FailsByWrite W.takes out.new }
 {
     let instance = read_file(alloc, 1, inst)?;
     let solution = read_file(alloc, 2, sol)?;

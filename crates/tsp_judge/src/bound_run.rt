@@ -1,15 +1,14 @@
 //! The run of `tsp bound`, from the bytes read to the bytes written.
 
-ghost use Rattle.tsp_judge.specs.Prelude.{ReadTrace, TakesAtMost, sink_of, read_trace_of, IsReadOn, IsFile, most_taken};
+ghost use Rattle.tsp_judge.specs.Prelude.{ReadTrace, TakesAtMost, FailsByWrite, sink_of, read_trace_of, IsReadOn, IsFile, most_taken};
 ghost use Rattle.tsp_judge.specs.BoundRun.{BoundsFiles, IsBoundRunOf};
 
 use crate::check::read_file;
 use crate::run_status::RunError;
 use std::alloc::Global;
-use std::io::Write;
 use tsp_cost::Instance;
 use tsp_file::File;
-use tsp_io::{Gives, Watched};
+use tsp_io::{Gives, Output, Takes, Watched};
 use tsp_report::write_bound;
 use tsp_verdict::{BoundVerdict, CertificateKind, is_bounded, judge_bound, strict_bound};
 
@@ -45,18 +44,19 @@ pub struct Bounded {
 /// memory, and then no reason applies to the instance, nor one to the certificate that is found
 /// without memory; `Write` if the writer fails. Of each file at most 4,096 bytes past
 /// `MOST_FILE_BYTES` are read.
-pub fn run_bound<I: Gives, C: Gives, W: Write>(
+pub fn run_bound<I: Gives, C: Gives, W: Takes>(
     alloc: Global,
     inst: &mut Watched<I>,
     by: CertificateKind,
     cert: &mut Watched<C>,
     strict: bool,
-    out: &mut Watched<W>,
+    out: &mut Output<W>,
 ) -> Result<Bounded, RunError>
     ensures answer { TakesAtMost most_taken (read_trace_of I.remaining inst.old inst.new) (λ first.
         TakesAtMost most_taken (read_trace_of C.remaining cert.old cert.new) (λ second.
         IsBoundRunOf by strict first second (sink_of W.contents out.old out.new) result)) }
     ensures asked { IsReadOn I.gives inst.old inst.new × IsReadOn C.gives cert.old cert.new }
+    ensures cause { FailsByWrite W.takes out.new }
 {
     let instance = read_file(alloc, 1, inst)?;
     let certificate = read_file(alloc, 2, cert)?;
@@ -68,13 +68,13 @@ pub fn run_bound<I: Gives, C: Gives, W: Write>(
 /// # Errors
 ///
 /// `WrongKind`, `OutOfMemory` and `Write`, as [`run_bound`] says.
-fn bound_read<W: Write>(
+fn bound_read<W: Takes>(
     alloc: Global,
     by: CertificateKind,
     instance: File,
     certificate: File,
     strict: bool,
-    out: &mut Watched<W>,
+    out: &mut Output<W>,
 ) -> Result<Bounded, RunError>
     ensures { (first second : ReadTrace) → IsFile first instance → IsFile second certificate
         → IsBoundRunOf by strict first second (sink_of W.contents out.old out.new) result }
@@ -93,13 +93,13 @@ fn bound_read<W: Write>(
 }
 
 /// Finds the bound of an instance, and writes the report.
-fn bound_files<W: Write>(
+fn bound_files<W: Takes>(
     alloc: Global,
     by: CertificateKind,
     instance: &Instance,
     certificate: &File,
     strict: bool,
-    out: &mut Watched<W>,
+    out: &mut Output<W>,
 ) -> Result<BoundVerdict, RunError>
     ensures { BoundsFiles by strict instance.now certificate.now (sink_of W.contents out.old out.new) result }
 {

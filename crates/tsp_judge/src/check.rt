@@ -1,16 +1,15 @@
 //! The run of `tsp check`, from the bytes read to the bytes written: the files are read, then
 //! judged.
 
-ghost use Rattle.tsp_judge.specs.Prelude.{option_map, ReadTrace, TakesAtMost, sink_of, read_trace_of, IsReadOn, IsFile, most_taken, is_judged, report_of, IsSized};
+ghost use Rattle.tsp_judge.specs.Prelude.{option_map, ReadTrace, TakesAtMost, FailsByWrite, sink_of, read_trace_of, IsReadOn, IsFile, most_taken, is_judged, report_of, IsSized};
 ghost use Rattle.std.specs.Prelude.{◌≡◌};
 ghost use Rattle.tsp_judge.specs.CheckRun.{Given, IsFileIn, ReadsGiven, JudgesFiles, ReadsFile, WritesReport, IsRunOf, TakesNamed, IsNamedReadOn};
 
 use crate::run_status::RunError;
 use std::alloc::Global;
-use std::io::Write;
 use tsp_cost::Instance;
 use tsp_file::File;
-use tsp_io::{Gives, Watched};
+use tsp_io::{Gives, Output, Takes, Watched};
 use tsp_read::file_of_reader;
 use tsp_report::write_report;
 use tsp_verdict::{CertificateKind, Verdict, is_bounded, judge, strict_verdict};
@@ -34,14 +33,14 @@ use tsp_verdict::{CertificateKind, Verdict, is_bounded, judge, strict_verdict};
 /// CVRP too; `OutOfMemory` if the judgement runs out of memory, and then no reason up to
 /// `NodeOutOfRange`, in the order of its TYPE, applies to the second; `Write` if the writer fails.
 /// From each reader, at most 4,096 bytes past `MOST_FILE_BYTES` are read.
-pub fn run<I: Gives, S: Gives, C: Gives, W: Write>(
+pub fn run<I: Gives, S: Gives, C: Gives, W: Takes>(
     alloc: Global,
     inst: &mut Watched<I>,
     sol: &mut Watched<S>,
     certificate: &mut Option<(CertificateKind, Watched<C>)>,
     claimed: Option<i64>,
     strict: bool,
-    out: &mut Watched<W>,
+    out: &mut Output<W>,
 ) -> Result<Judged, RunError>
     ensures answer { TakesAtMost most_taken (read_trace_of I.remaining inst.old inst.new) (λ first.
         TakesAtMost most_taken (read_trace_of S.remaining sol.old sol.new) (λ second.
@@ -49,6 +48,7 @@ pub fn run<I: Gives, S: Gives, C: Gives, W: Write>(
         IsRunOf given claimed strict first second (sink_of W.contents out.old out.new) result))) }
     ensures asked { IsReadOn I.gives inst.old inst.new × IsReadOn S.gives sol.old sol.new
         × IsNamedReadOn C.gives certificate.old certificate.new }
+    ensures cause { FailsByWrite W.takes out.new }
 {
     let instance = read_file(alloc, 1, inst)?;
     let solution = read_file(alloc, 2, sol)?;
@@ -77,14 +77,14 @@ pub(crate) fn read_certificate<C: Gives>(
 /// # Errors
 ///
 /// `WrongKind`, `OutOfMemory` and `Write`, as [`run`] says.
-pub(crate) fn judge_read<W: Write>(
+pub(crate) fn judge_read<W: Takes>(
     alloc: Global,
     instance: File,
     solution: File,
     certificate: Option<(CertificateKind, File)>,
     claimed: Option<i64>,
     strict: bool,
-    out: &mut Watched<W>,
+    out: &mut Output<W>,
 ) -> Result<Judged, RunError>
     ensures { (given : Given) (first second : ReadTrace) → IsFile first instance → IsFile second solution
         → IsFileIn given certificate
@@ -128,14 +128,14 @@ pub struct Judged {
 }
 
 /// Judges a solution of an instance, with a certificate or without, and writes the report.
-fn judge_files<W: Write>(
+fn judge_files<W: Takes>(
     alloc: Global,
     instance: &Instance,
     solution: &File,
     certificate: &Option<(CertificateKind, File)>,
     claimed: Option<i64>,
     strict: bool,
-    out: &mut Watched<W>,
+    out: &mut Output<W>,
 ) -> Result<Verdict, RunError>
     ensures { JudgesFiles certificate.now claimed strict instance.now solution.now (sink_of W.contents out.old out.new) result }
 {
@@ -159,10 +159,10 @@ fn judge_files<W: Write>(
 /// # Errors
 ///
 /// `Write` if the writer fails.
-pub fn report_verdict<W: Write>(
+pub fn report_verdict<W: Takes>(
     instance: &Instance,
     verdict: Verdict,
-    out: &mut Watched<W>,
+    out: &mut Output<W>,
 ) -> Result<(), RunError>
     requires { IsSized verdict }
     ensures { WritesReport (sink_of W.contents out.old out.new) (report_of instance.now verdict) result }

@@ -1,7 +1,7 @@
 //! The run of `tsp compare`, from the bytes read to the bytes written: each solution is read,
 //! judged, and dropped.
 
-ghost use Rattle.tsp_judge.specs.Prelude.{max, false, true, [], length, MatchResult, ℕ, List, slice_index_or, ReadTrace, TakesAtMost, has_failed, sink_of, read_trace_of, IsReadOn, IsFile, most_taken, IsProblem, IsKnownBound, IsKnownBoundAsked, is_clear};
+ghost use Rattle.tsp_judge.specs.Prelude.{max, false, true, [], length, MatchResult, ℕ, List, slice_index_or, ReadTrace, TakesAtMost, FailsByWrite, output_failed, sink_of, read_trace_of, IsReadOn, IsFile, most_taken, IsProblem, IsKnownBound, IsKnownBoundAsked, is_clear};
 ghost use Rattle.std.specs.Prelude.{◌≡◌, ◌<◌};
 ghost use Rattle.tsp_judge.specs.CheckRun.{Given, IsFileIn, TakesNamed, IsNamedReadOn};
 ghost use Rattle.tsp_judge.specs.CompareRun.{IsReadTraceAt, ComparesOne, ComparesAll, ComparesBy, IsCompareRun, LacksKnownBound, Finds, result_of, status_of_found, IsFollowedBy, IsFollowed};
@@ -9,10 +9,9 @@ ghost use Rattle.tsp_judge.specs.CompareRun.{IsReadTraceAt, ComparesOne, Compare
 use crate::check::{is_judged, lent, read_certificate, read_file};
 use crate::run_status::{RunError, RunFault, Status, status_of};
 use std::alloc::Global;
-use std::io::Write;
 use tsp_cost::Instance;
 use tsp_file::File;
-use tsp_io::{Gives, Watched};
+use tsp_io::{Gives, Output, Takes, Watched};
 use tsp_read::{ReadFault, file_of_reader};
 use tsp_report::{write_head, write_line};
 use tsp_verdict::{
@@ -50,13 +49,13 @@ pub struct Compared {
 /// does: the head and the lines of the solutions before were written. `Write` if the writer
 /// fails, after a prefix of the text. From each reader, at most 4,096 bytes past `MOST_FILE_BYTES`
 /// are read.
-pub fn run_compare<I: Gives, C: Gives, R: Gives + Drop, E, S: Solutions<R> + Follow<E>, W: Write>(
+pub fn run_compare<I: Gives, C: Gives, R: Gives + Drop, E, S: Solutions<R> + Follow<E>, W: Takes>(
     alloc: Global,
     inst: &mut Watched<I>,
     certificate: &mut Option<(CertificateKind, Watched<C>)>,
     solutions: &S,
     strict: bool,
-    out: &mut Watched<W>,
+    out: &mut Output<W>,
     to: &mut E,
 ) -> Result<Compared, RunError>
     ensures text { TakesAtMost most_taken (read_trace_of I.remaining inst.old inst.new) (λ first.
@@ -65,6 +64,7 @@ pub fn run_compare<I: Gives, C: Gives, R: Gives + Drop, E, S: Solutions<R> + Fol
         (sink_of W.contents out.old out.new) result)) }
     ensures asked { IsReadOn I.gives inst.old inst.new × IsNamedReadOn C.gives certificate.old certificate.new }
     ensures reported { IsFollowed (S.tells solutions.now) (length (S.names solutions.now)) to.old to.new result }
+    ensures cause { FailsByWrite W.takes out.new }
 {
     let instance = read_file(alloc, 1, inst)?;
     let certificate = read_certificate(alloc, 2, certificate)?;
@@ -76,13 +76,13 @@ pub fn run_compare<I: Gives, C: Gives, R: Gives + Drop, E, S: Solutions<R> + Fol
 /// # Errors
 ///
 /// All but `File`, as [`run_compare`] says.
-pub(crate) fn compare_read<R: Gives + Drop, E, S: Solutions<R> + Follow<E>, W: Write>(
+pub(crate) fn compare_read<R: Gives + Drop, E, S: Solutions<R> + Follow<E>, W: Takes>(
     alloc: Global,
     instance: File,
     certificate: Option<(CertificateKind, File)>,
     solutions: &S,
     strict: bool,
-    out: &mut Watched<W>,
+    out: &mut Output<W>,
     to: &mut E,
 ) -> Result<Compared, RunError>
     ensures text { (given : Given) (first : ReadTrace) → IsFile first instance → IsFileIn given certificate
@@ -101,11 +101,11 @@ pub(crate) fn compare_read<R: Gives + Drop, E, S: Solutions<R> + Follow<E>, W: W
 }
 
 /// Writes the head, and compares the solutions if no reason applies to all of them.
-fn compare_with<R: Gives + Drop, E, S: Solutions<R> + Follow<E>, W: Write>(
+fn compare_with<R: Gives + Drop, E, S: Solutions<R> + Follow<E>, W: Takes>(
     alloc: Global,
     common: &ComparisonContext,
     solutions: &S,
-    out: &mut Watched<W>,
+    out: &mut Output<W>,
     to: &mut E,
 ) -> Result<u8, RunError>
     requires known_bound { is_clear common.now.known_bound ≡ true
@@ -127,16 +127,16 @@ fn compare_with<R: Gives + Drop, E, S: Solutions<R> + Follow<E>, W: Write>(
 }
 
 /// Compares all solutions, in order.
-fn compare_all<R: Gives + Drop, E, S: Solutions<R> + Follow<E>, W: Write>(
+fn compare_all<R: Gives + Drop, E, S: Solutions<R> + Follow<E>, W: Takes>(
     alloc: Global,
     common: &ComparisonContext,
     solutions: &S,
-    out: &mut Watched<W>,
+    out: &mut Output<W>,
     to: &mut E,
 ) -> Result<u8, RunError>
     requires known_bound { IsKnownBound common.now.certificate common.now.instance common.now.known_bound }
     requires problem { IsProblem common.now.instance }
-    requires sound { has_failed out.old ≡ false }
+    requires sound { output_failed out.old ≡ false }
     ensures text { ComparesAll (IsReadTraceAt R.remaining R.gives (S.opens solutions.now)) (S.names solutions.now) common.now []
         (sink_of W.contents out.old out.new) result }
     ensures reported { IsFollowedBy true (S.tells solutions.now) (length (S.names solutions.now)) to.old to.new result }
@@ -158,12 +158,12 @@ fn larger(a: u8, b: u8) -> u8
 }
 
 /// Opens a solution, reads and judges it, and writes its line.
-fn compare_one<R: Gives + Drop, S: Solutions<R>, W: Write>(
+fn compare_one<R: Gives + Drop, S: Solutions<R>, W: Takes>(
     alloc: Global,
     common: &ComparisonContext,
     solutions: &S,
     index: usize,
-    out: &mut Watched<W>,
+    out: &mut Output<W>,
 ) -> Result<Found, RunError>
     requires known_bound { IsKnownBound common.now.certificate common.now.instance common.now.known_bound }
     requires problem { IsProblem common.now.instance }

@@ -1,15 +1,14 @@
 //! The runs of `tsp show` and `tsp convert`, from the bytes read to the bytes written.
 
-ghost use Rattle.tsp_judge.specs.Prelude.{TakesAtMost, sink_of, read_trace_of, IsReadOn, most_taken};
+ghost use Rattle.tsp_judge.specs.Prelude.{TakesAtMost, FailsByWrite, sink_of, read_trace_of, IsReadOn, most_taken};
 ghost use Rattle.tsp_judge.specs.ConvertRun.{Becomes, IsConvertRun, IsShowRun};
 
 use crate::check::read_file;
 use crate::run_status::RunError;
 use std::alloc::Global;
-use std::io::Write;
 use tsp_file::{File, RelayoutFault, write_file};
 use tsp_format::Layout;
-use tsp_io::{Gives, Watched};
+use tsp_io::{Gives, Output, Takes, Watched};
 use tsp_report::write_shown;
 
 /// Shows a file, as `run_show` says.
@@ -17,14 +16,15 @@ use tsp_report::write_shown;
 /// # Errors
 ///
 /// Those of `run_show`.
-pub fn show_file<R: Gives, W: Write>(
+pub fn show_file<R: Gives, W: Takes>(
     alloc: Global,
     r: &mut Watched<R>,
-    out: &mut Watched<W>,
+    out: &mut Output<W>,
 ) -> Result<(), RunError>
     ensures answer { TakesAtMost most_taken (read_trace_of R.remaining r.old r.new) (λ read_trace.
         IsShowRun read_trace (sink_of W.contents out.old out.new) result) }
     ensures asked { IsReadOn R.gives r.old r.new }
+    ensures cause { FailsByWrite W.takes out.new }
 {
     let file = read_file(alloc, 1, r)?;
     match write_shown(file, out) {
@@ -38,15 +38,16 @@ pub fn show_file<R: Gives, W: Write>(
 /// # Errors
 ///
 /// Those of `run_convert`.
-pub fn convert_file<R: Gives, W: Write>(
+pub fn convert_file<R: Gives, W: Takes>(
     alloc: Global,
     r: &mut Watched<R>,
     to: Option<Layout>,
-    out: &mut Watched<W>,
+    out: &mut Output<W>,
 ) -> Result<(), RunError>
     ensures answer { TakesAtMost most_taken (read_trace_of R.remaining r.old r.new) (λ read_trace.
         IsConvertRun to read_trace (sink_of W.contents out.old out.new) result) }
     ensures asked { IsReadOn R.gives r.old r.new }
+    ensures cause { FailsByWrite W.takes out.new }
 {
     let file = read_file(alloc, 1, r)?;
     let converted = match in_layout(alloc, file, to) {

@@ -9,7 +9,7 @@
 //! ```text
 //! let mut first = Watched::new(instance);
 //! let mut second = Watched::new(solution);
-//! let mut report = Watched::new(Vec::new(alloc));
+//! let mut report = Output::new(Vec::new(alloc));
 //! let accepted = run_check(alloc, &mut first, &mut second, &mut report)?;
 //! ```
 #![tactic(auto)]
@@ -53,7 +53,7 @@ pub use run_status::{RunError, RunFault, Status, status_of};
 pub use task_run::{Outcome, compare, is_yes_outcome, perform};
 pub use tsp_file::{EndFault, RelayoutFault};
 pub use tsp_format::Layout;
-pub use tsp_io::{Watched, WriteFault};
+pub use tsp_io::{Output, Watched, WriteFault};
 pub use tsp_read::{LineFault, ReadFault};
 pub use tsp_verdict::{
     BoundVerdict, CertificateKind, KnownBound, Reason, Verdict, judge_routes, judge_tour,

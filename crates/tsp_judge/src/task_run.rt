@@ -1,6 +1,6 @@
 //! Does a task by the run of its verb, and compares solutions by the readers of a task.
 
-ghost use Rattle.tsp_judge.specs.Prelude.{length, sink_of};
+ghost use Rattle.tsp_judge.specs.Prelude.{FailsByWrite, length, sink_of};
 ghost use Rattle.std.specs.Prelude.{◌≡◌};
 ghost use Rattle.tsp_judge.specs.CompareRun.{IsFollowed};
 ghost use Rattle.tsp_judge.specs.TaskRun.{AreComparedOn, AreReadOn, IsCompared, IsDone, is_yes_outcome, outcome_of_writing, outcome_of_check, outcome_of_bound};
@@ -11,8 +11,7 @@ use crate::compared::{Compared, Follow, Solutions, run_compare};
 use crate::convert_run::{convert_file, show_file};
 use crate::run_status::RunError;
 use std::alloc::Global;
-use std::io::Write;
-use tsp_io::{Gives, Watched};
+use tsp_io::{Gives, Output, Takes, Watched};
 use tsp_report::{Comparison, FileTask};
 
 /// The result of a task: a verdict, a bound, or that a file was shown or converted.
@@ -44,13 +43,14 @@ pub fn is_yes_outcome(outcome: &Outcome) -> bool
 /// # Errors
 ///
 /// Those of the run: `show_file`, `convert_file`, `run` or `run_bound`.
-pub fn perform<R: Gives, W: Write>(
+pub fn perform<R: Gives, W: Takes>(
     alloc: Global,
     task: &mut FileTask<Watched<R>>,
-    out: &mut Watched<W>,
+    out: &mut Output<W>,
 ) -> Result<Outcome, RunError>
     ensures done { IsDone R.remaining task.old task.new (sink_of W.contents out.old out.new) result }
     ensures asked { AreReadOn R.gives task.old task.new }
+    ensures cause { FailsByWrite W.takes out.new }
 {
     match task {
         FileTask::Show { file } => done(show_file(alloc, file, out)),
@@ -88,17 +88,18 @@ pub fn perform<R: Gives, W: Write>(
 /// # Errors
 ///
 /// Those of `run_compare`.
-pub fn compare<R: Gives + Drop, E, S: Solutions<R> + Follow<E>, W: Write>(
+pub fn compare<R: Gives + Drop, E, S: Solutions<R> + Follow<E>, W: Takes>(
     alloc: Global,
     comparison: &mut Comparison<'_, Watched<R>>,
     solutions: &S,
-    out: &mut Watched<W>,
+    out: &mut Output<W>,
     to: &mut E,
 ) -> Result<Compared, RunError>
     ensures text { IsCompared R.remaining R.gives (S.opens solutions.now) (S.names solutions.now)
         comparison.old comparison.new (sink_of W.contents out.old out.new) result }
     ensures asked { AreComparedOn R.gives comparison.old comparison.new }
     ensures reported { IsFollowed (S.tells solutions.now) (length (S.names solutions.now)) to.old to.new result }
+    ensures cause { FailsByWrite W.takes out.new }
 {
     let Comparison {
         instance,

@@ -8,4 +8,4 @@ pub use Rattle.std.specs.Int.{w128, w64}
 pub use Rattle.std.specs.List.{enumerate_from, flat_map}
 pub use Rattle.std.specs.Prelude.{FitsSigned, IsTrue, codes, pos, unwrap_or, ℤ, ◌-ℤ◌, ◌==◌}
 pub use Rattle.tsp_io.proofs.Carrying.{carried_mapped, carried_next, carried_node, carried_nodes, carried_none, carried_then, text_stopped, text_written}
-pub use Rattle.tsp_io.specs.states.Watched.{Carried, Way, way_of}
+pub use Rattle.tsp_io.specs.states.Output.{Carried, Way, way_of}

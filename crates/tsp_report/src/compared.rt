@@ -3,17 +3,16 @@
 ghost use Rattle.std.specs.Prelude.{◌++◌, codes, IfOk, ◌≡◌};
 ghost use Rattle.tsp_number.specs.NumberWord.{number_fault_text};
 ghost use Rattle.tsp_io.specs.Streams.{Writes};
-ghost use Rattle.tsp_io.specs.states.Watched.{sink_of, Puts};
+ghost use Rattle.tsp_io.specs.states.Output.{sink_of, Puts};
 ghost use Rattle.tsp_file.specs.Rules.{end_fault_text};
 ghost use Rattle.tsp_text.specs.ParsesTo.{line_fault_text, read_fault_text};
 ghost use Rattle.tsp_report.specs.Report.{head_of, known_bound_lines, known_bound_bound, gap_words, bound_words, verdict_words, found_words, solution_line, IsGapSized, IsSized};
 
 use crate::report::{gap_of, put_instance, put_named, put_no, put_reason};
 use crate::verdict::{KnownBound, Verdict};
-use std::io::Write;
 use tsp_file::{EndFault, File};
 use tsp_format::Word;
-use tsp_io::{Piece, Watched, WriteFault, hand_over, put, put_number};
+use tsp_io::{Output, Piece, Takes, WriteFault, hand_over, put, put_number};
 use tsp_number::NumberFault;
 use tsp_text::{LineFault, ReadFault};
 
@@ -25,10 +24,10 @@ use tsp_text::{LineFault, ReadFault};
 ///
 /// `Device` if the writer fails, or had failed before: then a prefix of the head was written,
 /// and nothing else. No memory is taken, so `OutOfMemory` is never returned.
-pub fn write_head<W: Write>(
+pub fn write_head<W: Takes>(
     instance: &File,
     known_bound: KnownBound,
-    out: &mut Watched<W>,
+    out: &mut Output<W>,
 ) -> Result<(), WriteFault>
     ensures { Writes (sink_of W.contents out.old out.new) (head_of instance.now known_bound) result }
 {
@@ -56,10 +55,10 @@ pub fn write_head<W: Write>(
 /// # Errors
 ///
 /// Those of [`write_head`], with a prefix of the line.
-pub fn write_line<W: Write>(
+pub fn write_line<W: Takes>(
     found: Result<Verdict, ReadFault>,
     path: &[u8],
-    out: &mut Watched<W>,
+    out: &mut Output<W>,
 ) -> Result<(), WriteFault>
     requires { IfOk found IsSized }
     ensures { Writes (sink_of W.contents out.old out.new) (solution_line found path.now) result }
@@ -79,9 +78,9 @@ pub fn write_line<W: Write>(
 }
 
 /// Adds the lines on what all solutions have in common.
-fn put_known_bound<W: Write>(
+fn put_known_bound<W: Takes>(
     piece: &mut Piece,
-    out: &mut Watched<W>,
+    out: &mut Output<W>,
     instance: &File,
     known_bound: KnownBound,
 )
@@ -100,7 +99,7 @@ fn put_known_bound<W: Write>(
 }
 
 /// Adds the line of a bound, if there is one.
-fn put_bound_line<W: Write>(piece: &mut Piece, out: &mut Watched<W>, bound: Option<i128>)
+fn put_bound_line<W: Takes>(piece: &mut Piece, out: &mut Output<W>, bound: Option<i128>)
     ensures { Puts W.contents out.old piece.old out.new piece.new (known_bound_bound bound) }
 {
     if let Some(bound) = bound {
@@ -110,7 +109,7 @@ fn put_bound_line<W: Write>(piece: &mut Piece, out: &mut Watched<W>, bound: Opti
 }
 
 /// Adds the words on what was found of a solution.
-fn put_found<W: Write>(piece: &mut Piece, out: &mut Watched<W>, found: Result<Verdict, ReadFault>)
+fn put_found<W: Takes>(piece: &mut Piece, out: &mut Output<W>, found: Result<Verdict, ReadFault>)
     requires { IfOk found IsSized }
     ensures { Puts W.contents out.old piece.old out.new piece.new (found_words found) }
 {
@@ -121,7 +120,7 @@ fn put_found<W: Write>(piece: &mut Piece, out: &mut Watched<W>, found: Result<Ve
 }
 
 /// Adds the words on a verdict.
-fn put_words<W: Write>(piece: &mut Piece, out: &mut Watched<W>, verdict: Verdict)
+fn put_words<W: Takes>(piece: &mut Piece, out: &mut Output<W>, verdict: Verdict)
     requires { IsSized verdict }
     ensures { Puts W.contents out.old piece.old out.new piece.new (verdict_words verdict) }
 {
@@ -148,9 +147,9 @@ fn put_words<W: Write>(piece: &mut Piece, out: &mut Watched<W>, verdict: Verdict
 }
 
 /// Adds the words on a bound, if there is one.
-fn put_bound_words<W: Write>(
+fn put_bound_words<W: Takes>(
     piece: &mut Piece,
-    out: &mut Watched<W>,
+    out: &mut Output<W>,
     length: i64,
     bound: Option<i128>,
 )
@@ -163,7 +162,7 @@ fn put_bound_words<W: Write>(
 }
 
 /// Adds by how much a length is more than a bound.
-fn put_gap_words<W: Write>(piece: &mut Piece, out: &mut Watched<W>, gap: i128)
+fn put_gap_words<W: Takes>(piece: &mut Piece, out: &mut Output<W>, gap: i128)
     ensures { Puts W.contents out.old piece.old out.new piece.new (gap_words gap) }
 {
     if gap == 0 {
@@ -174,7 +173,7 @@ fn put_gap_words<W: Write>(piece: &mut Piece, out: &mut Watched<W>, gap: i128)
 }
 
 /// Adds a path, and the end of its line.
-fn put_path<W: Write>(piece: &mut Piece, out: &mut Watched<W>, path: &[u8])
+fn put_path<W: Takes>(piece: &mut Piece, out: &mut Output<W>, path: &[u8])
     ensures { Puts W.contents out.old piece.old out.new piece.new
         (codes " " ++ path.now ++ codes "\n") }
 {
@@ -186,7 +185,7 @@ fn put_path<W: Write>(piece: &mut Piece, out: &mut Watched<W>, path: &[u8])
 // ---- writes the fault of a solution that is no file, in its line of `tsp compare`
 
 /// Adds the text of a fault, as it is displayed.
-fn put_fault<W: Write>(piece: &mut Piece, out: &mut Watched<W>, fault: ReadFault)
+fn put_fault<W: Takes>(piece: &mut Piece, out: &mut Output<W>, fault: ReadFault)
     ensures { Puts W.contents out.old piece.old out.new piece.new (read_fault_text fault) }
 {
     match fault {
@@ -199,9 +198,9 @@ fn put_fault<W: Write>(piece: &mut Piece, out: &mut Watched<W>, fault: ReadFault
 }
 
 /// Adds the place and the name of a fault of a line.
-fn put_place<W: Write>(
+fn put_place<W: Takes>(
     piece: &mut Piece,
-    out: &mut Watched<W>,
+    out: &mut Output<W>,
     line: u32,
     word: u32,
     fault: LineFault,
@@ -217,7 +216,7 @@ fn put_place<W: Write>(
 }
 
 /// Adds the name of a fault of a line, after its place.
-fn put_name<W: Write>(piece: &mut Piece, out: &mut Watched<W>, fault: LineFault)
+fn put_name<W: Takes>(piece: &mut Piece, out: &mut Output<W>, fault: LineFault)
     ensures { Puts W.contents out.old piece.old out.new piece.new
         (codes ": " ++ line_fault_text fault) }
 {
@@ -228,7 +227,7 @@ fn put_name<W: Write>(piece: &mut Piece, out: &mut Watched<W>, fault: LineFault)
 }
 
 /// Adds the name of a fault of the lines together.
-fn put_end<W: Write>(piece: &mut Piece, out: &mut Watched<W>, fault: EndFault)
+fn put_end<W: Takes>(piece: &mut Piece, out: &mut Output<W>, fault: EndFault)
     ensures { Puts W.contents out.old piece.old out.new piece.new
         (read_fault_text (ReadFault.End fault)) }
 {

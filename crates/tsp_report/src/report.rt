@@ -2,16 +2,15 @@
 
 ghost use Rattle.std.specs.Prelude.{◌≡◌, ◌++◌, ◌≤◌, ◌^◌, ◌-ℤ◌, Some, map, codes, unsigned_abs};
 ghost use Rattle.tsp_io.specs.Streams.{Writes};
-ghost use Rattle.tsp_io.specs.states.Watched.{sink_of, Puts};
+ghost use Rattle.tsp_io.specs.states.Output.{sink_of, Puts};
 ghost use Rattle.tsp_format.specs.Words.{field_word};
 ghost use Rattle.tsp_report.specs.Report.{report_of, instance_lines, type_line, nodes_line, not_judged, first_keyword, keyword_after_blank, no_line, verdict_lines, accepted_lines, bound_lines, gap_lines, IsGapSized, IsSized, after_blank, reason_text, bound_report_of, bound_found_lines};
 
 use crate::verdict::{BoundVerdict, Reason, Verdict, row_of_reason};
 use itoa::Integer;
-use std::io::Write;
 use tsp_file::File;
 use tsp_format::{Field, Kind, Word};
-use tsp_io::{Piece, Watched, WriteFault, hand_over, put, put_next_number, put_number};
+use tsp_io::{Output, Piece, Takes, WriteFault, hand_over, put, put_next_number, put_number};
 
 /// Writes the report of a check: lines on the instance, on the verdict, `yes` or `no`.
 ///
@@ -24,10 +23,10 @@ use tsp_io::{Piece, Watched, WriteFault, hand_over, put, put_next_number, put_nu
 ///
 /// `Device` if the writer fails, or had failed before: then a prefix of the report was written, and
 /// nothing else. No memory is taken, so `OutOfMemory` is never returned.
-pub fn write_report<W: Write>(
+pub fn write_report<W: Takes>(
     instance: &File,
     verdict: Verdict,
-    out: &mut Watched<W>,
+    out: &mut Output<W>,
 ) -> Result<(), WriteFault>
     requires { IsSized verdict }
     ensures { Writes (sink_of W.contents out.old out.new) (report_of instance.now verdict) result }
@@ -47,7 +46,7 @@ pub fn write_report<W: Write>(
 }
 
 /// Adds the lines on an instance.
-pub(crate) fn put_instance<W: Write>(piece: &mut Piece, out: &mut Watched<W>, instance: &File)
+pub(crate) fn put_instance<W: Takes>(piece: &mut Piece, out: &mut Output<W>, instance: &File)
     ensures { Puts W.contents out.old piece.old out.new piece.new (instance_lines instance.now) }
 {
     put_type(piece, out, instance.kind());
@@ -56,7 +55,7 @@ pub(crate) fn put_instance<W: Write>(piece: &mut Piece, out: &mut Watched<W>, in
 }
 
 /// Adds the line of TYPE.
-pub(crate) fn put_type<W: Write>(piece: &mut Piece, out: &mut Watched<W>, kind: Kind)
+pub(crate) fn put_type<W: Takes>(piece: &mut Piece, out: &mut Output<W>, kind: Kind)
     ensures { Puts W.contents out.old piece.old out.new piece.new (type_line (Some kind)) }
 {
     put(piece, out, b"type ");
@@ -65,7 +64,7 @@ pub(crate) fn put_type<W: Write>(piece: &mut Piece, out: &mut Watched<W>, kind: 
 }
 
 /// Adds the line of a number of nodes.
-pub(crate) fn put_nodes<W: Write>(piece: &mut Piece, out: &mut Watched<W>, nodes: u32)
+pub(crate) fn put_nodes<W: Takes>(piece: &mut Piece, out: &mut Output<W>, nodes: u32)
     ensures { Puts W.contents out.old piece.old out.new piece.new (nodes_line nodes) }
 {
     put_named(piece, out, b"nodes ", nodes);
@@ -73,9 +72,9 @@ pub(crate) fn put_nodes<W: Write>(piece: &mut Piece, out: &mut Watched<W>, nodes
 }
 
 /// Adds a line for each line of an unknown keyword.
-pub(crate) fn put_others<W: Write>(
+pub(crate) fn put_others<W: Takes>(
     piece: &mut Piece,
-    out: &mut Watched<W>,
+    out: &mut Output<W>,
     others: &[(Vec<u8>, Vec<u8>)],
 )
     ensures { Puts W.contents out.old piece.old out.new piece.new
@@ -87,7 +86,7 @@ pub(crate) fn put_others<W: Write>(
 }
 
 /// Adds the line of an unknown keyword.
-fn put_other<W: Write>(piece: &mut Piece, out: &mut Watched<W>, keyword: &[u8])
+fn put_other<W: Takes>(piece: &mut Piece, out: &mut Output<W>, keyword: &[u8])
     ensures { Puts W.contents out.old piece.old out.new piece.new
         (codes "not judged " ++ keyword.now ++ codes "\n") }
 {
@@ -97,9 +96,9 @@ fn put_other<W: Write>(piece: &mut Piece, out: &mut Watched<W>, keyword: &[u8])
 }
 
 /// Adds some words and the digits of a number.
-pub(crate) fn put_named<W: Write, N: Integer>(
+pub(crate) fn put_named<W: Takes, N: Integer>(
     piece: &mut Piece,
-    out: &mut Watched<W>,
+    out: &mut Output<W>,
     words: &[u8],
     number: N,
 )
@@ -110,7 +109,7 @@ pub(crate) fn put_named<W: Write, N: Integer>(
 }
 
 /// Adds the lines on a verdict.
-fn put_verdict<W: Write>(piece: &mut Piece, out: &mut Watched<W>, instance: &File, verdict: Verdict)
+fn put_verdict<W: Takes>(piece: &mut Piece, out: &mut Output<W>, instance: &File, verdict: Verdict)
     requires { IsSized verdict }
     ensures { Puts W.contents out.old piece.old out.new piece.new (verdict_lines instance.now verdict) }
 {
@@ -132,7 +131,7 @@ fn put_verdict<W: Write>(piece: &mut Piece, out: &mut Watched<W>, instance: &Fil
 }
 
 /// Adds the lines of a length and of a bound, if there is one, and the line `yes`.
-fn put_accepted<W: Write>(piece: &mut Piece, out: &mut Watched<W>, length: i64, bound: Option<i128>)
+fn put_accepted<W: Takes>(piece: &mut Piece, out: &mut Output<W>, length: i64, bound: Option<i128>)
     requires { IsGapSized bound }
     ensures { Puts W.contents out.old piece.old out.new piece.new (accepted_lines length bound) }
 {
@@ -144,9 +143,9 @@ fn put_accepted<W: Write>(piece: &mut Piece, out: &mut Watched<W>, length: i64, 
 
 /// Adds the line `no` with its reason. After `NotJudged` and `NotUsed` it names a keyword of the
 /// instance.
-pub(crate) fn put_no<W: Write>(
+pub(crate) fn put_no<W: Takes>(
     piece: &mut Piece,
-    out: &mut Watched<W>,
+    out: &mut Output<W>,
     instance: &File,
     reason: Reason,
 )
@@ -160,7 +159,7 @@ pub(crate) fn put_no<W: Write>(
 
 /// Adds a blank and the first unknown keyword of the instance, if that is the reason, or the word
 /// of the field that isn't used.
-fn put_keyword<W: Write>(piece: &mut Piece, out: &mut Watched<W>, instance: &File, reason: Reason)
+fn put_keyword<W: Takes>(piece: &mut Piece, out: &mut Output<W>, instance: &File, reason: Reason)
     ensures { Puts W.contents out.old piece.old out.new piece.new
         (keyword_after_blank instance.now reason) }
 {
@@ -172,7 +171,7 @@ fn put_keyword<W: Write>(piece: &mut Piece, out: &mut Watched<W>, instance: &Fil
 }
 
 /// Adds a blank and the first keyword, if there is one.
-fn put_first<W: Write>(piece: &mut Piece, out: &mut Watched<W>, others: &[(Vec<u8>, Vec<u8>)])
+fn put_first<W: Takes>(piece: &mut Piece, out: &mut Output<W>, others: &[(Vec<u8>, Vec<u8>)])
     ensures { Puts W.contents out.old piece.old out.new piece.new
         (first_keyword (map (λ line. (line.0.items, line.1.items)) others.now)) }
 {
@@ -183,7 +182,7 @@ fn put_first<W: Write>(piece: &mut Piece, out: &mut Watched<W>, others: &[(Vec<u
 }
 
 /// Adds a blank and the word of a field.
-fn put_field<W: Write>(piece: &mut Piece, out: &mut Watched<W>, field: Field)
+fn put_field<W: Takes>(piece: &mut Piece, out: &mut Output<W>, field: Field)
     ensures { Puts W.contents out.old piece.old out.new piece.new (codes " " ++ field_word field) }
 {
     put(piece, out, b" ");
@@ -191,7 +190,7 @@ fn put_field<W: Write>(piece: &mut Piece, out: &mut Watched<W>, field: Field)
 }
 
 /// Adds the line of a bound and the line after it, if there is one.
-fn put_bound<W: Write>(piece: &mut Piece, out: &mut Watched<W>, length: i64, bound: Option<i128>)
+fn put_bound<W: Takes>(piece: &mut Piece, out: &mut Output<W>, length: i64, bound: Option<i128>)
     requires { IsGapSized bound }
     ensures { Puts W.contents out.old piece.old out.new piece.new (bound_lines length bound) }
 {
@@ -210,7 +209,7 @@ pub(crate) fn gap_of(length: i64, bound: i128) -> i128
 }
 
 /// Adds by how much a length is more than a bound.
-fn put_gap<W: Write>(piece: &mut Piece, out: &mut Watched<W>, gap: i128)
+fn put_gap<W: Takes>(piece: &mut Piece, out: &mut Output<W>, gap: i128)
     ensures { Puts W.contents out.old piece.old out.new piece.new (gap_lines gap) }
 {
     if gap == 0 {
@@ -224,7 +223,7 @@ fn put_gap<W: Write>(piece: &mut Piece, out: &mut Watched<W>, gap: i128)
 // ---- writes a reason: its name and its numbers
 
 /// Adds the name of a reason, and its numbers.
-pub(crate) fn put_reason<W: Write>(piece: &mut Piece, out: &mut Watched<W>, reason: Reason)
+pub(crate) fn put_reason<W: Takes>(piece: &mut Piece, out: &mut Output<W>, reason: Reason)
     ensures { Puts W.contents out.old piece.old out.new piece.new (reason_text reason) }
 {
     let row = row_of_reason(reason);
@@ -234,7 +233,7 @@ pub(crate) fn put_reason<W: Write>(piece: &mut Piece, out: &mut Watched<W>, reas
 }
 
 /// Adds a blank and a number, if there is one. A length may be below 0.
-fn put_after_blank<W: Write>(piece: &mut Piece, out: &mut Watched<W>, number: Option<i64>)
+fn put_after_blank<W: Takes>(piece: &mut Piece, out: &mut Output<W>, number: Option<i64>)
     ensures { Puts W.contents out.old piece.old out.new piece.new (after_blank number) }
 {
     if let Some(number) = number {
@@ -252,10 +251,10 @@ fn put_after_blank<W: Write>(piece: &mut Piece, out: &mut Watched<W>, number: Op
 ///
 /// `Device` if the writer fails, or had failed before: then a prefix of the report was written,
 /// and nothing else. No memory is taken, so `OutOfMemory` is never returned.
-pub fn write_bound<W: Write>(
+pub fn write_bound<W: Takes>(
     instance: &File,
     found: BoundVerdict,
-    out: &mut Watched<W>,
+    out: &mut Output<W>,
 ) -> Result<(), WriteFault>
     ensures { Writes (sink_of W.contents out.old out.new)
         (bound_report_of instance.now found) result }
@@ -275,12 +274,7 @@ pub fn write_bound<W: Write>(
 }
 
 /// Adds the line of a bound and the line `yes`, or the line `no`.
-fn put_found<W: Write>(
-    piece: &mut Piece,
-    out: &mut Watched<W>,
-    instance: &File,
-    found: BoundVerdict,
-)
+fn put_found<W: Takes>(piece: &mut Piece, out: &mut Output<W>, instance: &File, found: BoundVerdict)
     ensures { Puts W.contents out.old piece.old out.new piece.new (bound_found_lines instance.now found) }
 {
     match found {

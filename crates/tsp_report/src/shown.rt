@@ -6,18 +6,17 @@ ghost use Rattle.std.specs.Prelude.{◌≡◌, ◌++◌, [], map, false};
 ghost use Rattle.tsp_format.specs.Steps.{leaf_count};
 ghost use Rattle.tsp_format.specs.states.TreeSteps.{subset_rows_of, steps_of};
 ghost use Rattle.tsp_io.specs.Streams.{Writes};
-ghost use Rattle.tsp_io.specs.states.Watched.{sink_of, Puts};
+ghost use Rattle.tsp_io.specs.states.Output.{sink_of, Puts};
 ghost use Rattle.tsp_file.specs.Rules.{is_instance};
 ghost use Rattle.tsp_file.specs.states.Drafts.{families_of};
 ghost use Rattle.tsp_report.specs.Report.{nodes_line, not_judged};
 ghost use Rattle.tsp_report.specs.Show.{shown, head_lines, name_line, lines_by_type, cost_lines, weights_line, layout_part, canonical_line, fixed_line, all_tour_lines, tour_line, scale_line, load_unit_line, families_line, memory_line, rows_line, part_lines, leaves_line, tree_lines};
 
 use crate::report::{put_named, put_nodes, put_others, put_type};
-use std::io::Write;
 use tsp_cost::{Instance, canonical_length};
 use tsp_file::File;
 use tsp_format::{Kind, RowSets, TreeStep, WeightFormat, WeightKind, Word};
-use tsp_io::{Piece, Watched, WriteFault, hand_over, put};
+use tsp_io::{Output, Piece, Takes, WriteFault, hand_over, put};
 
 /// Writes the lines of `show`: a file's NAME, its TYPE, the number of its nodes, and the rest of
 /// its contents.
@@ -26,7 +25,7 @@ use tsp_io::{Piece, Watched, WriteFault, hand_over, put};
 ///
 /// `Device` if the writer fails, or had failed before: then a prefix of the lines was written, and
 /// nothing else. No memory is taken, so `OutOfMemory` is never returned.
-pub fn write_shown<W: Write>(file: File, out: &mut Watched<W>) -> Result<(), WriteFault>
+pub fn write_shown<W: Takes>(file: File, out: &mut Output<W>) -> Result<(), WriteFault>
     ensures { Writes (sink_of W.contents out.old out.new) (shown file) result }
 {
     if out.failed() {
@@ -45,7 +44,7 @@ pub fn write_shown<W: Write>(file: File, out: &mut Watched<W>) -> Result<(), Wri
 }
 
 /// Adds the lines that every file has.
-fn put_head<W: Write>(piece: &mut Piece, out: &mut Watched<W>, file: &File)
+fn put_head<W: Takes>(piece: &mut Piece, out: &mut Output<W>, file: &File)
     ensures { Puts W.contents out.old piece.old out.new piece.new (head_lines file.now) }
 {
     put_name(piece, out, file.name());
@@ -54,7 +53,7 @@ fn put_head<W: Write>(piece: &mut Piece, out: &mut Watched<W>, file: &File)
 }
 
 /// Adds the lines by TYPE, and those of unknown keywords.
-fn put_rest<W: Write>(piece: &mut Piece, out: &mut Watched<W>, file: File)
+fn put_rest<W: Takes>(piece: &mut Piece, out: &mut Output<W>, file: File)
     ensures { Puts W.contents out.old piece.old out.new piece.new
         (lines_by_type file.kind file ++ not_judged file.others) }
 {
@@ -73,7 +72,7 @@ fn put_rest<W: Write>(piece: &mut Piece, out: &mut Watched<W>, file: File)
 }
 
 /// Adds the line of NAME, if it has a value that isn't empty.
-fn put_name<W: Write>(piece: &mut Piece, out: &mut Watched<W>, name: Option<&[u8]>)
+fn put_name<W: Takes>(piece: &mut Piece, out: &mut Output<W>, name: Option<&[u8]>)
     ensures { Puts W.contents out.old piece.old out.new piece.new
         (name_line (option_map (λ value. value.now) name.entry)) }
 {
@@ -89,7 +88,7 @@ fn put_name<W: Write>(piece: &mut Piece, out: &mut Watched<W>, name: Option<&[u8
 }
 
 /// Adds the line of DIMENSION, if it is present.
-fn put_dimension<W: Write>(piece: &mut Piece, out: &mut Watched<W>, dimension: Option<u32>)
+fn put_dimension<W: Takes>(piece: &mut Piece, out: &mut Output<W>, dimension: Option<u32>)
     ensures { Puts W.contents out.old piece.old out.new piece.new
         (option_map_or nodes_line dimension []) }
 {
@@ -99,7 +98,7 @@ fn put_dimension<W: Write>(piece: &mut Piece, out: &mut Watched<W>, dimension: O
 }
 
 /// Adds the lines of an instance alone.
-fn put_costs<W: Write>(piece: &mut Piece, out: &mut Watched<W>, instance: &Instance)
+fn put_costs<W: Takes>(piece: &mut Piece, out: &mut Output<W>, instance: &Instance)
     ensures { Puts W.contents out.old piece.old out.new piece.new (cost_lines instance.now) }
 {
     let file = instance.file();
@@ -109,9 +108,9 @@ fn put_costs<W: Write>(piece: &mut Piece, out: &mut Watched<W>, instance: &Insta
 }
 
 /// Adds the line of the weight type, with the layout of listed weights.
-fn put_weights<W: Write>(
+fn put_weights<W: Takes>(
     piece: &mut Piece,
-    out: &mut Watched<W>,
+    out: &mut Output<W>,
     kind: Option<WeightKind>,
     format: Option<WeightFormat>,
 )
@@ -124,9 +123,9 @@ fn put_weights<W: Write>(
 }
 
 /// Adds a blank and the word of the layout, if the weights are listed.
-fn put_layout<W: Write>(
+fn put_layout<W: Takes>(
     piece: &mut Piece,
-    out: &mut Watched<W>,
+    out: &mut Output<W>,
     kind: Option<WeightKind>,
     format: Option<WeightFormat>,
 )
@@ -140,7 +139,7 @@ fn put_layout<W: Write>(
 }
 
 /// Adds the word of a value, if it is present.
-fn put_word<W: Write, V: Word>(piece: &mut Piece, out: &mut Watched<W>, value: Option<V>)
+fn put_word<W: Takes, V: Word>(piece: &mut Piece, out: &mut Output<W>, value: Option<V>)
     ensures { Puts W.contents out.old piece.old out.new piece.new (option_map_or V.text value []) }
 {
     if let Some(value) = value {
@@ -149,7 +148,7 @@ fn put_word<W: Write, V: Word>(piece: &mut Piece, out: &mut Watched<W>, value: O
 }
 
 /// Adds the line of a length.
-fn put_canonical<W: Write>(piece: &mut Piece, out: &mut Watched<W>, length: i64)
+fn put_canonical<W: Takes>(piece: &mut Piece, out: &mut Output<W>, length: i64)
     ensures { Puts W.contents out.old piece.old out.new piece.new (canonical_line length) }
 {
     put_named(piece, out, b"canonical ", length);
@@ -157,7 +156,7 @@ fn put_canonical<W: Write>(piece: &mut Piece, out: &mut Watched<W>, length: i64)
 }
 
 /// Adds the line of the number of fixed pairs, if a section lists them.
-fn put_fixed<W: Write>(piece: &mut Piece, out: &mut Watched<W>, pairs: Option<&[(u32, u32)]>)
+fn put_fixed<W: Takes>(piece: &mut Piece, out: &mut Output<W>, pairs: Option<&[(u32, u32)]>)
     ensures { Puts W.contents out.old piece.old out.new piece.new
         (fixed_line (option_map (λ pairs. pairs.now) pairs.entry)) }
 {
@@ -169,7 +168,7 @@ fn put_fixed<W: Write>(piece: &mut Piece, out: &mut Watched<W>, pairs: Option<&[
 
 /// Adds the lines of a file that is no instance: those of tours, the scale of potentials, or those
 /// of a tree of cases.
-fn put_solution<W: Write>(piece: &mut Piece, out: &mut Watched<W>, file: &File)
+fn put_solution<W: Takes>(piece: &mut Piece, out: &mut Output<W>, file: &File)
     requires { is_instance file.now.kind ≡ false }
     ensures { Puts W.contents out.old piece.old out.new piece.new
         (lines_by_type file.now.kind file.now) }
@@ -183,7 +182,7 @@ fn put_solution<W: Write>(piece: &mut Piece, out: &mut Watched<W>, file: &File)
 }
 
 /// Adds the number of tours, and a line for each.
-fn put_tours<W: Write>(piece: &mut Piece, out: &mut Watched<W>, tours: &[Vec<u32>])
+fn put_tours<W: Takes>(piece: &mut Piece, out: &mut Output<W>, tours: &[Vec<u32>])
     ensures { Puts W.contents out.old piece.old out.new piece.new
         (all_tour_lines (map (λ tour. tour.items) tours.now)) }
 {
@@ -193,7 +192,7 @@ fn put_tours<W: Write>(piece: &mut Piece, out: &mut Watched<W>, tours: &[Vec<u32
 }
 
 /// Adds a line for each tour.
-fn put_each_tour<W: Write>(piece: &mut Piece, out: &mut Watched<W>, tours: &[Vec<u32>])
+fn put_each_tour<W: Takes>(piece: &mut Piece, out: &mut Output<W>, tours: &[Vec<u32>])
     ensures { Puts W.contents out.old piece.old out.new piece.new
         (flat_map tour_line (enumerate_from 1 (map (λ tour. tour.items) tours.now))) }
 {
@@ -203,7 +202,7 @@ fn put_each_tour<W: Write>(piece: &mut Piece, out: &mut Watched<W>, tours: &[Vec
 }
 
 /// Adds the line of a tour with its number.
-fn put_tour<W: Write>(piece: &mut Piece, out: &mut Watched<W>, number: usize, tour: &[u32])
+fn put_tour<W: Takes>(piece: &mut Piece, out: &mut Output<W>, number: usize, tour: &[u32])
     ensures { Puts W.contents out.old piece.old out.new piece.new (tour_line (number, tour.now)) }
 {
     put_named(piece, out, b"tour ", number);
@@ -212,7 +211,7 @@ fn put_tour<W: Write>(piece: &mut Piece, out: &mut Watched<W>, number: usize, to
 }
 
 /// Adds the line of SCALE, which is 1 if it is missing.
-fn put_scale<W: Write>(piece: &mut Piece, out: &mut Watched<W>, scale: Option<i64>)
+fn put_scale<W: Takes>(piece: &mut Piece, out: &mut Output<W>, scale: Option<i64>)
     ensures { Puts W.contents out.old piece.old out.new piece.new (scale_line scale) }
 {
     put_named(piece, out, b"scale ", scale.unwrap_or(1));
@@ -220,7 +219,7 @@ fn put_scale<W: Write>(piece: &mut Piece, out: &mut Watched<W>, scale: Option<i6
 }
 
 /// Adds the line of LOAD_UNIT, if it is present.
-fn put_load_unit<W: Write>(piece: &mut Piece, out: &mut Watched<W>, unit: Option<i64>)
+fn put_load_unit<W: Takes>(piece: &mut Piece, out: &mut Output<W>, unit: Option<i64>)
     ensures { Puts W.contents out.old piece.old out.new piece.new (load_unit_line unit) }
 {
     if let Some(unit) = unit {
@@ -231,7 +230,7 @@ fn put_load_unit<W: Write>(piece: &mut Piece, out: &mut Watched<W>, unit: Option
 
 /// Adds the lines of a tree of cases: its scale, its load unit, and how many families, lists of a
 /// memory, subset rows and leaves it has.
-fn put_tree<W: Write>(piece: &mut Piece, out: &mut Watched<W>, file: &File)
+fn put_tree<W: Takes>(piece: &mut Piece, out: &mut Output<W>, file: &File)
     ensures { Puts W.contents out.old piece.old out.new piece.new (tree_lines file.now) }
 {
     put_scale(piece, out, file.scale());
@@ -242,7 +241,7 @@ fn put_tree<W: Write>(piece: &mut Piece, out: &mut Watched<W>, file: &File)
 
 /// Adds how many families, lists of a memory and subset rows there are, for each section that is
 /// present.
-fn put_parts<W: Write>(piece: &mut Piece, out: &mut Watched<W>, file: &File)
+fn put_parts<W: Takes>(piece: &mut Piece, out: &mut Output<W>, file: &File)
     ensures { Puts W.contents out.old piece.old out.new piece.new (part_lines file.now) }
 {
     put_families(piece, out, file.families());
@@ -251,9 +250,9 @@ fn put_parts<W: Write>(piece: &mut Piece, out: &mut Watched<W>, file: &File)
 }
 
 /// Adds the line of the number of families, if a section lists them.
-fn put_families<W: Write>(
+fn put_families<W: Takes>(
     piece: &mut Piece,
-    out: &mut Watched<W>,
+    out: &mut Output<W>,
     families: Option<&[Vec<Vec<u32>>]>,
 )
     ensures { Puts W.contents out.old piece.old out.new piece.new
@@ -266,7 +265,7 @@ fn put_families<W: Write>(
 }
 
 /// Adds the line of the number of lists of a memory, if a section has them.
-fn put_memory<W: Write>(piece: &mut Piece, out: &mut Watched<W>, lists: Option<&[Vec<u32>]>)
+fn put_memory<W: Takes>(piece: &mut Piece, out: &mut Output<W>, lists: Option<&[Vec<u32>]>)
     ensures { Puts W.contents out.old piece.old out.new piece.new
         (memory_line (option_map (λ lists. map (λ list. list.items) lists.now) lists.entry)) }
 {
@@ -277,7 +276,7 @@ fn put_memory<W: Write>(piece: &mut Piece, out: &mut Watched<W>, lists: Option<&
 }
 
 /// Adds the line of the number of subset rows, if a section lists them.
-fn put_rows<W: Write>(piece: &mut Piece, out: &mut Watched<W>, rows: Option<&[RowSets]>)
+fn put_rows<W: Takes>(piece: &mut Piece, out: &mut Output<W>, rows: Option<&[RowSets]>)
     ensures { Puts W.contents out.old piece.old out.new piece.new
         (rows_line (option_map (λ rows. subset_rows_of rows.now) rows.entry)) }
 {
@@ -288,7 +287,7 @@ fn put_rows<W: Write>(piece: &mut Piece, out: &mut Watched<W>, rows: Option<&[Ro
 }
 
 /// Adds the line of the number of leaves.
-fn put_leaves<W: Write>(piece: &mut Piece, out: &mut Watched<W>, steps: &[TreeStep])
+fn put_leaves<W: Takes>(piece: &mut Piece, out: &mut Output<W>, steps: &[TreeStep])
     ensures { Puts W.contents out.old piece.old out.new piece.new
         (leaves_line (steps_of steps.now)) }
 {

@@ -3,7 +3,7 @@
 
 ghost use Rattle.std.specs.Prelude.{◌≡◌, ◌+◌, length, vec_len, OnOk};
 ghost use Rattle.tsp_solution.specs.SolutionRun.{IsSolutionRun};
-ghost use Rattle.tsp_io.specs.states.Watched.{sink_of};
+ghost use Rattle.tsp_io.specs.states.Output.{FailsByWrite, sink_of};
 
 use crate::fault::{FormFault, SolutionFault};
 use crate::hints::{Hints, InstanceShape};
@@ -11,11 +11,11 @@ use crate::tour_file::solution_of;
 use crate::word_place::Place;
 use std::alloc::Global;
 use std::fmt;
-use std::io::{Read, Write};
+use std::io::Read;
 use thiserror::Error;
 use tsp_file::write_file;
 use tsp_format::MOST_FILE_BYTES;
-use tsp_io::{Gives, Watched, WriteFault};
+use tsp_io::{Gives, Output, Takes, Watched, WriteFault};
 use tsp_read::{ReadFault, file_of_reader};
 
 /// The most bytes that a reader is asked for at once.
@@ -53,14 +53,15 @@ impl fmt::Display for SolutionRunFault {
 ///
 /// `File` with the fault of the solution or of the instance, and then nothing is written; `Write` if
 /// the writer fails.
-pub fn write_solution<R: Gives, I: Gives, W: Write>(
+pub fn write_solution<R: Gives, I: Gives, W: Takes>(
     alloc: Global,
     solution: &mut Watched<R>,
     instance: &mut Option<Watched<I>>,
     hints: Hints,
-    out: &mut Watched<W>,
+    out: &mut Output<W>,
 ) -> Result<(), SolutionRunFault>
-    ensures { IsSolutionRun (sink_of W.contents out.old out.new) result }
+    ensures text { IsSolutionRun (sink_of W.contents out.old out.new) result }
+    ensures cause { FailsByWrite W.takes out.new }
 {
     let text = match read_text(alloc, solution) {
         Ok(text) => text,

@@ -4,8 +4,8 @@ use crate::asserts::{holds, same};
 use std::alloc::Global;
 use std::test::Fail;
 use tsp_file::{
-    CoordKind, DisplayKind, Draft, DraftFault, EndFault, Field, File, Kind, Layout, RelayoutFault,
-    Watched, WeightFormat, WeightKind, WriteFault, write_file,
+    CoordKind, DisplayKind, Draft, DraftFault, EndFault, Field, File, Kind, Layout, Output,
+    RelayoutFault, WeightFormat, WeightKind, WriteFault, write_file,
 };
 
 /// One node with its weight to itself.
@@ -39,7 +39,7 @@ fn laid_out(alloc: Global, file: File, to: Layout) -> Result<File, RelayoutFault
 
 /// What writing a file to memory returns.
 fn written(alloc: Global, file: &File) -> Result<(), WriteFault> {
-    let mut out = Watched::new(Vec::new(alloc));
+    let mut out = Output::new(Vec::new(alloc));
     write_file(alloc, file, &mut out)
 }
 

@@ -1,11 +1,11 @@
-//! Tests of watched readers and writers: each call is passed on once, and its outcome is returned
-//! as it is.
+//! Tests of watched readers and of outputs: each call is passed on once, and its outcome is returned
+//! or kept as it is.
 
 use crate::asserts::{holds, holds_at, same, same_at};
-use crate::devices::{Drip, NEVER, Refusal, Trickle, outcome};
-use std::io::{ErrorKind, Read, Write};
+use crate::devices::{Drip, Refusal, Trickle, outcome};
+use std::io::{self, ErrorKind, Read};
 use std::process::Abort;
-use tsp_io::Watched;
+use tsp_io::{Output, Watched, write_text};
 
 /// Kinds of errors, an interruption among them, which is an error like any other.
 const KINDS: [ErrorKind; 4] = [
@@ -60,58 +60,39 @@ fn a_read_that_fails_is_returned_and_remembered(rt: HostRuntime) {
     }
 }
 
-/// Asserts the outcome of a write, and whether the writer has then failed.
-fn writes(
-    rt: &impl Abort,
-    writer: &mut Watched<Drip>,
-    text: &[u8],
-    wanted: Result<usize, ErrorKind>,
-    failed: bool,
-) {
-    same(rt, outcome(writer.write(text)), wanted);
-    same_at(rt, "failed", writer.failed(), failed);
+/// Asserts the result of writing a text: the kind of the error that was kept at a failure, this one
+/// or one before.
+fn writes(rt: &impl Abort, writer: &mut Output<Drip>, text: &[u8], wanted: Result<(), ErrorKind>) {
+    let written = write_text(writer, text);
+    same(rt, written.is_err(), wanted.is_err());
+    same(rt, writer.error().map(io::Error::kind), wanted.err());
+    same_at(rt, "failed", writer.failed(), wanted.is_err());
 }
 
-/// Asserts the outcome of a flush, and whether the writer has then failed.
-fn flushes(
-    rt: &impl Abort,
-    writer: &mut Watched<Drip>,
-    wanted: Result<(), ErrorKind>,
-    failed: bool,
-) {
-    same(rt, outcome(writer.flush()), wanted);
-    same_at(rt, "failed", writer.failed(), failed);
-}
-
-/// Asserts which bytes a writer took, how often it was asked to write, and that it was flushed
-/// once: each call is one, and no write flushes.
-fn was_asked(rt: &impl Abort, writer: Watched<Drip>, held: &[u8], calls: usize) {
+/// Asserts which bytes a writer took, how often it was asked to write, and that it was never
+/// flushed.
+fn was_asked(rt: &impl Abort, writer: Output<Drip>, held: &[u8], calls: usize) {
     let drip = writer.into_inner();
     same(rt, drip.held(), held);
     same_at(rt, "each call is one", drip.calls(), calls);
-    same_at(rt, "no write flushes", drip.flushes(), 1);
+    same_at(rt, "nothing is flushed", drip.flushes(), 0);
 }
 
-/// Asserts what a writer does that fails in this way, at its second write or at a flush: a later
-/// success doesn't undo it.
+/// Asserts what a writer does that fails in this way, at its second write: the error is kept, and
+/// nothing more is written.
 fn remembers_a_write(rt: &(impl AllocGlobal + Abort), kind: ErrorKind) {
-    let mut writer = Watched::new(Drip::new(rt.alloc(), 1, 1, Refusal::Error(kind)));
-    writes(rt, &mut writer, b"ab", Ok(1), false);
-    writes(rt, &mut writer, b"b", Err(kind), true);
-    writes(rt, &mut writer, b"cd", Ok(1), true);
-    flushes(rt, &mut writer, Err(kind), true);
-    was_asked(rt, writer, b"ac", 3);
-    let mut broken = Watched::new(Drip::new(rt.alloc(), 1, NEVER, Refusal::Error(kind)));
-    flushes(rt, &mut broken, Err(kind), true);
-    writes(rt, &mut broken, b"a", Ok(1), true);
-    was_asked(rt, broken, b"a", 1);
+    let mut writer = Output::new(Drip::new(rt.alloc(), 1, 1, Refusal::Error(kind)));
+    writes(rt, &mut writer, b"a", Ok(()));
+    writes(rt, &mut writer, b"bc", Err(kind));
+    writes(rt, &mut writer, b"d", Err(kind));
+    was_asked(rt, writer, b"a", 2);
 }
 
 #[test]
-fn a_write_or_flush_that_fails_is_returned_and_remembered(rt: HostRuntime) {
-    let mut sound = Watched::new(Drip::sound(rt.alloc()));
-    flushes(&rt, &mut sound, Ok(()), false);
-    was_asked(&rt, sound, b"", 0);
+fn a_write_that_fails_is_remembered(rt: HostRuntime) {
+    let mut sound = Output::new(Drip::sound(rt.alloc()));
+    writes(&rt, &mut sound, b"ab", Ok(()));
+    was_asked(&rt, sound, b"ab", 1);
     for kind in KINDS {
         remembers_a_write(&rt, kind);
     }
@@ -119,13 +100,11 @@ fn a_write_or_flush_that_fails_is_returned_and_remembered(rt: HostRuntime) {
 
 #[test]
 fn a_write_that_takes_nothing_of_a_text_is_a_failure(rt: HostRuntime) {
-    let mut writer = Watched::new(Drip::new(rt.alloc(), 1, 2, Refusal::Nothing));
+    let mut writer = Output::new(Drip::new(rt.alloc(), 1, 2, Refusal::Nothing));
     // nothing of an empty text is all of it
-    writes(&rt, &mut writer, b"", Ok(0), false);
-    writes(&rt, &mut writer, b"ab", Ok(1), false);
-    writes(&rt, &mut writer, b"b", Ok(0), true);
-    writes(&rt, &mut writer, b"", Ok(0), true);
-    // a flush doesn't undo it
-    flushes(&rt, &mut writer, Ok(()), true);
-    was_asked(&rt, writer, b"a", 4);
+    writes(&rt, &mut writer, b"", Ok(()));
+    writes(&rt, &mut writer, b"ab", Ok(()));
+    writes(&rt, &mut writer, b"c", Err(ErrorKind::WriteZero));
+    writes(&rt, &mut writer, b"", Err(ErrorKind::WriteZero));
+    was_asked(&rt, writer, b"ab", 3);
 }

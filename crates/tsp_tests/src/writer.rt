@@ -2,14 +2,14 @@
 //! texts are in the tables of runs of the program.)
 
 use crate::asserts::{holds, holds_at, same, same_at};
-use crate::devices::{Drip, NEVER, Refusal, outcome};
+use crate::devices::{Drip, NEVER, Refusal};
 use crate::drafts_of_tests_support::{file_of, rectangle, two_tours, upper_row};
 use std::alloc::{AllocError, Global};
-use std::io::{ErrorKind, Write};
+use std::io::ErrorKind;
 use std::process::Abort;
 use std::test::Fail;
 use tsp_file::{File, write_file};
-use tsp_io::{Watched, WriteFault};
+use tsp_io::{Output, WriteFault, write_text};
 
 /// The text of the draft `rectangle`. (A function returns it, so that proofs don't carry its
 /// bytes.)
@@ -107,7 +107,7 @@ EOF
 
 /// Asserts that a writer of one byte a call gets this whole text.
 fn gets_the_whole(rt: &(impl AllocGlobal + Abort), file: &File, text: &[u8]) {
-    let mut out = Watched::new(Drip::new(rt.alloc(), 1, NEVER, Refusal::Nothing));
+    let mut out = Output::new(Drip::new(rt.alloc(), 1, NEVER, Refusal::Nothing));
     same(rt, write_file(rt.alloc(), file, &mut out), Ok(()));
     holds(rt, !out.failed());
     same(rt, out.into_inner().held(), text);
@@ -115,8 +115,8 @@ fn gets_the_whole(rt: &(impl AllocGlobal + Abort), file: &File, text: &[u8]) {
 
 /// Asserts that a writer that had failed gets nothing.
 fn gets_nothing(rt: &(impl AllocGlobal + Abort), file: &File) {
-    let mut out = Watched::new(Drip::new(rt.alloc(), 1, 0, Refusal::Nothing));
-    same(rt, outcome(out.write(b"x")), Ok(0));
+    let mut out = Output::new(Drip::new(rt.alloc(), 1, 0, Refusal::Nothing));
+    same(rt, write_text(&mut out, b"x"), Err(WriteFault::Device));
     let written = write_file(rt.alloc(), file, &mut out);
     same(rt, written, Err(WriteFault::Device));
     same(rt, out.into_inner().calls(), 1);
@@ -140,7 +140,7 @@ fn failed_at(
     fails_at: usize,
     refusal: Refusal,
 ) -> Drip {
-    let mut out = Watched::new(Drip::new(rt.alloc(), most, fails_at, refusal));
+    let mut out = Output::new(Drip::new(rt.alloc(), most, fails_at, refusal));
     let written = write_file(rt.alloc(), file, &mut out);
     same(rt, written, Err(WriteFault::Device));
     holds(rt, out.failed());
@@ -187,7 +187,7 @@ const LONG_BYTES: usize = 12_053;
 #[test]
 fn a_long_text_goes_out_in_few_pieces_and_stops_at_a_failure(rt: HostRuntime) -> Result<(), Fail> {
     let file = long_file(rt.alloc())?;
-    let mut out = Watched::new(Drip::sound(rt.alloc()));
+    let mut out = Output::new(Drip::sound(rt.alloc()));
     same(&rt, write_file(rt.alloc(), &file, &mut out), Ok(()));
     let drip = out.into_inner();
     same(&rt, drip.held().len(), LONG_BYTES);
@@ -207,7 +207,7 @@ const MATRIX_BYTES: usize = 10_010;
 #[test]
 fn a_matrix_goes_out_in_few_pieces(rt: HostRuntime) -> Result<(), Fail> {
     let file = file_of(upper_row(rt.alloc(), 100, 4_950)?)?;
-    let mut out = Watched::new(Drip::sound(rt.alloc()));
+    let mut out = Output::new(Drip::sound(rt.alloc()));
     same(&rt, write_file(rt.alloc(), &file, &mut out), Ok(()));
     let drip = out.into_inner();
     same(&rt, drip.held().len(), MATRIX_BYTES);

@@ -2,13 +2,12 @@
 //! is asked.
 
 use crate::asserts::{holds, same, same_at};
-use crate::devices::{Drip, Refusal, outcome};
+use crate::devices::{Drip, Refusal};
 use std::alloc::{AllocError, Global};
-use std::io::{ErrorKind, Write};
+use std::io::ErrorKind;
 use std::process::Abort;
 use tsp_io::{
-    PIECE, Piece, Watched, WriteFault, hand_over, put, put_next_number, put_number, send,
-    write_text,
+    Output, PIECE, Piece, WriteFault, hand_over, put, put_next_number, put_number, send, write_text,
 };
 
 /// Ways in which a writer refuses.
@@ -31,7 +30,7 @@ const ENDS: &[(usize, &str, usize, Result<(), WriteFault>)] = &[
 fn a_text_goes_out_in_parts_until_the_writer_fails(rt: HostRuntime) {
     for refusal in REFUSALS {
         for (fails_at, held, calls, answer) in ENDS {
-            let mut out = Watched::new(Drip::new(rt.alloc(), 2, *fails_at, refusal));
+            let mut out = Output::new(Drip::new(rt.alloc(), 2, *fails_at, refusal));
             same_at(&rt, *fails_at, write_text(&mut out, b"abcde"), *answer);
             same(&rt, out.failed(), answer.is_err());
             let drip = out.into_inner();
@@ -44,11 +43,11 @@ fn a_text_goes_out_in_parts_until_the_writer_fails(rt: HostRuntime) {
 
 #[test]
 fn an_empty_text_is_no_call_and_a_failed_writer_gets_nothing(rt: HostRuntime) {
-    let mut out = Watched::new(Drip::new(rt.alloc(), 1, 0, Refusal::Nothing));
+    let mut out = Output::new(Drip::new(rt.alloc(), 1, 0, Refusal::Nothing));
     same(&rt, write_text(&mut out, b""), Ok(()));
     send(&mut out, b"");
     holds(&rt, !out.failed());
-    same(&rt, outcome(out.write(b"x")), Ok(0));
+    same(&rt, write_text(&mut out, b"x"), Err(WriteFault::Device));
     for text in [b"".as_slice(), b"abc".as_slice()] {
         same(&rt, write_text(&mut out, text), Err(WriteFault::Device));
         send(&mut out, text);
@@ -61,19 +60,19 @@ fn an_empty_text_is_no_call_and_a_failed_writer_gets_nothing(rt: HostRuntime) {
 }
 
 /// Asserts what waits in a piece once a text was put there.
-fn puts(rt: &impl Abort, piece: &mut Piece, out: &mut Watched<Drip>, text: &[u8], waiting: &[u8]) {
+fn puts(rt: &impl Abort, piece: &mut Piece, out: &mut Output<Drip>, text: &[u8], waiting: &[u8]) {
     put(piece, out, text);
     same(rt, piece.as_slice(), waiting);
 }
 
 /// Asserts that a piece is empty once it was handed over.
-fn hands_over(rt: &impl Abort, piece: &mut Piece, out: &mut Watched<Drip>) {
+fn hands_over(rt: &impl Abort, piece: &mut Piece, out: &mut Output<Drip>) {
     hand_over(piece, out);
     holds(rt, piece.as_slice().is_empty());
 }
 
 /// A number, and one after a blank.
-fn put_numbers(piece: &mut Piece, out: &mut Watched<Drip>) {
+fn put_numbers(piece: &mut Piece, out: &mut Output<Drip>) {
     put_number(piece, out, 7u32);
     put_next_number(piece, out, -1_000_000_000_000i64);
 }
@@ -92,7 +91,7 @@ fn small_texts_wait_and_long_ones_go_out_as_they_are(rt: HostRuntime) -> Result<
     let small = b"a7 -1000000000000\n".as_slice();
     let long = vec![in rt.alloc(); b'x'; PIECE + 1]?;
     let wanted = all_of(rt.alloc(), small, long.as_slice())?;
-    let mut out = Watched::new(Drip::sound(rt.alloc()));
+    let mut out = Output::new(Drip::sound(rt.alloc()));
     let mut piece = Piece::new();
     puts(&rt, &mut piece, &mut out, b"a", b"a");
     put_numbers(&mut piece, &mut out);

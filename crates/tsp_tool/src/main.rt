@@ -17,10 +17,10 @@ use std::io::{self, ErrorKind, IsTerminal};
 use std::os::fd::AsRawFd;
 use std::process::ExitCode;
 use std::rt::Stdin;
-use tsp_cli::{HostContext, InputFile, InputPath, Open, Watched, run, tell_unread, tell_waiting};
+use tsp_cli::{HostContext, InputFile, InputPath, Open, Output, run, tell_unread, tell_waiting};
 
 fn main(rt: HostRuntime) -> ExitCode {
-    let mut out = Watched::new(rt.stdout());
+    let mut out = Output::new(rt.stdout());
     let mut errors = rt.stderr();
     let host_context = HostContext {
         on_terminal: errors.is_terminal(),

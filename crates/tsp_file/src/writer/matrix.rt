@@ -5,17 +5,16 @@
 ghost use Rattle.tsp_file.specs.Prelude.{decimal, flat_map, option_map, length, map, drop, IfSome, cells_of_line, nodes_to};
 ghost use Rattle.std.specs.Fmt.{signed_decimal};
 ghost use Rattle.std.specs.Prelude.{◌≡◌, ◌∷◌, ◌≤◌, ◌+◌, ◌/◌, ◌%◌, ◌<◌, ◌++◌};
-ghost use Rattle.tsp_io.specs.states.Watched.{Puts};
+ghost use Rattle.tsp_io.specs.states.Output.{Puts};
 ghost use Rattle.tsp_file.specs.CanonicalText.{weight_line, matrix_lines, line_lens, section_text, optional};
 
 use crate::writer::sections::put_opening;
-use std::io::Write;
 use tsp_format::{Field, Layout, WeightFormat};
-use tsp_io::{Piece, Watched, put, put_next_number, put_number};
+use tsp_io::{Output, Piece, Takes, put, put_next_number, put_number};
 use tsp_number::write_pair;
 
 /// Adds weights, with a blank before each.
-fn put_more_weights<W: Write>(piece: &mut Piece, out: &mut Watched<W>, weights: &[i64])
+fn put_more_weights<W: Takes>(piece: &mut Piece, out: &mut Output<W>, weights: &[i64])
     ensures { Puts W.contents out.old piece.old out.new piece.new
         (flat_map (λ word. 32 ∷ word) (map signed_decimal weights.now)) }
 {
@@ -29,7 +28,7 @@ fn put_more_weights<W: Write>(piece: &mut Piece, out: &mut Watched<W>, weights: 
 }
 
 /// Adds a line with these weights; no line if there are none.
-fn put_weight_line<W: Write>(piece: &mut Piece, out: &mut Watched<W>, weights: &[i64])
+fn put_weight_line<W: Takes>(piece: &mut Piece, out: &mut Output<W>, weights: &[i64])
     ensures { Puts W.contents out.old piece.old out.new piece.new (weight_line weights.now) }
 {
     if let Some((first, rest)) = weights.split_first() {
@@ -43,9 +42,9 @@ fn put_weight_line<W: Write>(piece: &mut Piece, out: &mut Watched<W>, weights: &
 /// columns.
 ///
 /// Weights past the last line, which a valid file doesn't have, get one more line.
-fn put_lines<W: Write>(
+fn put_lines<W: Takes>(
     piece: &mut Piece,
-    out: &mut Watched<W>,
+    out: &mut Output<W>,
     layout: Layout,
     nodes: u32,
     weights: &[i64],
@@ -70,9 +69,9 @@ fn put_lines<W: Write>(
 /// Adds the lines of a matrix.
 ///
 /// Weights with no layout or no dimension, which a valid file doesn't have, get one line.
-fn put_matrix<W: Write>(
+fn put_matrix<W: Takes>(
     piece: &mut Piece,
-    out: &mut Watched<W>,
+    out: &mut Output<W>,
     format: Option<WeightFormat>,
     dimension: Option<u32>,
     weights: &[i64],
@@ -91,9 +90,9 @@ fn put_matrix<W: Write>(
 }
 
 /// Adds a section of weights, if the file has it.
-pub(crate) fn put_weight_section<W: Write>(
+pub(crate) fn put_weight_section<W: Takes>(
     piece: &mut Piece,
-    out: &mut Watched<W>,
+    out: &mut Output<W>,
     field: Field,
     format: Option<WeightFormat>,
     dimension: Option<u32>,
@@ -137,7 +136,7 @@ fn fill(weights: &[i64], block: &mut [u8; BLOCK]) -> Option<usize>
 }
 
 /// Adds weights one by one, with a blank before each.
-fn put_each<W: Write>(piece: &mut Piece, out: &mut Watched<W>, weights: &[i64])
+fn put_each<W: Takes>(piece: &mut Piece, out: &mut Output<W>, weights: &[i64])
     ensures { Puts W.contents out.old piece.old out.new piece.new
         (flat_map (λ weight. 32 ∷ signed_decimal weight) weights.now) }
 {
@@ -147,9 +146,9 @@ fn put_each<W: Write>(piece: &mut Piece, out: &mut Watched<W>, weights: &[i64])
 }
 
 /// Adds weights, with a blank before each, through the block, which is overwritten.
-fn put_block<W: Write>(
+fn put_block<W: Takes>(
     piece: &mut Piece,
-    out: &mut Watched<W>,
+    out: &mut Output<W>,
     weights: &[i64],
     block: &mut [u8; BLOCK],
 )

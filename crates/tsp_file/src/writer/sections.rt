@@ -6,19 +6,18 @@ ghost use Rattle.tsp_file.specs.Prelude.{decimal, flat_map, option_map, [], map,
 ghost use Rattle.std.specs.Fmt.{signed_decimal};
 ghost use Rattle.std.specs.Prelude.{◌≡◌, ◌+◌, ◌<◌, ◌^◌, ◌∷◌, ◌++◌, ◌≤◌};
 ghost use Rattle.tsp_number.specs.NumberWord.{spelling};
-ghost use Rattle.tsp_io.specs.states.Watched.{Puts};
+ghost use Rattle.tsp_io.specs.states.Output.{Puts};
 ghost use Rattle.tsp_file.specs.CanonicalText.{line_end, number_line, section_text, lines_by_node, node_list, pair_list, triple_list, coordinate_words, whole_number, optional};
 ghost use Rattle.tsp_file.specs.states.Drafts.{points_of};
 
 use crate::coords::Coords;
 use itoa::write_digits;
-use std::io::Write;
 use tsp_format::{Field, Word};
-use tsp_io::{Piece, Watched, put, put_next_number, put_number};
+use tsp_io::{Output, Piece, Takes, put, put_next_number, put_number};
 use tsp_number::{Decimal, InSpace, Point, write_spelling};
 
 /// Adds the line that opens a section.
-pub(crate) fn put_opening<W: Write>(piece: &mut Piece, out: &mut Watched<W>, field: Field)
+pub(crate) fn put_opening<W: Takes>(piece: &mut Piece, out: &mut Output<W>, field: Field)
     ensures { Puts W.contents out.old piece.old out.new piece.new (field_word field ++ line_end) }
 {
     put(piece, out, field.word().as_bytes());
@@ -26,7 +25,7 @@ pub(crate) fn put_opening<W: Write>(piece: &mut Piece, out: &mut Watched<W>, fie
 }
 
 /// Adds the line of a node and its number.
-fn put_number_line<W: Write>(piece: &mut Piece, out: &mut Watched<W>, node: usize, number: i64)
+fn put_number_line<W: Takes>(piece: &mut Piece, out: &mut Output<W>, node: usize, number: i64)
     ensures { Puts W.contents out.old piece.old out.new piece.new
         (number_line (decimal node) (whole_number number)) }
 {
@@ -36,7 +35,7 @@ fn put_number_line<W: Write>(piece: &mut Piece, out: &mut Watched<W>, node: usiz
 }
 
 /// Adds the line of a node.
-fn put_node_line<W: Write>(piece: &mut Piece, out: &mut Watched<W>, node: u32)
+fn put_node_line<W: Takes>(piece: &mut Piece, out: &mut Output<W>, node: u32)
     ensures { Puts W.contents out.old piece.old out.new piece.new
         (number_line (decimal node) []) }
 {
@@ -45,9 +44,9 @@ fn put_node_line<W: Write>(piece: &mut Piece, out: &mut Watched<W>, node: u32)
 }
 
 /// Adds the line of a pair of nodes.
-pub(crate) fn put_pair_line<W: Write>(
+pub(crate) fn put_pair_line<W: Takes>(
     piece: &mut Piece,
-    out: &mut Watched<W>,
+    out: &mut Output<W>,
     first: u32,
     second: u32,
 )
@@ -60,9 +59,9 @@ pub(crate) fn put_pair_line<W: Write>(
 }
 
 /// Adds the line of a pair of nodes and its number.
-fn put_triple_line<W: Write>(
+fn put_triple_line<W: Takes>(
     piece: &mut Piece,
-    out: &mut Watched<W>,
+    out: &mut Output<W>,
     first: u32,
     second: u32,
     number: i64,
@@ -77,7 +76,7 @@ fn put_triple_line<W: Write>(
 }
 
 /// Adds a line for each node, in rising order, with its number.
-fn put_numbers<W: Write>(piece: &mut Piece, out: &mut Watched<W>, numbers: &[i64])
+fn put_numbers<W: Takes>(piece: &mut Piece, out: &mut Output<W>, numbers: &[i64])
     ensures { Puts W.contents out.old piece.old out.new piece.new
         (lines_by_node whole_number numbers.now) }
 {
@@ -87,7 +86,7 @@ fn put_numbers<W: Write>(piece: &mut Piece, out: &mut Watched<W>, numbers: &[i64
 }
 
 /// Adds a line for each node of a list, and the line -1.
-fn put_nodes<W: Write>(piece: &mut Piece, out: &mut Watched<W>, nodes: &[u32])
+fn put_nodes<W: Takes>(piece: &mut Piece, out: &mut Output<W>, nodes: &[u32])
     ensures { Puts W.contents out.old piece.old out.new piece.new (node_list nodes.now) }
 {
     'nodes: for node in nodes {
@@ -97,7 +96,7 @@ fn put_nodes<W: Write>(piece: &mut Piece, out: &mut Watched<W>, nodes: &[u32])
 }
 
 /// Adds a line for each pair of a list, and the line -1.
-fn put_pairs<W: Write>(piece: &mut Piece, out: &mut Watched<W>, pairs: &[(u32, u32)])
+fn put_pairs<W: Takes>(piece: &mut Piece, out: &mut Output<W>, pairs: &[(u32, u32)])
     ensures { Puts W.contents out.old piece.old out.new piece.new (pair_list pairs.now) }
 {
     'pairs: for (first, second) in pairs {
@@ -107,7 +106,7 @@ fn put_pairs<W: Write>(piece: &mut Piece, out: &mut Watched<W>, pairs: &[(u32, u
 }
 
 /// Adds a line for each triple of a list, and the line -1.
-fn put_triples<W: Write>(piece: &mut Piece, out: &mut Watched<W>, triples: &[(u32, u32, i64)])
+fn put_triples<W: Takes>(piece: &mut Piece, out: &mut Output<W>, triples: &[(u32, u32, i64)])
     ensures { Puts W.contents out.old piece.old out.new piece.new (triple_list triples.now) }
 {
     'triples: for (first, second, number) in triples {
@@ -117,7 +116,7 @@ fn put_triples<W: Write>(piece: &mut Piece, out: &mut Watched<W>, triples: &[(u3
 }
 
 /// Adds the nodes of each tour, and a line -1 after each.
-fn put_tours<W: Write>(piece: &mut Piece, out: &mut Watched<W>, tours: &[Vec<u32>])
+fn put_tours<W: Takes>(piece: &mut Piece, out: &mut Output<W>, tours: &[Vec<u32>])
     ensures { Puts W.contents out.old piece.old out.new piece.new
         (flat_map node_list (map (λ t. t.items) tours.now)) }
 {
@@ -127,9 +126,9 @@ fn put_tours<W: Write>(piece: &mut Piece, out: &mut Watched<W>, tours: &[Vec<u32
 }
 
 /// Adds a section of one number for each node, if the file has it.
-pub(crate) fn put_number_section<W: Write>(
+pub(crate) fn put_number_section<W: Takes>(
     piece: &mut Piece,
-    out: &mut Watched<W>,
+    out: &mut Output<W>,
     field: Field,
     numbers: Option<&[i64]>,
 )
@@ -145,9 +144,9 @@ pub(crate) fn put_number_section<W: Write>(
 
 /// Adds a section of coordinates, three for each node in space and two in the plane, if the file
 /// has it.
-pub(crate) fn put_point_section<W: Write>(
+pub(crate) fn put_point_section<W: Takes>(
     piece: &mut Piece,
-    out: &mut Watched<W>,
+    out: &mut Output<W>,
     field: Field,
     points: Option<&Coords>,
     spatial: bool,
@@ -166,9 +165,9 @@ pub(crate) fn put_point_section<W: Write>(
 }
 
 /// Adds a section of nodes, if the file has it.
-pub(crate) fn put_node_section<W: Write>(
+pub(crate) fn put_node_section<W: Takes>(
     piece: &mut Piece,
-    out: &mut Watched<W>,
+    out: &mut Output<W>,
     field: Field,
     depots: &Option<Vec<u32>>,
 )
@@ -182,9 +181,9 @@ pub(crate) fn put_node_section<W: Write>(
 }
 
 /// Adds a section of pairs of nodes, if the file has it.
-pub(crate) fn put_pair_section<W: Write>(
+pub(crate) fn put_pair_section<W: Takes>(
     piece: &mut Piece,
-    out: &mut Watched<W>,
+    out: &mut Output<W>,
     field: Field,
     pairs: &Option<Vec<(u32, u32)>>,
 )
@@ -198,9 +197,9 @@ pub(crate) fn put_pair_section<W: Write>(
 }
 
 /// Adds a section of pairs of nodes with a number each, if the file has it.
-pub(crate) fn put_triple_section<W: Write>(
+pub(crate) fn put_triple_section<W: Takes>(
     piece: &mut Piece,
-    out: &mut Watched<W>,
+    out: &mut Output<W>,
     field: Field,
     triples: &Option<Vec<(u32, u32, i64)>>,
 )
@@ -214,9 +213,9 @@ pub(crate) fn put_triple_section<W: Write>(
 }
 
 /// Adds a section of tours, if the file has it.
-pub(crate) fn put_tour_section<W: Write>(
+pub(crate) fn put_tour_section<W: Takes>(
     piece: &mut Piece,
-    out: &mut Watched<W>,
+    out: &mut Output<W>,
     field: Field,
     tours: &Option<Vec<Vec<u32>>>,
 )
@@ -282,9 +281,9 @@ fn write_point_line(node: usize, point: Point, spatial: bool, line: &mut [u8; PO
 }
 
 /// Adds the line of a node and its coordinates through the block, which is overwritten.
-fn put_point_line<W: Write>(
+fn put_point_line<W: Takes>(
     piece: &mut Piece,
-    out: &mut Watched<W>,
+    out: &mut Output<W>,
     node: usize,
     point: Point,
     spatial: bool,
@@ -298,9 +297,9 @@ fn put_point_line<W: Write>(
 }
 
 /// Adds a line for each node, in rising order, with its coordinates.
-fn put_points<W: Write, P: InSpace>(
+fn put_points<W: Takes, P: InSpace>(
     piece: &mut Piece,
-    out: &mut Watched<W>,
+    out: &mut Output<W>,
     points: &[P],
     spatial: bool,
 )

@@ -8,8 +8,8 @@ use std::alloc::Global;
 use std::io::ErrorKind;
 use std::test::Fail;
 use tsp_judge::{
-    CertificateKind, ComparisonContext, Follow, Found, RunFault, Solutions, Watched, WriteFault,
-    run_compare,
+    CertificateKind, ComparisonContext, Follow, Found, Output, RunFault, Solutions, Watched,
+    WriteFault, run_compare,
 };
 
 /// Four solutions in memory. The last one fails at a read.
@@ -78,7 +78,7 @@ impl Follow<Counts> for Four {
 fn compared(alloc: Global, writer: Drip) -> (Result<u8, RunFault>, Counts, Drip) {
     let mut inst = Watched::new(THREE_NODES.as_bytes());
     let mut certificate = Some((CertificateKind::Potentials, Watched::new(DUALS.as_bytes())));
-    let mut out = Watched::new(writer);
+    let mut out = Output::new(writer);
     let mut counts = Counts {
         lines: 0,
         others: 0,

@@ -8,10 +8,10 @@ use crate::judge::files::{
 };
 use crate::judge::runs::{Readers, Task, run};
 use std::alloc::Global;
-use std::io::{ErrorKind, Read, Write};
+use std::io::{ErrorKind, Read};
 use std::process::Abort;
 use tsp_format::Field;
-use tsp_io::{Watched, WriteFault};
+use tsp_io::{Output, Watched, WriteFault, write_text};
 use tsp_judge::{EndFault, ReadFault, RelayoutFault, RunFault};
 
 /// A task and the texts of its files. What it doesn't read is empty.
@@ -65,7 +65,7 @@ pub(crate) fn look_at(
     alloc: Global,
     task: Task<'_>,
     mut readers: Readers<'_>,
-    mut out: Watched<Drip>,
+    mut out: Output<Drip>,
 ) -> Seen {
     let answer = run(alloc, task, &mut readers, &mut out);
     let failed = readers.failed();
@@ -144,8 +144,8 @@ fn a_read_fails(
 }
 
 /// A writer that takes all that it is given.
-fn sound(rt: &impl AllocGlobal) -> Watched<Drip> {
-    Watched::new(Drip::sound(rt.alloc()))
+fn sound(rt: &impl AllocGlobal) -> Output<Drip> {
+    Output::new(Drip::sound(rt.alloc()))
 }
 
 /// The result if a read of a file failed.
@@ -217,7 +217,7 @@ fn a_write_fails(
 ) {
     let ((task, texts), yes, text) = written;
     let readers = Readers::failing(*texts, [NEVER; 3]);
-    let out = Watched::new(Drip::new(rt.alloc(), 1, fails_at, refusal));
+    let out = Output::new(Drip::new(rt.alloc(), 1, fails_at, refusal));
     let found = look_at(rt.alloc(), *task, readers, out);
     if fails_at < text.len() {
         ends(rt, (row, fails_at), &found, Err(OUTPUT), fails_at + 1, true);
@@ -476,8 +476,13 @@ const WRITERS_HAD_FAILED: &[(Job, [usize; 3], RunFault)] = &[
 #[test]
 fn a_writer_that_had_failed_counts_in_its_turn_and_is_not_asked(rt: HostRuntime) {
     for (row, (job, fails_at, fault)) in WRITERS_HAD_FAILED.iter().enumerate() {
-        let mut out = Watched::new(Drip::new(rt.alloc(), 1, 0, Refusal::Nothing));
-        same_at(&rt, row, outcome(out.write(b"x")), Ok(0));
+        let mut out = Output::new(Drip::new(rt.alloc(), 1, 0, Refusal::Nothing));
+        same_at(
+            &rt,
+            row,
+            write_text(&mut out, b"x"),
+            Err(WriteFault::Device),
+        );
         let found = look_at(rt.alloc(), job.0, Readers::failing(job.1, *fails_at), out);
         ends(&rt, (row, 0), &found, Err(*fault), 1, true);
     }

@@ -5,7 +5,7 @@ use crate::devices::{Drip, NEVER, Refusal};
 use crate::judge::failures::{Job, WRITTEN, look_at};
 use crate::judge::runs::Readers;
 use std::process::Abort;
-use tsp_io::Watched;
+use tsp_io::Output;
 
 /// How many bytes a call delivers or takes.
 const SIZES: [usize; 6] = [1, 2, 3, 7, 64, 4_096];
@@ -19,7 +19,7 @@ fn gives_the_whole(
 ) {
     let ((task, texts), yes, text) = written;
     let readers = Readers::by(*texts, most);
-    let out = Watched::new(Drip::new(rt.alloc(), most, NEVER, Refusal::Nothing));
+    let out = Output::new(Drip::new(rt.alloc(), most, NEVER, Refusal::Nothing));
     let found = look_at(rt.alloc(), *task, readers, out);
     same_at(rt, (row, most), found.answer, Ok(*yes));
     same_at(rt, (row, most), found.writer.held(), text.as_bytes());

@@ -4,7 +4,7 @@ use crate::devices::{Drip, Trickle};
 use std::alloc::Global;
 use std::io::ErrorKind;
 use tsp_format::Layout;
-use tsp_io::Watched;
+use tsp_io::{Output, Watched};
 use tsp_judge::{RunFault, run_bound_check, run_branch_check, run_check, run_convert, run_show};
 
 /// What is done with the files.
@@ -88,7 +88,7 @@ fn failing(text: &str, fails_at: usize) -> Watched<Trickle<'_>> {
 fn checked(
     alloc: Global,
     readers: &mut Readers<'_>,
-    out: &mut Watched<Drip>,
+    out: &mut Output<Drip>,
 ) -> Result<bool, RunFault> {
     run_check(alloc, &mut readers.first, &mut readers.second, out)
 }
@@ -96,7 +96,7 @@ fn checked(
 fn bound_checked(
     alloc: Global,
     readers: &mut Readers<'_>,
-    out: &mut Watched<Drip>,
+    out: &mut Output<Drip>,
 ) -> Result<bool, RunFault> {
     run_bound_check(
         alloc,
@@ -110,7 +110,7 @@ fn bound_checked(
 fn branch_checked(
     alloc: Global,
     readers: &mut Readers<'_>,
-    out: &mut Watched<Drip>,
+    out: &mut Output<Drip>,
 ) -> Result<bool, RunFault> {
     run_branch_check(
         alloc,
@@ -121,11 +121,7 @@ fn branch_checked(
     )
 }
 
-fn shown(
-    alloc: Global,
-    readers: &mut Readers<'_>,
-    out: &mut Watched<Drip>,
-) -> Result<(), RunFault> {
+fn shown(alloc: Global, readers: &mut Readers<'_>, out: &mut Output<Drip>) -> Result<(), RunFault> {
     run_show(alloc, &mut readers.first, out)
 }
 
@@ -133,7 +129,7 @@ fn converted(
     alloc: Global,
     readers: &mut Readers<'_>,
     word: &str,
-    out: &mut Watched<Drip>,
+    out: &mut Output<Drip>,
 ) -> Result<(), RunFault> {
     run_convert(alloc, &mut readers.first, Layout::of_word(word), out)
 }
@@ -143,7 +139,7 @@ pub(crate) fn run(
     alloc: Global,
     task: Task<'_>,
     readers: &mut Readers<'_>,
-    out: &mut Watched<Drip>,
+    out: &mut Output<Drip>,
 ) -> Result<bool, RunFault> {
     match task {
         Task::Check => checked(alloc, readers, out),

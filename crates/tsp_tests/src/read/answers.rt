@@ -7,7 +7,7 @@ use std::fmt::Debug;
 use std::io::Read;
 use std::process::Abort;
 use tsp_file::{File, write_file};
-use tsp_io::Watched;
+use tsp_io::{Output, Watched};
 use tsp_read::{Feed, ReadFault, read_bytes, read_from};
 
 /// What a reading returns: a writer that holds the canonical text of its file, or its fault.
@@ -41,7 +41,7 @@ pub(crate) fn answer(rt: &(impl AllocGlobal + Abort), read: Result<File, ReadFau
 
 /// A writer that took a file.
 fn written(rt: &(impl AllocGlobal + Abort), file: &File) -> Drip {
-    let mut out = Watched::new(Drip::sound(rt.alloc()));
+    let mut out = Output::new(Drip::sound(rt.alloc()));
     same(rt, write_file(rt.alloc(), file, &mut out), Ok(()));
     out.into_inner()
 }

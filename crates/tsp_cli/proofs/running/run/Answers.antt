@@ -9,17 +9,17 @@ use Rattle.tsp_cli.specs.declared.job.Job.{Job}
 use Rattle.tsp_cli.specs.declared.job.JobFault.TheVariants.{OutOfMemory, Refused}
 use Rattle.tsp_cli.specs.declared.ends.RunEnd.{RunEnd}
 use Rattle.tsp_cli.specs.declared.ends.RunEnd.TheVariants.{NoJob, Printed, NoTask, Ended, Compared, Solved}
-use Rattle.tsp_io.specs.states.Watched.{sink_of}
+use Rattle.tsp_io.specs.states.Output.{sink_of}
 use Rattle.tsp_cli.specs.RunEnd.{Tells, TellsAll}
 use Rattle.tsp_cli.specs.ProgramRun.{EndsProgram, EndsRefused, EndsWith}
 use Rattle.tsp_cli.proofs.running.run.Goals as goal
 
-pub returns-in_default : goal.returns-in_default
-returns-in_default g c =
+pub returns-in_default-clause-ends : goal.returns-in_default-clause-ends
+returns-in_default-clause-ends g c =
     (false, NoJob OutOfMemory, (tt, (λ asks. asks), (λ asks. asks), (Keeps-refl _, refl), refl), (c.end.ensures.status, c.end.ensures.reported))
 
-pub returns-in-Err-OutOfMemory : goal.returns-in-Err-OutOfMemory
-returns-in-Err-OutOfMemory g c = (
+pub returns-in-Err-OutOfMemory-clause-ends : goal.returns-in-Err-OutOfMemory-clause-ends
+returns-in-Err-OutOfMemory-clause-ends g c = (
   false,
   NoJob OutOfMemory,
   (tt, (λ asks. asks), (λ asks. asks), (Keeps-refl _, refl), refl),
@@ -52,11 +52,11 @@ on_ok (Ok a) P Q f reported = f reported
 on_ok (Err b) P Q f reported = reported
 
 -- plan: by the words: refused (`ends_refused`), or a job, whose end is the run's (`ends_as_its_job`)
-pub returns-in-Err-Refused : goal.returns-in-Err-Refused
-returns-in-Err-Refused g c =
+pub returns-in-Err-Refused-clause-ends : goal.returns-in-Err-Refused-clause-ends
+returns-in-Err-Refused-clause-ends g c =
     let words : List Text = map string_bytes c.args.line.now in
     let refusal : Refusal = c.in-Err-Refused.refusal in
-    let sink : Sink = sink_of g.W.Write.contents c.args.out.now c.end_of_refusal-run_end.new.out in
+    let sink : Sink = sink_of g.W.Takes.contents c.args.out.now c.end_of_refusal-run_end.new.out in
     let run_end : RunEnd = c.end_of_refusal-run_end.result in
     let old = g.E.Write.contents c.args.errors.now in
     let new = g.E.Write.contents c.end-in-Err-Refused.new.errors in
@@ -84,11 +84,11 @@ ends_as_its_job remaining reads opens on_terminal build words sink job gives (En
 ends_as_its_job remaining reads opens on_terminal build words sink job gives (Compared answer) ends = (job, gives, ends, refl)
 ends_as_its_job remaining reads opens on_terminal build words sink job gives (Solved answer) ends = (job, gives, ends, refl)
 
-pub returns : goal.returns
-returns g c =
+pub returns-clause-ends : goal.returns-clause-ends
+returns-clause-ends g c =
     let job = c.in-Ok-job_of.job in
     let ran = c.run_job-answer.ensures in
     let gives = subst (λ words. GivesJob words (Ok job)) (ap (map (λ word. word.now)) c.deref.ensures.value ∙ c.in-Ok.ensures) c.in-Ok-job_of.ensures in
     let ends = ends_as_its_job g.F.Read.remaining g.F.Gives.gives (g.O.Open.opens c.args.files.now) c.args.host_context.on_terminal c.args.host_context.build.now
-    (map string_bytes c.args.line.now) (sink_of g.W.Write.contents c.args.out.now c.run_job-answer.new.out) job gives ran.0 ran.1 in
+    (map string_bytes c.args.line.now) (sink_of g.W.Takes.contents c.args.out.now c.run_job-answer.new.out) job gives ran.0 ran.1 in
     (job.explain || c.args.host_context.on_terminal, ran.0, ends, ran.2)

@@ -9,9 +9,9 @@ pub returns : goal.returns
 returns g c =
     let fits : FitsSigned w64 c.args.difference = search rules in
     let second = simp to_z-of_z at c.put_before_blank-2.ensures in
-    let start = way_of g.W.Write.contents c.args.out.now c.args.piece.now.items in
-    let after_index = way_of g.W.Write.contents c.put_before_blank.new.out c.put_before_blank.new.piece.items in
-    let last = way_of g.W.Write.contents c.put_before_blank-2.new.out c.put_before_blank-2.new.piece.items in
+    let start = way_of g.W.Takes.contents c.args.out.now c.args.piece.now.items in
+    let after_index = way_of g.W.Takes.contents c.put_before_blank.new.out c.put_before_blank.new.piece.items in
+    let last = way_of g.W.Takes.contents c.put_before_blank-2.new.out c.put_before_blank-2.new.piece.items in
     let index = before_blank (decimal c.args.index) in
     let difference = before_blank (signed_decimal c.args.difference) in
     carried_then start after_index last index (difference ++ []) c.put_before_blank.ensures

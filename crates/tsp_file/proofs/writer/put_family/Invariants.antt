@@ -6,5 +6,5 @@ use Rattle.tsp_file.proofs.writer.put_family.Given as goal
 -- the bytes added so far are the lines of the sets before this one
 abbrev pub invariant-sets : goal.invariant-sets
 invariant-sets g l =
-    Carried (way_of g.W.Write.contents l.initial.out l.initial.piece.items) (way_of g.W.Write.contents l.out l.piece.items)
+    Carried (way_of g.W.Takes.contents l.initial.out l.initial.piece.items) (way_of g.W.Takes.contents l.out l.piece.items)
     (flat_map (λ set. set_line set.items) (take l.set-index l.family))

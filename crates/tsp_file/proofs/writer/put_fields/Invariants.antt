@@ -7,5 +7,5 @@ use Rattle.tsp_file.proofs.writer.put_fields.Given as goal
 -- the bytes added so far are the texts of the fields before this one
 abbrev pub invariant-loop-field : goal.invariant-loop-field
 invariant-loop-field g l =
-    Carried (way_of g.W.Write.contents l.initial.out l.initial.piece.items) (way_of g.W.Write.contents l.out l.piece.items)
+    Carried (way_of g.W.Takes.contents l.initial.out l.initial.piece.items) (way_of g.W.Takes.contents l.out l.piece.items)
     (flat_map (text_of_field (fields_of l.draft)) (take l.field-index l.fields))

@@ -6,5 +6,5 @@ use Rattle.tsp_file.proofs.writer.put_steps.Given as goal
 -- the bytes added so far are the lines of the steps before this one
 abbrev pub invariant-steps : goal.invariant-steps
 invariant-steps g l =
-    Carried (way_of g.W.Write.contents l.initial.out l.initial.piece.items) (way_of g.W.Write.contents l.out l.piece.items)
+    Carried (way_of g.W.Takes.contents l.initial.out l.initial.piece.items) (way_of g.W.Takes.contents l.out l.piece.items)
     (flat_map (λ step. step_line (step_of step)) (take l.step-index l.steps))

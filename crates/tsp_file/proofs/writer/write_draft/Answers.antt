@@ -6,10 +6,10 @@ use Rattle.tsp_file.proofs.writer.write_draft.Goals as goal
 
 pub returns-then-failed-2 : goal.returns-then-failed-2
 returns-then-failed-2 g c =
-    let start = way_of g.W.Write.contents c.args.out.now c.new-piece.result.items in
-    let after_fields = way_of g.W.Write.contents c.put_fields.new.out c.put_fields.new.piece.items in
-    let after_end = way_of g.W.Write.contents c.put.new.out c.put.new.piece.items in
-    let last = way_of g.W.Write.contents c.hand_over.new.out c.hand_over.new.piece.items in
+    let start = way_of g.W.Takes.contents c.args.out.now c.new-piece.result.items in
+    let after_fields = way_of g.W.Takes.contents c.put_fields.new.out c.put_fields.new.piece.items in
+    let after_end = way_of g.W.Takes.contents c.put.new.out c.put.new.piece.items in
+    let last = way_of g.W.Takes.contents c.hand_over.new.out c.hand_over.new.piece.items in
     let whole = carried_then start after_fields last (flat_map (text_of_field (fields_of c.args.draft.now)) fields_in_order)
     (codes "EOF\n") c.put_fields.ensures
     (carried_then after_fields after_end last (codes "EOF\n") [] c.put.ensures c.hand_over.ensures.carried) in
@@ -20,10 +20,10 @@ returns-then-failed-2 g c =
 -- (`text_stopped`)
 pub returns-else-failed-2 : goal.returns-else-failed-2
 returns-else-failed-2 g c =
-    let start = way_of g.W.Write.contents c.args.out.now c.new-piece.result.items in
-    let after_fields = way_of g.W.Write.contents c.put_fields.new.out c.put_fields.new.piece.items in
-    let after_end = way_of g.W.Write.contents c.put.new.out c.put.new.piece.items in
-    let last = way_of g.W.Write.contents c.hand_over.new.out c.hand_over.new.piece.items in
+    let start = way_of g.W.Takes.contents c.args.out.now c.new-piece.result.items in
+    let after_fields = way_of g.W.Takes.contents c.put_fields.new.out c.put_fields.new.piece.items in
+    let after_end = way_of g.W.Takes.contents c.put.new.out c.put.new.piece.items in
+    let last = way_of g.W.Takes.contents c.hand_over.new.out c.hand_over.new.piece.items in
     let whole = carried_then start after_fields last (flat_map (text_of_field (fields_of c.args.draft.now)) fields_in_order)
     (codes "EOF\n") c.put_fields.ensures
     (carried_then after_fields after_end last (codes "EOF\n") [] c.put.ensures c.hand_over.ensures.carried) in

@@ -2,7 +2,7 @@
 -- ensures.
 use Rattle.std.proofs.Common.{[], refl, ◌∙◌, arith}
 use Rattle.std.proofs.KnownBytes.{Appends-nil}
-use Rattle.tsp_io.specs.states.Watched.{watched}
+use Rattle.tsp_io.specs.states.Output.{writer_of}
 use Rattle.tsp_io.proofs.Carrying.{sent_more, sent_front, sent_all, some_left}
 use Rattle.tsp_io.proofs.piece.send.Goals as goal
 
@@ -10,7 +10,7 @@ use Rattle.tsp_io.proofs.piece.send.Goals as goal
 pub parts-init : goal.parts-init
 parts-init g c = record {
   sound = cc;
-  sent = record { front = []; parts = refl; written = Appends-nil (g.W.Write.contents (watched c.args.out.now)) };
+  sent = record { front = []; parts = refl; written = Appends-nil (g.W.Takes.contents (writer_of c.args.out.now)) };
 }
 
 pub returns-then-count-eq0-clause-stopped : goal.returns-then-count-eq0-clause-stopped
@@ -24,7 +24,7 @@ returns-then-count-eq0-clause-written g c = λ sound.
 
 pub parts-preserved : goal.parts-preserved
 parts-preserved g c = record {
-  sound = c.send_part-count.ensures.sound (omega arith) ∙ c.parts.invariant.sound;
+  sound = c.send_part-count.ensures.sound (omega arith);
   sent = sent_more _ _ _ _ _ _ _ c.parts.invariant.sent c.send_part-count.ensures.bytes c.split_at.ensures.back;
 }
 

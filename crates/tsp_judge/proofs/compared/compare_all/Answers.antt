@@ -10,18 +10,18 @@ pub returns-in_err-found-clause-text : goal.returns-in_err-found-clause-text
 returns-in_err-found-clause-text g c =
     let same : c.from_residual.result ≡ Err c.in_err-found.field-0.0 = propagated _ _ c.from_residual.ensures.1 in
     let more : c.solutions.index < length (g.S.Solutions.names c.args.solutions.now) = omega (arith, c.solutions-test.true, c.count-index-end.ensures) in
-    rw same (compared_ends g.W.Write.contents c.args.out.now c.solutions.out c.compare_one.new.out (IsReadTraceAt g.R.Read.remaining g.R.Gives.gives (g.S.Solutions.opens c.args.solutions.now))
+    rw same (compared_ends g.W.Takes.contents c.args.out.now c.solutions.out c.compare_one.new.out (IsReadTraceAt g.R.Read.remaining g.R.Gives.gives (g.S.Solutions.opens c.args.solutions.now))
     (g.S.Solutions.names c.args.solutions.now) c.args.common.now c.solutions.index c.solutions.status _ c.solutions.invariant.compared more c.in_err-found.ensures)
 
 pub solutions-preserved : goal.solutions-preserved
 solutions-preserved g c =
     let more : c.solutions.index < length (g.S.Solutions.names c.args.solutions.now) = omega (arith, c.solutions-test.true, c.count-index-end.ensures) in
-    let next = compared_next g.W.Write.contents c.args.out.now c.solutions.out c.compare_one.new.out (IsReadTraceAt g.R.Read.remaining g.R.Gives.gives (g.S.Solutions.opens c.args.solutions.now))
+    let next = compared_next g.W.Takes.contents c.args.out.now c.solutions.out c.compare_one.new.out (IsReadTraceAt g.R.Read.remaining g.R.Gives.gives (g.S.Solutions.opens c.args.solutions.now))
     (g.S.Solutions.names c.args.solutions.now) c.args.common.now c.solutions.index c.solutions.status _ c.solutions.invariant.compared more c.in_ok-found.ensures in
     let status : c.larger-status.result ≡ max (status_of_found _) c.solutions.status = c.larger-status.ensures ∙ ap (λ s. max s c.solutions.status) (c.status_of_found.ensures ∙ ap status_of_found c.result.ensures) in
     record {
       compared = subst (λ s. HasCompared (IsReadTraceAt g.R.Read.remaining g.R.Gives.gives (g.S.Solutions.opens c.args.solutions.now)) (g.S.Solutions.names c.args.solutions.now) c.args.common.now
-          (sink_of g.W.Write.contents c.args.out.now c.compare_one.new.out) (c.solutions.index + 1) s) (sym status) next;
+          (sink_of g.W.Takes.contents c.args.out.now c.compare_one.new.out) (c.solutions.index + 1) s) (sym status) next;
       reported = reported_next (g.S.Follow.tells c.args.solutions.now) c.solutions.index c.args.to.now c.solutions.to c.written.new.to c.solutions.invariant.reported c.written.ensures;
     }
 
@@ -32,7 +32,7 @@ returns-in_err-found-clause-reported g c =
     rw same (
       c.solutions.index,
       reported_before (IsReadTraceAt g.R.Read.remaining g.R.Gives.gives (g.S.Solutions.opens c.args.solutions.now)) (g.S.Solutions.names c.args.solutions.now) c.args.common.now c.solutions.index
-          (sink_of g.W.Write.contents c.solutions.out c.compare_one.new.out) _ _ more c.in_err-found.ensures,
+          (sink_of g.W.Takes.contents c.solutions.out c.compare_one.new.out) _ _ more c.in_err-found.ensures,
       c.solutions.invariant.reported,
     )
 

@@ -20,7 +20,7 @@ returns-in-Ok g c =
       read_trace,
       opened,
       found.2,
-      subst₂ (λ r (path : List _). HasWritten (sink_of g.W.Write.contents c.args.out.now c.write_line.new.out) (solution_line r path)) c.result.ensures c.name.ensures c.in-Ok.ensures,
+      subst₂ (λ r (path : List _). HasWritten (sink_of g.W.Takes.contents c.args.out.now c.write_line.new.out) (solution_line r path)) c.result.ensures c.name.ensures c.in-Ok.ensures,
     )
 
 pub returns : goal.returns
@@ -31,8 +31,8 @@ returns g c =
     c.open.ensures c.new-reader.ensures.inner c.new-reader.ensures.sound c.in_ok-found.ensures.asked found.1 in
     rw c.unwritten.ensures
     (one_stopped (IsReadTraceAt g.R.Read.remaining g.R.Gives.gives (g.S.Solutions.opens c.args.solutions.now)) (g.S.Solutions.names c.args.solutions.now) c.args.common.now c.args.index
-    (sink_of g.W.Write.contents c.args.out.now c.write_line.new.out) read_trace _ c.in-Err.fault opened found.2
-    (subst₂ (λ r (path : List _). Writes (sink_of g.W.Write.contents c.args.out.now c.write_line.new.out) (solution_line r path) (Err c.in-Err.fault)) c.result.ensures c.name.ensures
+    (sink_of g.W.Takes.contents c.args.out.now c.write_line.new.out) read_trace _ c.in-Err.fault opened found.2
+    (subst₂ (λ r (path : List _). Writes (sink_of g.W.Takes.contents c.args.out.now c.write_line.new.out) (solution_line r path) (Err c.in-Err.fault)) c.result.ensures c.name.ensures
     c.in-Err.ensures))
 
 pub returns-in_err-found : goal.returns-in_err-found
@@ -43,4 +43,4 @@ returns-in_err-found g c =
     let opened = read_trace_at g.R.Read.remaining g.R.Gives.gives (g.S.Solutions.opens c.args.solutions.now) c.args.index c.open.result c.new-reader.result c.find.new.reader found.0
     c.open.ensures c.new-reader.ensures.inner c.new-reader.ensures.sound c.in_err-found.ensures.asked found.1 in
     rw same (one_refused (IsReadTraceAt g.R.Read.remaining g.R.Gives.gives (g.S.Solutions.opens c.args.solutions.now)) (g.S.Solutions.names c.args.solutions.now) c.args.common.now
-    c.args.index (sink_of g.W.Write.contents c.args.out.now c.args.out.now) read_trace _ opened found.2 (Keeps-refl _, refl))
+    c.args.index (sink_of g.W.Takes.contents c.args.out.now c.args.out.now) read_trace _ opened found.2 (Keeps-refl _, refl))

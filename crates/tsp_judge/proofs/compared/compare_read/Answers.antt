@@ -20,7 +20,7 @@ pub returns-in_default-clause-text : goal.returns-in_default-clause-text
 returns-in_default-clause-text g c = λ given first one two.
     rw c.wrong_kind.ensures
     (ends_lacking c.args.strict (IsReadTraceAt g.R.Read.remaining g.R.Gives.gives (g.S.Solutions.opens c.args.solutions.now)) (g.S.Solutions.names c.args.solutions.now) given first c.args.instance c.args.certificate
-    (sink_of g.W.Write.contents c.args.out.now c.args.out.now) WrongKind one two (none_judged c.args.certificate _ c.in_default.ensures.2) (Keeps-refl _, refl))
+    (sink_of g.W.Takes.contents c.args.out.now c.args.out.now) WrongKind one two (none_judged c.args.certificate _ c.in_default.ensures.2) (Keeps-refl _, refl))
 
 pub returns-in_err-common-clause-text : goal.returns-in_err-common-clause-text
 returns-in_err-common-clause-text g c = λ given first one two.

@@ -8,11 +8,11 @@ use Rattle.tsp_judge.proofs.compared.compare_with.Goals as goal
 -- plan: the head is written, then the line of each solution (`after_head`)
 pub returns-clause-text : goal.returns-clause-text
 returns-clause-text g c =
-    let written = subst (λ (f : Fields). HasWritten (sink_of g.W.Write.contents c.args.out.now c.write_head.new.out) (head_of f c.args.common.now.known_bound)) c.file.ensures.value c.in-Ok.ensures in
+    let written = subst (λ (f : Fields). HasWritten (sink_of g.W.Takes.contents c.args.out.now c.write_head.new.out) (head_of f c.args.common.now.known_bound)) c.file.ensures.value c.in-Ok.ensures in
     let clear : is_clear c.args.common.now.known_bound ≡ true = search rules in
     subst (λ b. ComparesBy b (IsReadTraceAt g.R.Read.remaining g.R.Gives.gives (g.S.Solutions.opens c.args.solutions.now)) (g.S.Solutions.names c.args.solutions.now) c.args.common.now
-    (sink_of g.W.Write.contents c.args.out.now c.compare_all.new.out) c.compare_all.result) (sym clear)
-    (after_head g.W.Write.contents c.args.out.now c.write_head.new.out c.compare_all.new.out (IsReadTraceAt g.R.Read.remaining g.R.Gives.gives (g.S.Solutions.opens c.args.solutions.now))
+    (sink_of g.W.Takes.contents c.args.out.now c.compare_all.new.out) c.compare_all.result) (sym clear)
+    (after_head g.W.Takes.contents c.args.out.now c.write_head.new.out c.compare_all.new.out (IsReadTraceAt g.R.Read.remaining g.R.Gives.gives (g.S.Solutions.opens c.args.solutions.now))
     (g.S.Solutions.names c.args.solutions.now) c.args.common.now (head_of c.args.common.now.instance c.args.common.now.known_bound) c.compare_all.result written c.compare_all.ensures.text)
 
 pub returns-in-Err-clause-reported : goal.returns-in-Err-clause-reported

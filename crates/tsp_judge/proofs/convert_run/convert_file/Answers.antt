@@ -18,7 +18,7 @@ returns-in-Err-written-clause-answer g c = let read = c.in_ok-file.ensures.answe
     let read_trace = read_trace_of g.R.Read.remaining c.args.r.now c.read_file.new.reader read.0 in rw c.unwritten.ensures (
       read.0,
       read.1,
-      convert_stopped c.args.to read_trace (sink_of g.W.Write.contents c.args.out.now c.write_file-written.new.out) c.in-Ok.converted c.in-Err-written.fault
+      convert_stopped c.args.to read_trace (sink_of g.W.Takes.contents c.args.out.now c.write_file-written.new.out) c.in-Ok.converted c.in-Err-written.fault
           (converted c.args.to read_trace c.in_ok-file.file c.in-Ok.converted read.2 c.in-Ok.ensures c.write_file-written.ensures.valid)
           c.in-Err-written.ensures.written,
     )

@@ -13,7 +13,7 @@ pub returns-in-Err-clause-answer : goal.returns-in-Err-clause-answer
 returns-in-Err-clause-answer g c = let read = c.in_ok-file.ensures.answer in rw c.unwritten.ensures (
   read.0,
   read.1,
-  show_stopped (read_trace_of g.R.Read.remaining c.args.r.now c.read_file.new.reader read.0) (sink_of g.W.Write.contents c.args.out.now c.write_shown.new.out)
+  show_stopped (read_trace_of g.R.Read.remaining c.args.r.now c.read_file.new.reader read.0) (sink_of g.W.Takes.contents c.args.out.now c.write_shown.new.out)
       c.in_ok-file.file c.in-Err.fault read.2 c.in-Err.ensures,
 )
 

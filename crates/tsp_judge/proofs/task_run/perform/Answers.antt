@@ -9,13 +9,13 @@ use Rattle.tsp_judge.proofs.task_run.perform.Goals as goal
 pub returns-in-Check-clause-done : goal.returns-in-Check-clause-done
 returns-in-Check-clause-done g c = let one = c.run-ended.ensures.answer in let two = one.2 in let left = c.run-ended.new in
     subst (λ task. IsDone g.R.Read.remaining task (Check left.inst left.sol left.certificate c.in-Check.claimed c.in-Check.strict)
-    (sink_of g.W.Write.contents c.args.out.now left.out) c.judged.result) (sym c.in-Check.is)
+    (sink_of g.W.Takes.contents c.args.out.now left.out) c.judged.result) (sym c.in-Check.is)
     (one.0, one.1, (two.0, two.1, named_by g.R.Read.remaining c.in-Check.certificate left.certificate _ _ (λ given ran. (c.run-ended.result, c.judged.ensures, ran)) two.2))
 
 pub returns-in-Bound-clause-done : goal.returns-in-Bound-clause-done
 returns-in-Bound-clause-done g c = let one = c.run_bound.ensures.answer in let two = one.2 in
     subst (λ task. IsDone g.R.Read.remaining task (Bound c.run_bound.new.inst (c.in-Bound.by, c.run_bound.new.cert) c.in-Bound.strict)
-    (sink_of g.W.Write.contents c.args.out.now c.run_bound.new.out) c.bounded.result) (sym c.in-Bound.is)
+    (sink_of g.W.Takes.contents c.args.out.now c.run_bound.new.out) c.bounded.result) (sym c.in-Bound.is)
     (one.0, one.1, (two.0, two.1, (c.run_bound.result, c.bounded.ensures, two.2)))
 
 pub returns-in-Check-clause-asked : goal.returns-in-Check-clause-asked

@@ -13,10 +13,10 @@ returns-in-NoSolution g c = rw c.in-NoSolution.is c.put.ensures
 
 pub returns-in-Routes : goal.returns-in-Routes
 returns-in-Routes g c =
-    let start = way_of g.W.Write.contents c.args.out.now c.args.piece.now.items in
-    let after_least = way_of g.W.Write.contents c.put_named.new.out c.put_named.new.piece.items in
-    let after_line = way_of g.W.Write.contents c.put-in-Routes.new.out c.put-in-Routes.new.piece.items in
-    let last = way_of g.W.Write.contents c.put_bound_line-in-Routes.new.out c.put_bound_line-in-Routes.new.piece.items in
+    let start = way_of g.W.Takes.contents c.args.out.now c.args.piece.now.items in
+    let after_least = way_of g.W.Takes.contents c.put_named.new.out c.put_named.new.piece.items in
+    let after_line = way_of g.W.Takes.contents c.put-in-Routes.new.out c.put-in-Routes.new.piece.items in
+    let last = way_of g.W.Takes.contents c.put_bound_line-in-Routes.new.out c.put_bound_line-in-Routes.new.piece.items in
     let least = codes "least " ++ decimal c.in-Routes.least in
     rw c.in-Routes.is (carried_then start after_line last (least ++ codes "\n") (known_bound_bound c.in-Routes.bound)
     (carried_then start after_least after_line least (codes "\n") c.put_named.ensures c.put-in-Routes.ensures)

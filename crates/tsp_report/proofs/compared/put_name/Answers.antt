@@ -5,10 +5,10 @@ use Rattle.tsp_report.proofs.compared.put_name.Goals as goal
 -- plan: the words of the fault, one after the other (`carried_then`)
 pub returns : goal.returns
 returns g c =
-    let start = way_of g.W.Write.contents c.args.out.now c.args.piece.now.items in
-    let begun = way_of g.W.Write.contents c.put.new.out c.put.new.piece.items in
-    let after_name = way_of g.W.Write.contents c.put-2.new.out c.put-2.new.piece.items in
-    let last = way_of g.W.Write.contents c.put-3.new.out c.put-3.new.piece.items in
+    let start = way_of g.W.Takes.contents c.args.out.now c.args.piece.now.items in
+    let begun = way_of g.W.Takes.contents c.put.new.out c.put.new.piece.items in
+    let after_name = way_of g.W.Takes.contents c.put-2.new.out c.put-2.new.piece.items in
+    let last = way_of g.W.Takes.contents c.put-3.new.out c.put-3.new.piece.items in
     let words = c.line_words.result in
     let name = rw c.as_bytes.ensures.value at c.put-2.ensures in
     let rest = rw c.as_bytes-2.ensures.value at c.put-3.ensures in

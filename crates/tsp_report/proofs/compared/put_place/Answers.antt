@@ -6,12 +6,12 @@ use Rattle.tsp_report.proofs.compared.put_place.Goals as goal
 -- plan: the line, the word and the fault's name (`carried_then`)
 pub returns : goal.returns
 returns g c =
-    let start = way_of g.W.Write.contents c.args.out.now c.args.piece.now.items in
-    let begun = way_of g.W.Write.contents c.put.new.out c.put.new.piece.items in
-    let after_line = way_of g.W.Write.contents c.put_number.new.out c.put_number.new.piece.items in
-    let between = way_of g.W.Write.contents c.put-2.new.out c.put-2.new.piece.items in
-    let after_word = way_of g.W.Write.contents c.put_number-2.new.out c.put_number-2.new.piece.items in
-    let last = way_of g.W.Write.contents c.put_name.new.out c.put_name.new.piece.items in
+    let start = way_of g.W.Takes.contents c.args.out.now c.args.piece.now.items in
+    let begun = way_of g.W.Takes.contents c.put.new.out c.put.new.piece.items in
+    let after_line = way_of g.W.Takes.contents c.put_number.new.out c.put_number.new.piece.items in
+    let between = way_of g.W.Takes.contents c.put-2.new.out c.put-2.new.piece.items in
+    let after_word = way_of g.W.Takes.contents c.put_number-2.new.out c.put_number-2.new.piece.items in
+    let last = way_of g.W.Takes.contents c.put_name.new.out c.put_name.new.piece.items in
     let name = codes ": " ++ line_fault_text c.args.fault in
     carried_then start begun last (codes "line ") (decimal c.args.line ++ (codes " word " ++ (decimal c.args.word ++ name))) c.put.ensures
     (carried_then begun after_line last (decimal c.args.line) (codes " word " ++ (decimal c.args.word ++ name)) c.put_number.ensures

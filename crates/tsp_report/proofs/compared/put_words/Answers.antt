@@ -7,9 +7,9 @@ use Rattle.tsp_report.proofs.compared.put_words.Goals as goal
 -- plan: by the verdict: a length with its gap or its routes, or a reason (`then_named`)
 pub returns-in-Tour : goal.returns-in-Tour
 returns-in-Tour g c =
-    let start = way_of g.W.Write.contents c.args.out.now c.args.piece.now.items in
-    let after_length = way_of g.W.Write.contents c.put_number.new.out c.put_number.new.piece.items in
-    let last = way_of g.W.Write.contents c.put_bound_words.new.out c.put_bound_words.new.piece.items in
+    let start = way_of g.W.Takes.contents c.args.out.now c.args.piece.now.items in
+    let after_length = way_of g.W.Takes.contents c.put_number.new.out c.put_number.new.piece.items in
+    let last = way_of g.W.Takes.contents c.put_bound_words.new.out c.put_bound_words.new.piece.items in
     let fits : FitsSigned w64 c.in-Tour.length = search rules in
     let number = simp to_z-of_z at c.put_number.ensures in
     let bound = simp to_z-of_z at c.put_bound_words.ensures in
@@ -17,10 +17,10 @@ returns-in-Tour g c =
 
 pub returns-in-Routes : goal.returns-in-Routes
 returns-in-Routes g c =
-    let start = way_of g.W.Write.contents c.args.out.now c.args.piece.now.items in
-    let after_length = way_of g.W.Write.contents c.put_number-in-Routes.new.out c.put_number-in-Routes.new.piece.items in
-    let after_routes = way_of g.W.Write.contents c.put_named.new.out c.put_named.new.piece.items in
-    let last = way_of g.W.Write.contents c.put_bound_words-in-Routes.new.out c.put_bound_words-in-Routes.new.piece.items in
+    let start = way_of g.W.Takes.contents c.args.out.now c.args.piece.now.items in
+    let after_length = way_of g.W.Takes.contents c.put_number-in-Routes.new.out c.put_number-in-Routes.new.piece.items in
+    let after_routes = way_of g.W.Takes.contents c.put_named.new.out c.put_named.new.piece.items in
+    let last = way_of g.W.Takes.contents c.put_bound_words-in-Routes.new.out c.put_bound_words-in-Routes.new.piece.items in
     let fits : FitsSigned w64 c.in-Routes.length = search rules in
     let number = simp to_z-of_z at c.put_number-in-Routes.ensures in
     let bound = simp to_z-of_z at c.put_bound_words-in-Routes.ensures in
@@ -32,7 +32,7 @@ returns-in-Routes g c =
 
 pub returns-in-No : goal.returns-in-No
 returns-in-No g c =
-    let start = way_of g.W.Write.contents c.args.out.now c.args.piece.now.items in
-    let begun = way_of g.W.Write.contents c.put.new.out c.put.new.piece.items in
-    let last = way_of g.W.Write.contents c.put_reason.new.out c.put_reason.new.piece.items in
+    let start = way_of g.W.Takes.contents c.args.out.now c.args.piece.now.items in
+    let begun = way_of g.W.Takes.contents c.put.new.out c.put.new.piece.items in
+    let last = way_of g.W.Takes.contents c.put_reason.new.out c.put_reason.new.piece.items in
     rw c.in-No.is (carried_then start begun last (codes "no ") (reason_text c.in-No.reason) c.put.ensures c.put_reason.ensures)

@@ -8,10 +8,10 @@ use Rattle.tsp_report.proofs.compared.write_head.Goals as goal
 -- plan: by whether the writer fails: the whole head was written (`text_written`), or a prefix (`text_stopped`)
 pub returns-then-failed-2 : goal.returns-then-failed-2
 returns-then-failed-2 g c =
-    let start = way_of g.W.Write.contents c.args.out.now c.new-piece.result.items in
-    let after_instance = way_of g.W.Write.contents c.put_instance.new.out c.put_instance.new.piece.items in
-    let after_known_bound = way_of g.W.Write.contents c.put_known_bound.new.out c.put_known_bound.new.piece.items in
-    let last = way_of g.W.Write.contents c.hand_over.new.out c.hand_over.new.piece.items in
+    let start = way_of g.W.Takes.contents c.args.out.now c.new-piece.result.items in
+    let after_instance = way_of g.W.Takes.contents c.put_instance.new.out c.put_instance.new.piece.items in
+    let after_known_bound = way_of g.W.Takes.contents c.put_known_bound.new.out c.put_known_bound.new.piece.items in
+    let last = way_of g.W.Takes.contents c.hand_over.new.out c.hand_over.new.piece.items in
     let whole = two_parts start after_instance after_known_bound last (instance_lines c.args.instance.now) (known_bound_lines c.args.instance.now c.args.known_bound)
     c.put_instance.ensures c.put_known_bound.ensures c.hand_over.ensures.carried in
     text_stopped start last (head_of c.args.instance.now c.args.known_bound) c.new-piece.ensures (sym c.failed.ensures ∙ c.if-failed.false) whole
@@ -19,10 +19,10 @@ returns-then-failed-2 g c =
 
 pub returns-else-failed-2 : goal.returns-else-failed-2
 returns-else-failed-2 g c =
-    let start = way_of g.W.Write.contents c.args.out.now c.new-piece.result.items in
-    let after_instance = way_of g.W.Write.contents c.put_instance.new.out c.put_instance.new.piece.items in
-    let after_known_bound = way_of g.W.Write.contents c.put_known_bound.new.out c.put_known_bound.new.piece.items in
-    let last = way_of g.W.Write.contents c.hand_over.new.out c.hand_over.new.piece.items in
+    let start = way_of g.W.Takes.contents c.args.out.now c.new-piece.result.items in
+    let after_instance = way_of g.W.Takes.contents c.put_instance.new.out c.put_instance.new.piece.items in
+    let after_known_bound = way_of g.W.Takes.contents c.put_known_bound.new.out c.put_known_bound.new.piece.items in
+    let last = way_of g.W.Takes.contents c.hand_over.new.out c.hand_over.new.piece.items in
     let whole = two_parts start after_instance after_known_bound last (instance_lines c.args.instance.now) (known_bound_lines c.args.instance.now c.args.known_bound)
     c.put_instance.ensures c.put_known_bound.ensures c.hand_over.ensures.carried in
     text_written start last (head_of c.args.instance.now c.args.known_bound) c.new-piece.ensures (sym c.failed.ensures ∙ c.if-failed.false) whole

@@ -6,11 +6,11 @@ use Rattle.tsp_report.proofs.report.put_accepted.Goals as goal
 -- plan: the line of the length, then those of the bound where there is one, then the line yes, after each other
 pub returns : goal.returns
 returns g c =
-    let start = way_of g.W.Write.contents c.args.out.now c.args.piece.now.items in
-    let after_length = way_of g.W.Write.contents c.put_named.new.out c.put_named.new.piece.items in
-    let after_line = way_of g.W.Write.contents c.put.new.out c.put.new.piece.items in
-    let after_bound = way_of g.W.Write.contents c.put_bound.new.out c.put_bound.new.piece.items in
-    let last = way_of g.W.Write.contents c.put-2.new.out c.put-2.new.piece.items in
+    let start = way_of g.W.Takes.contents c.args.out.now c.args.piece.now.items in
+    let after_length = way_of g.W.Takes.contents c.put_named.new.out c.put_named.new.piece.items in
+    let after_line = way_of g.W.Takes.contents c.put.new.out c.put.new.piece.items in
+    let after_bound = way_of g.W.Takes.contents c.put_bound.new.out c.put_bound.new.piece.items in
+    let last = way_of g.W.Takes.contents c.put-2.new.out c.put-2.new.piece.items in
     let fits : FitsSigned w64 c.args.length = search rules in
     let named = simp to_z-of_z at c.put_named.ensures in
     let bound = simp to_z-of_z at c.put_bound.ensures in

@@ -6,9 +6,9 @@ use Rattle.tsp_report.proofs.report.put_bound.Goals as goal
 -- plan: by whether there is a bound: its line, then the word for optimal or the gap (`carried_then`)
 pub returns-in-Some : goal.returns-in-Some
 returns-in-Some g c =
-    let start = way_of g.W.Write.contents c.args.out.now c.args.piece.now.items in
-    let after_bound = way_of g.W.Write.contents c.put_named.new.out c.put_named.new.piece.items in
-    let last = way_of g.W.Write.contents c.put_gap.new.out c.put_gap.new.piece.items in
+    let start = way_of g.W.Takes.contents c.args.out.now c.args.piece.now.items in
+    let after_bound = way_of g.W.Takes.contents c.put_named.new.out c.put_named.new.piece.items in
+    let last = way_of g.W.Takes.contents c.put_gap.new.out c.put_gap.new.piece.items in
     let bound = c.in-Some.bound in
     let fits : FitsSigned w64 c.args.length = search rules in
     let bound_fits : FitsSigned w128 c.in-Some.bound = search rules in
@@ -19,4 +19,4 @@ returns-in-Some g c =
     rw c.in-Some.is (carried_then start after_bound last (codes "bound " ++ signed_decimal bound) (gap_lines (c.args.length -ℤ bound)) named rest)
 
 pub returns-in_default : goal.returns-in_default
-returns-in_default g c = rw c.in_default.is (carried_none (way_of g.W.Write.contents c.args.out.now c.args.piece.now.items))
+returns-in_default g c = rw c.in_default.is (carried_none (way_of g.W.Takes.contents c.args.out.now c.args.piece.now.items))

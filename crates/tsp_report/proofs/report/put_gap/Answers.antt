@@ -6,9 +6,9 @@ use Rattle.tsp_report.proofs.report.put_gap.Goals as goal
 -- plan: by the gap: 0 is the word for optimal, another its line (`carried_then`)
 pub returns : goal.returns
 returns g c =
-    let start = way_of g.W.Write.contents c.args.out.now c.args.piece.now.items in
-    let after_number = way_of g.W.Write.contents c.put_named.new.out c.put_named.new.piece.items in
-    let last = way_of g.W.Write.contents c.put-2.new.out c.put-2.new.piece.items in
+    let start = way_of g.W.Takes.contents c.args.out.now c.args.piece.now.items in
+    let after_number = way_of g.W.Takes.contents c.put_named.new.out c.put_named.new.piece.items in
+    let last = way_of g.W.Takes.contents c.put-2.new.out c.put-2.new.piece.items in
     let fits : FitsSigned w128 c.args.gap = search rules in
     let named = simp to_z-of_z at c.put_named.ensures in
     let some : int_eq c.args.gap (pos 0) ≡ false = grind (arith, ints) in

@@ -13,11 +13,11 @@ returns-in-Tour g c =
 
 pub returns-in-Routes : goal.returns-in-Routes
 returns-in-Routes g c =
-    let start = way_of g.W.Write.contents c.args.out.now c.args.piece.now.items in
-    let after_routes = way_of g.W.Write.contents c.put_named.new.out c.put_named.new.piece.items in
-    let after_least = way_of g.W.Write.contents c.put_named-in-Routes.new.out c.put_named-in-Routes.new.piece.items in
-    let after_line = way_of g.W.Write.contents c.put.new.out c.put.new.piece.items in
-    let last = way_of g.W.Write.contents c.put_accepted-in-Routes.new.out c.put_accepted-in-Routes.new.piece.items in
+    let start = way_of g.W.Takes.contents c.args.out.now c.args.piece.now.items in
+    let after_routes = way_of g.W.Takes.contents c.put_named.new.out c.put_named.new.piece.items in
+    let after_least = way_of g.W.Takes.contents c.put_named-in-Routes.new.out c.put_named-in-Routes.new.piece.items in
+    let after_line = way_of g.W.Takes.contents c.put.new.out c.put.new.piece.items in
+    let last = way_of g.W.Takes.contents c.put_accepted-in-Routes.new.out c.put_accepted-in-Routes.new.piece.items in
     let fits : FitsSigned w64 c.in-Routes.length = search rules in
     let accepted = simp to_z-of_z at c.put_accepted-in-Routes.ensures in
     let routes = codes "routes " ++ decimal c.in-Routes.routes in

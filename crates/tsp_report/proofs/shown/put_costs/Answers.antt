@@ -8,10 +8,10 @@ use Rattle.tsp_report.proofs.shown.put_costs.Goals as goal
 pub returns : goal.returns
 returns g c =
     let f = c.args.instance.now in
-    let start = way_of g.W.Write.contents c.args.out.now c.args.piece.now.items in
-    let after_weights = way_of g.W.Write.contents c.put_weights.new.out c.put_weights.new.piece.items in
-    let after_canonical = way_of g.W.Write.contents c.put_canonical.new.out c.put_canonical.new.piece.items in
-    let last = way_of g.W.Write.contents c.put_fixed.new.out c.put_fixed.new.piece.items in
+    let start = way_of g.W.Takes.contents c.args.out.now c.args.piece.now.items in
+    let after_weights = way_of g.W.Takes.contents c.put_weights.new.out c.put_weights.new.piece.items in
+    let after_canonical = way_of g.W.Takes.contents c.put_canonical.new.out c.put_canonical.new.piece.items in
+    let last = way_of g.W.Takes.contents c.put_fixed.new.out c.put_fixed.new.piece.items in
     let weights = subst (λ (file : Fields). Carried start after_weights (weights_line file.weight_kind file.weight_format)) c.file-file.ensures.value
     (rw (c.weight_kind.ensures, c.weight_format.ensures) at c.put_weights.ensures) in
     let fits : FitsSigned w64 c.canonical_length.result = search rules in

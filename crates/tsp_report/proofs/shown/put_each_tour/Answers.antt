@@ -9,10 +9,10 @@ pub tours-preserved : goal.tours-preserved
 tours-preserved g c =
     let line = rw c.deref.ensures.value at c.put_tour.ensures in
     next_mapped tour_line (λ tour. tour.items) c.args.tours.now c.tours.index c.index-tours-index.result
-    (way_of g.W.Write.contents c.args.out.now c.args.piece.now.items) (way_of g.W.Write.contents c.tours.out c.tours.piece.items)
-    (way_of g.W.Write.contents c.put_tour.new.out c.put_tour.new.piece.items) (omega arith) (search rules) c.tours.invariant line
+    (way_of g.W.Takes.contents c.args.out.now c.args.piece.now.items) (way_of g.W.Takes.contents c.tours.out c.tours.piece.items)
+    (way_of g.W.Takes.contents c.put_tour.new.out c.put_tour.new.piece.items) (omega arith) (search rules) c.tours.invariant line
 
 pub returns : goal.returns
 returns g c = carried_nodes tour_line (map (λ tour. tour.items) c.args.tours.now) c.tours.index
-    (way_of g.W.Write.contents c.args.out.now c.args.piece.now.items) (way_of g.W.Write.contents c.tours.out c.tours.piece.items)
+    (way_of g.W.Takes.contents c.args.out.now c.args.piece.now.items) (way_of g.W.Takes.contents c.tours.out c.tours.piece.items)
     (omega (arith, length-map c.args.tours.now (λ tour. tour.items))) c.tours.invariant

@@ -6,5 +6,5 @@ use Rattle.tsp_report.proofs.shown.put_each_tour.Given as goal
 -- the bytes added so far are the lines of the tours before this one, counted from 1 on
 abbrev pub invariant-tours : goal.invariant-tours
 invariant-tours g l =
-    Carried (way_of g.W.Write.contents l.initial.out l.initial.piece.items) (way_of g.W.Write.contents l.out l.piece.items)
+    Carried (way_of g.W.Takes.contents l.initial.out l.initial.piece.items) (way_of g.W.Takes.contents l.out l.piece.items)
     (flat_map tour_line (take l.index (enumerate_from 1 (map (λ tour. tour.items) l.tours))))

@@ -6,10 +6,10 @@ use Rattle.tsp_report.proofs.shown.put_tours.Goals as goal
 -- plan: how many tours there are, then a line for each (`carried_then`)
 pub returns : goal.returns
 returns g c =
-    let start = way_of g.W.Write.contents c.args.out.now c.args.piece.now.items in
-    let after_count = way_of g.W.Write.contents c.put_named.new.out c.put_named.new.piece.items in
-    let after_line = way_of g.W.Write.contents c.put.new.out c.put.new.piece.items in
-    let last = way_of g.W.Write.contents c.put_each_tour.new.out c.put_each_tour.new.piece.items in
+    let start = way_of g.W.Takes.contents c.args.out.now c.args.piece.now.items in
+    let after_count = way_of g.W.Takes.contents c.put_named.new.out c.put_named.new.piece.items in
+    let after_line = way_of g.W.Takes.contents c.put.new.out c.put.new.piece.items in
+    let last = way_of g.W.Takes.contents c.put_each_tour.new.out c.put_each_tour.new.piece.items in
     let tours = map (λ tour. tour.items) c.args.tours.now in
     let named = subst (λ (n : ℕ). Carried start after_count (codes "tours " ++ decimal n)) (sym (length-map c.args.tours.now (λ tour. tour.items))) c.put_named.ensures in
     let text = codes "tours " ++ decimal (length tours) in

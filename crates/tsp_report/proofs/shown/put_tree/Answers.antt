@@ -9,11 +9,11 @@ use Rattle.tsp_report.proofs.shown.put_tree.Goals as goal
 pub returns : goal.returns
 returns g c =
     let f = c.args.file.now in
-    let start = way_of g.W.Write.contents c.args.out.now c.args.piece.now.items in
-    let after_scale = way_of g.W.Write.contents c.put_scale.new.out c.put_scale.new.piece.items in
-    let after_unit = way_of g.W.Write.contents c.put_load_unit.new.out c.put_load_unit.new.piece.items in
-    let after_parts = way_of g.W.Write.contents c.put_parts.new.out c.put_parts.new.piece.items in
-    let last = way_of g.W.Write.contents c.put_leaves.new.out c.put_leaves.new.piece.items in
+    let start = way_of g.W.Takes.contents c.args.out.now c.args.piece.now.items in
+    let after_scale = way_of g.W.Takes.contents c.put_scale.new.out c.put_scale.new.piece.items in
+    let after_unit = way_of g.W.Takes.contents c.put_load_unit.new.out c.put_load_unit.new.piece.items in
+    let after_parts = way_of g.W.Takes.contents c.put_parts.new.out c.put_parts.new.piece.items in
+    let last = way_of g.W.Takes.contents c.put_leaves.new.out c.put_leaves.new.piece.items in
     let scale = subst (λ (scale : Option ℤ). Carried start after_scale (scale_line scale)) c.scale.ensures c.put_scale.ensures in
     let unit = subst (λ (unit : Option ℤ). Carried after_scale after_unit (load_unit_line unit)) c.load_unit.ensures c.put_load_unit.ensures in
     let steps : steps_of c.unwrap_or.result.now ≡ unwrap_or c.args.file.now.branches [] = search rules in

@@ -8,10 +8,10 @@ use Rattle.tsp_report.proofs.shown.write_shown.Goals as goal
 -- plan: by whether the writer fails: the whole text was written (`text_written`), or a prefix (`text_stopped`)
 pub returns-then-failed-2 : goal.returns-then-failed-2
 returns-then-failed-2 g c =
-    let start = way_of g.W.Write.contents c.args.out.now c.new-piece.result.items in
-    let after_head = way_of g.W.Write.contents c.put_head.new.out c.put_head.new.piece.items in
-    let after_rest = way_of g.W.Write.contents c.put_rest.new.out c.put_rest.new.piece.items in
-    let last = way_of g.W.Write.contents c.hand_over.new.out c.hand_over.new.piece.items in
+    let start = way_of g.W.Takes.contents c.args.out.now c.new-piece.result.items in
+    let after_head = way_of g.W.Takes.contents c.put_head.new.out c.put_head.new.piece.items in
+    let after_rest = way_of g.W.Takes.contents c.put_rest.new.out c.put_rest.new.piece.items in
+    let last = way_of g.W.Takes.contents c.hand_over.new.out c.hand_over.new.piece.items in
     let lines = lines_by_type c.args.file.kind c.args.file in
     let others = not_judged c.args.file.others in
     let whole = subst (Carried start last) (sym (append_assoc (head_lines c.args.file) lines others))
@@ -21,10 +21,10 @@ returns-then-failed-2 g c =
 
 pub returns-else-failed-2 : goal.returns-else-failed-2
 returns-else-failed-2 g c =
-    let start = way_of g.W.Write.contents c.args.out.now c.new-piece.result.items in
-    let after_head = way_of g.W.Write.contents c.put_head.new.out c.put_head.new.piece.items in
-    let after_rest = way_of g.W.Write.contents c.put_rest.new.out c.put_rest.new.piece.items in
-    let last = way_of g.W.Write.contents c.hand_over.new.out c.hand_over.new.piece.items in
+    let start = way_of g.W.Takes.contents c.args.out.now c.new-piece.result.items in
+    let after_head = way_of g.W.Takes.contents c.put_head.new.out c.put_head.new.piece.items in
+    let after_rest = way_of g.W.Takes.contents c.put_rest.new.out c.put_rest.new.piece.items in
+    let last = way_of g.W.Takes.contents c.hand_over.new.out c.hand_over.new.piece.items in
     let lines = lines_by_type c.args.file.kind c.args.file in
     let others = not_judged c.args.file.others in
     let whole = subst (Carried start last) (sym (append_assoc (head_lines c.args.file) lines others))

@@ -5,5 +5,5 @@ use Rattle.tsp_file.proofs.writer.matrix.put_each.Given as goal
 -- the bytes added so far are the weights before this one, each after a blank
 abbrev pub invariant-weights : goal.invariant-weights
 invariant-weights g l =
-    Carried (way_of g.W.Write.contents l.initial.out l.initial.piece.items) (way_of g.W.Write.contents l.out l.piece.items)
+    Carried (way_of g.W.Takes.contents l.initial.out l.initial.piece.items) (way_of g.W.Takes.contents l.out l.piece.items)
     (flat_map (λ weight. 32 ∷ signed_decimal weight) (take l.weight-index l.weights))

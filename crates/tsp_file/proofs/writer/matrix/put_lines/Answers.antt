@@ -9,7 +9,7 @@ use Rattle.tsp_file.proofs.writer.matrix.put_lines.Goals as goal
 pub lines-init : goal.lines-init
 lines-init g c =
     comes_begins (λ k. length (cells_of_line c.args.layout c.args.nodes k)) c.args.nodes c.args.weights.now
-    (way_of g.W.Write.contents c.args.out.now c.args.piece.now.items)
+    (way_of g.W.Takes.contents c.args.out.now c.args.piece.now.items)
 
 pub lines-preserved : goal.lines-preserved
 lines-preserved g c =
@@ -18,8 +18,8 @@ lines-preserved g c =
     c.min.result
     c.lines.rest.now c.split_at.result.0.now c.split_at.result.1.now
     (matrix_lines (map (λ k. length (cells_of_line c.args.layout c.args.nodes k)) (nodes_to c.args.nodes)) c.args.weights.now)
-    (way_of g.W.Write.contents c.args.out.now c.args.piece.now.items) (way_of g.W.Write.contents c.lines.out c.lines.piece.items)
-    (way_of g.W.Write.contents c.put_weight_line.new.out c.put_weight_line.new.piece.items)
+    (way_of g.W.Takes.contents c.args.out.now c.args.piece.now.items) (way_of g.W.Takes.contents c.lines.out c.lines.piece.items)
+    (way_of g.W.Takes.contents c.put_weight_line.new.out c.put_weight_line.new.piece.items)
     (omega arith) c.line_len-len.ensures.count fewer c.split_at.ensures.front c.split_at.ensures.back c.lines.invariant
     c.put_weight_line.ensures
 
@@ -29,5 +29,5 @@ returns-then-failed g c = comes_failed _ _ _ _ c.lines.invariant (sym c.failed.e
 pub returns : goal.returns
 returns g c =
     comes_last (λ k. length (cells_of_line c.args.layout c.args.nodes k)) c.args.nodes c.lines.index c.lines.rest.now _ _ _
-    (way_of g.W.Write.contents c.put_weight_line-2.new.out c.put_weight_line-2.new.piece.items) (omega arith) c.lines.invariant
+    (way_of g.W.Takes.contents c.put_weight_line-2.new.out c.put_weight_line-2.new.piece.items) (omega arith) c.lines.invariant
     c.put_weight_line-2.ensures

@@ -6,7 +6,7 @@ use Rattle.tsp_file.proofs.writer.matrix.put_more_weights.Given as goal
 -- the bytes added so far, and the weights in `rest` after a blank each, are the text of all weights
 abbrev pub invariant-parts : goal.invariant-parts
 invariant-parts g l =
-    Comes (way_of g.W.Write.contents l.initial.out l.initial.piece.items) (way_of g.W.Write.contents l.out l.piece.items)
+    Comes (way_of g.W.Takes.contents l.initial.out l.initial.piece.items) (way_of g.W.Takes.contents l.out l.piece.items)
     (flat_map (λ weight. 32 ∷ signed_decimal weight) l.rest)
     (flat_map (λ weight. 32 ∷ signed_decimal weight) l.weights)
 

@@ -9,10 +9,10 @@ pub returns-in-Some : goal.returns-in-Some
 returns-in-Some g c =
     let fits : FitsSigned w64 c.in-Some.first.now = search rules in
     let first = simp to_z-of_z at c.put_number.ensures in
-    let start = way_of g.W.Write.contents c.args.out.now c.args.piece.now.items in
-    let after_first = way_of g.W.Write.contents c.put_number.new.out c.put_number.new.piece.items in
-    let after_rest = way_of g.W.Write.contents c.put_more_weights.new.out c.put_more_weights.new.piece.items in
-    let last = way_of g.W.Write.contents c.put.new.out c.put.new.piece.items in
+    let start = way_of g.W.Takes.contents c.args.out.now c.args.piece.now.items in
+    let after_first = way_of g.W.Takes.contents c.put_number.new.out c.put_number.new.piece.items in
+    let after_rest = way_of g.W.Takes.contents c.put_more_weights.new.out c.put_more_weights.new.piece.items in
+    let last = way_of g.W.Takes.contents c.put.new.out c.put.new.piece.items in
     some_weights start after_first after_rest last c.args.weights.now c.in-Some.first.now c.in-Some.rest.now
     c.in-Some.ensures.cases.0 first c.put_more_weights.ensures c.put.ensures
 

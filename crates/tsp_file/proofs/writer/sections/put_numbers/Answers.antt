@@ -10,13 +10,13 @@ nodes-preserved g c =
     let line = simp to_z-of_z at c.put_number_line.ensures in
     carried_node_or (λ (entry : ℕ × ℤ). number_line (decimal entry.0) (whole_number entry.1)) c.args.numbers.now c.nodes.index
     (pos 0)
-    (way_of g.W.Write.contents c.args.out.now c.args.piece.now.items) (way_of g.W.Write.contents c.nodes.out c.nodes.piece.items)
-    (way_of g.W.Write.contents c.put_number_line.new.out c.put_number_line.new.piece.items)
+    (way_of g.W.Takes.contents c.args.out.now c.args.piece.now.items) (way_of g.W.Takes.contents c.nodes.out c.nodes.piece.items)
+    (way_of g.W.Takes.contents c.put_number_line.new.out c.put_number_line.new.piece.items)
     (omega arith) c.nodes.invariant line
 
 pub returns : goal.returns
 returns g c =
     carried_nodes (λ (entry : ℕ × ℤ). number_line (decimal entry.0) (whole_number entry.1)) c.args.numbers.now c.nodes.index
-    (way_of g.W.Write.contents c.args.out.now c.args.piece.now.items) (way_of g.W.Write.contents c.nodes.out c.nodes.piece.items)
+    (way_of g.W.Takes.contents c.args.out.now c.args.piece.now.items) (way_of g.W.Takes.contents c.nodes.out c.nodes.piece.items)
     (omega arith)
     c.nodes.invariant

@@ -6,5 +6,5 @@ use Rattle.tsp_file.proofs.writer.sections.put_numbers.Given as goal
 -- the bytes added so far are the lines of the numbers before this one, counted from 1 on
 abbrev pub invariant-nodes : goal.invariant-nodes
 invariant-nodes g l =
-    Carried (way_of g.W.Write.contents l.initial.out l.initial.piece.items) (way_of g.W.Write.contents l.out l.piece.items)
+    Carried (way_of g.W.Takes.contents l.initial.out l.initial.piece.items) (way_of g.W.Takes.contents l.out l.piece.items)
     (flat_map (λ entry. number_line (decimal entry.0) (whole_number entry.1)) (take l.index (enumerate_from 1 l.numbers)))

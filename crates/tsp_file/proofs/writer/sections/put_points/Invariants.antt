@@ -6,6 +6,6 @@ use Rattle.tsp_file.proofs.writer.sections.put_points.Given as goal
 -- the bytes added so far are the lines of the points before this one, numbered from 1 on
 abbrev pub invariant-nodes : goal.invariant-nodes
 invariant-nodes g l =
-    Carried (way_of g.W.Write.contents l.initial.out l.initial.piece.items) (way_of g.W.Write.contents l.out l.piece.items)
+    Carried (way_of g.W.Takes.contents l.initial.out l.initial.piece.items) (way_of g.W.Takes.contents l.out l.piece.items)
     (flat_map (λ entry. number_line (decimal entry.0) (coordinate_words l.spatial entry.1))
     (take l.index (enumerate_from 1 (map g.P.InSpace.place l.points))))

@@ -5,10 +5,6 @@ use Rattle.tsp_io.proofs.watched.Watched.ask.Goals as goal
 -- plan: the outer call is one call of the inner value, whose outcome is returned as it is
 pub returns : goal.returns
 returns g c = record {
-  asked = (
-    c.call-outcome.result.1,
-    record { first = _; second = _; shows = (refl, refl); first_left = _; second_left = _; met = c.call-outcome.ensures; leaves = (refl, refl) },
-    search rules,
-  );
-  error = refl;
+  asked = record { first = _; second = _; shows = (refl, refl); first_left = _; second_left = _; met = c.call-outcome.ensures; leaves = (refl, refl) };
+  failed = search rules;
 }
