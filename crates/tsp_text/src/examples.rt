@@ -3,7 +3,7 @@
 //! belongs in here too.
 
 ghost use Rattle.tsp_text.specs.Prelude.{codes, decimal, ℕ, List, length, IsTrue, true, false, IsShort, most_coordinate, most_word_bytes};
-ghost use Rattle.std.specs.Prelude.{◌≡◌, ◌≤◌, ◌++◌};
+ghost use Rattle.std.specs.Prelude.{◌≡◌, ◌≤◌, ◌++◌, Some};
 ghost use Rattle.tsp_number.specs.Decimal.{most_count};
 ghost use Rattle.tsp_number.specs.declared.word.NumberFault.TheVariants as numbers;
 ghost use Rattle.tsp_format.specs.declared.keyword.Field.TheVariants as fields;
@@ -12,7 +12,7 @@ ghost use Rattle.tsp_text.specs.declared.fault.LineFault.TheVariants as faults;
 ghost use Rattle.tsp_text.specs.declared.fault.ReadFault.TheVariants as reads;
 ghost use Rattle.tsp_text.specs.ParsesTo.{line_fault_text, read_fault_text};
 ghost use Rattle.tsp_text.specs.Examples.{FaultAt, IsNumberFault, MissingAtEnd, EndsWithFault, OthersAre, ToursAre, PairsAre, TriplesAre, FamilyIs, MemoryIs, RowsAre, TreeIs, DemandsAre, HasSpacePoint, HasPlanePoint, quad, longest_line, long_line, long_word, filled_line, IsLimit, IsLimitOfLines};
-ghost use Rattle.tsp_text.specs.FaultRows.{is_surplus_at};
+ghost use Rattle.tsp_text.specs.FaultRows.{is_surplus_at, word_fault};
 ghost use Rattle.tsp_text.specs.SectionWords.{DepotAfter, FirstAfter, TourNode, SetNode, StepAfter, IndexAfter};
 
 /// The first faults of some texts of word lines. In the texts, `/` separates lines.
@@ -38,12 +38,18 @@ pub fn faults_of_word_lines()
     ensures refused_keyword { FaultAt (codes "EDGE_DATA_FORMAT :") 1 0 faults.Outside }
     ensures two_names_of_one_section { FaultAt
         (codes "DIMENSION : 2/FIXED_EDGES/1 2/FIXED_EDGES_SECTION") 4 0 faults.Repeated }
+    ensures twice_and_valued { FaultAt
+        (codes "DIMENSION : 2/FIXED_EDGES/1 2/FIXED_EDGES x") 4 0 faults.Repeated }
+    ensures refused_and_valued { FaultAt (codes "EDGE_DATA_SECTION x") 1 0 faults.Outside }
     ensures long { FaultAt long_line 1 0 faults.LongLine }
     ensures late { FaultAt
         (codes "TYPE : TSP/DIMENSION : 1/NODE_COORD_SECTION/1 0 0/EDGE_WEIGHT_TYPE : EUC_3D")
         5 0 faults.LateSpace }
     ensures late_after_none { FaultAt (codes
         "DIMENSION : 1/NODE_COORD_SECTION/NODE_COORD_TYPE : THREED_COORDS") 3 0 faults.LateSpace }
+    ensures twice_and_late { FaultAt (codes
+        "EDGE_WEIGHT_TYPE : ATT/DIMENSION : 1/NODE_COORD_SECTION/1 0 0/EDGE_WEIGHT_TYPE : EUC_3D")
+        5 0 faults.Repeated }
     ensures outside_still { FaultAt (codes "EDGE_WEIGHT_TYPE : GEO") 1 0 faults.Outside }
     ensures no_word { FaultAt (codes "EDGE_WEIGHT_TYPE : CEIL_3D") 1 0 faults.BadValue }
 {}
@@ -239,6 +245,10 @@ pub fn limits_of_sections()
     ensures nodes_of_memories { IsLimit (SetNode false 0 1000000) (SetNode false 0 999999) (codes "1") }
     ensures branches { IsLimit (StepAfter 1000000) (StepAfter 999999) (codes "1") }
     ensures indices { IsLimit (IndexAfter 10000000) (IndexAfter 9999999) (codes "1") }
+    ensures bad_number_past_the_depots { word_fault 3 (DepotAfter 100000) (codes "4")
+        ≡ Some (faults.Number numbers.OutOfRange) }
+    ensures bad_number_past_the_indices { word_fault 3 (IndexAfter 10000000) (codes "0")
+        ≡ Some (faults.Number numbers.OutOfRange) }
     ensures end_of_depots { is_surplus_at 3 (DepotAfter 100000) (codes "-1") ≡ false }
     ensures end_of_pairs { is_surplus_at 3 (FirstAfter 100000) (codes "-1") ≡ false }
     ensures end_of_tours { is_surplus_at 3 (TourNode 1000000) (codes "-1") ≡ false }
