@@ -2,10 +2,11 @@
 //! their reports, lines of comparisons, exit statuses, and which file a fault is of.
 
 ghost use Rattle.tsp_judge.specs.Prelude.{ℕ, List, [], true, false, None, Some, Ok, Err, pos, codes, Bool, Option, ℤ, decimal, Result, Sink, HasStopped, HasWritten, IsUnwritten, ReadTrace, IsUnread, TakesAtMost, Fields, IsReadOn, StopsAt, most_taken, kind_of, is_bounded, IsKnownBound, head_of, is_bound_yes, is_clear, is_yes, CertificateKind, read_trace_of};
-ghost use Rattle.std.specs.Prelude.{◌≡◌, ◌∷◌, ◌++◌};
+ghost use Rattle.std.specs.Prelude.{◌≡◌, ◌∷◌, ◌++◌, ◌+◌};
 ghost use Rattle.tsp_format.specs.declared.kinds.Kind.TheVariants as kinds;
 ghost use Rattle.tsp_format.specs.declared.layout.Layout.{Layout};
 ghost use Rattle.tsp_io.specs.declared.piece.WriteFault.TheVariants as write_faults;
+ghost use Rattle.tsp_io.specs.Writing.{LeftByFailedWrite};
 ghost use Rattle.tsp_file.specs.declared.relayout.RelayoutFault.{RelayoutFault};
 ghost use Rattle.tsp_file.specs.declared.relayout.RelayoutFault.TheVariants as relayout_faults;
 ghost use Rattle.tsp_read.specs.declared.ReadFault.{ReadFault};
@@ -313,4 +314,15 @@ pub fn examples_of_asked_readers<R: Gives>()
     ensures compared { (by : CertificateKind) (old new : Comparison (Watched R)) (c z : Watched R)
         → old.certificate ≡ Some (by, c) → new.certificate ≡ Some (by, z) → AreComparedOn R.gives old new
         → IsReadOn R.gives c z }
+{}
+
+/// Which writers were left so by a failed write: one that took nothing of a byte, and none whose
+/// writes all take a byte. The write is the one that led to this writer, not one that led to another.
+pub fn examples_of_failed_outputs()
+    ensures nothing_taken { (left : ℕ) → LeftByFailedWrite (λ before text answer after.
+        (before ≡ 7) × (text ≡ 1 ∷ []) × (answer ≡ Ok 0) × (after ≡ left)) left }
+    ensures byte_taken { (left : ℕ) → ¬ LeftByFailedWrite (λ before text answer after. answer ≡ Ok 1) left }
+    ensures another_writer { (left : ℕ) → ¬ LeftByFailedWrite (λ before text answer after. after ≡ left + 1) left }
+    ensures empty_text { (left : ℕ) → ¬ LeftByFailedWrite (λ before text answer after.
+        (text ≡ []) × (answer ≡ Ok 0)) left }
 {}

@@ -4,6 +4,9 @@
 //! what the line `yes` means. [`perform`] does a task by the call of its verb. It opens no files,
 //! and knows no command line: that is tsp_cli's.
 //!
+//! Each run says at its clause `cause` why its writer failed, if it did: the last write returned an
+//! error, or took nothing of a text. No run flushes its writer, since a `W: Takes` can only write.
+//!
 //! As example_check does it, with two texts in memory:
 //!
 //! ```text
@@ -33,12 +36,13 @@ pub use compared::{Compared, ComparisonContext, Follow, Found, Solutions, run_co
 pub use convert_run::{convert_file, show_file};
 pub use examples::{
     examples_of_answers, examples_of_asked_readers, examples_of_certificates,
-    examples_of_done_tasks, examples_of_fault_texts, examples_of_faulty_files,
-    examples_of_faulty_files_of_bounds, examples_of_faulty_files_of_comparisons,
-    examples_of_known_bounds, examples_of_largest_statuses, examples_of_lines_of_solutions,
-    examples_of_numbers_of_statuses, examples_of_opened_solutions, examples_of_outcomes,
-    examples_of_readers, examples_of_runs_over_one_file, examples_of_strict_comparisons,
-    examples_of_written_reports, examples_of_wrong_kinds,
+    examples_of_done_tasks, examples_of_failed_outputs, examples_of_fault_texts,
+    examples_of_faulty_files, examples_of_faulty_files_of_bounds,
+    examples_of_faulty_files_of_comparisons, examples_of_known_bounds,
+    examples_of_largest_statuses, examples_of_lines_of_solutions, examples_of_numbers_of_statuses,
+    examples_of_opened_solutions, examples_of_outcomes, examples_of_readers,
+    examples_of_runs_over_one_file, examples_of_strict_comparisons, examples_of_written_reports,
+    examples_of_wrong_kinds,
 };
 pub use explanation::{
     Solution, explain_fault, explain_known_bound, explain_outcome, explain_solution,
