@@ -42,11 +42,11 @@ def table_of_walks(all_walks: Iterable[Walk]) -> list[str]:
 
 
 def list_of_crates(crates: dict[str, Crate]) -> list[str]:
-    """Each crate with the first sentence of its lib.rt."""
+    """Each crate with the first sentence of its lib.rt, up to a colon."""
     rows = []
     for name, crate in reversed(crates.items()):
         head = next((file.head for file in crate.code if file.place in ("lib", "main")), "")
-        sentence = re.split(r"(?<=[^.\s])\.(?:\s|$)", head, maxsplit=1)[0]
+        sentence = re.split(r"(?<=[^.\s])\.(?:\s|$)|:\s", head, maxsplit=1)[0]
         rows.append(f"- {name}: {sentence}")
     return rows
 
