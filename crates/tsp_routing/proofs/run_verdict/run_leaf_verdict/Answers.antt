@@ -1,6 +1,6 @@
 -- The goals of `run_leaf_verdict` in src/run_verdict.rt, which judges the leaves twice: what its calls require, and what it
 -- ensures.
-use Rattle.tsp_routing.proofs.Prelude.{◌≡◌, ◌∙◌, ◌+◌, ◌*◌, ◌<◌, ◌≤◌, ℕ, ℤ, List, [], length, Option, ap, sym, subst, All, are_whole, IsStepOf, Decision, LeafNumbers, listed_steps, leaves_of, ◌∷◌, lent_in}
+use Rattle.tsp_routing.proofs.Prelude.{◌≡◌, ◌∙◌, ◌+◌, ◌*◌, ◌<◌, ◌≤◌, ℕ, ℤ, List, [], length, Option, ap, sym, subst, All, are_whole, IsStepOf, Decision, LeafNumbers, lent_in}
 use Rattle.std.proofs.Math.Logic.{∥∥₁_elim}
 use Rattle.std.proofs.Props.{props}
 use Rattle.std.proofs.lemmas.Result.{IfOk-weaker}
@@ -48,7 +48,7 @@ returns-then-entries-gt-MOST_ENTRIES-clause-verdict g c =
     let rows : ℕ = length tree.rows.now in
     let cost = g.C.Costs.at s.costs.now in
     let good : AreGoodRunLeaves n families rows steps = subst (AreGoodLeavesBy (AreRunNumbers n families rows) n (families + rows)) placed
-    (all_good _ (AreRunNumbers n families rows) n (families + rows) [] (steps_of c.deref.result.now) c.in_ok-numbers.numbers
+    (all_good (λ (leaf : List Decision × LeafNumbers) (own : Option ℤ). Unit {0}) (AreRunNumbers n families rows) n (families + rows) [] (steps_of c.deref.result.now) c.in_ok-numbers.numbers
     c.in_ok-numbers.ensures c.in_default.not-BadLeaf) in
     let entries = c.entries.ensures ∙ ap (λ (room : ℕ). n * (room + 1)) (s.loads.room_is cost) in
     (good, subst (λ (k : ℕ). most_entries < k) entries c.if-entries-gt-MOST_ENTRIES.true)
@@ -86,7 +86,7 @@ returns-clause-verdict g c =
     let rows : ℕ = length tree.rows.now in
     let cost = g.C.Costs.at s.costs.now in
     let good : AreGoodRunLeaves n families rows steps = subst (AreGoodLeavesBy (AreRunNumbers n families rows) n (families + rows)) placed
-    (all_good _ (AreRunNumbers n families rows) n (families + rows) [] (steps_of c.deref.result.now) c.in_ok-numbers.numbers
+    (all_good (λ (leaf : List Decision × LeafNumbers) (own : Option ℤ). Unit {0}) (AreRunNumbers n families rows) n (families + rows) [] (steps_of c.deref.result.now) c.in_ok-numbers.numbers
     c.in_ok-numbers.ensures c.in_default.not-BadLeaf) in
     let entries = c.entries.ensures ∙ ap (λ (room : ℕ). n * (room + 1)) (s.loads.room_is cost) in
     let few = subst (λ (k : ℕ). k ≤ most_entries) entries c.if-entries-gt-MOST_ENTRIES.false in

@@ -1,14 +1,11 @@
 -- The goals of `leaf_verdict` in src/verdict.rt, which judges the leaves: what it ensures.
-use Rattle.tsp_routing.proofs.Prelude.{◌≡◌, ◌∙◌, ◌+◌, ◌*◌, ◌<◌, ◌≤◌, ℕ, ℤ, Option, [], ◌∷◌, length, true, refl, ap, subst, nat_le, le-leb, leaves_of, families_with, listed_steps, lent_in}
+use Rattle.tsp_routing.proofs.Prelude.{◌≡◌, ◌∙◌, ◌+◌, ◌*◌, ◌<◌, ◌≤◌, ℕ, [], ◌∷◌, length, true, ap, subst, nat_le, le-leb, leaves_of, families_with, listed_steps, lent_in}
 use Rattle.tsp_format.specs.states.TreeSteps.{steps_of}
 use Rattle.tsp_cases.specs.JudgedLeaves.{AreJudgedBy}
-use Rattle.tsp_cases.specs.declared.judged.TreeVerdict.{TreeVerdict}
-use Rattle.tsp_cases.specs.declared.judged.TreeVerdict.TheVariants as verdict
-use Rattle.tsp_cases.proofs.Passes.{by_leaves}
 use Rattle.tsp_routing.specs.PlanVerdicts.{ArePlanNumbers, most_entries}
 use Rattle.tsp_routing.specs.PlanBounds.{IsFoundByQRoutes}
 use Rattle.tsp_routing.specs.states.Demands.{loads_problem}
-use Rattle.tsp_routing.specs.states.Judged.{IsFoundOfFew, IsLeafVerdict}
+use Rattle.tsp_routing.specs.states.Judged.{IsFoundOfFew}
 use Rattle.tsp_routing.proofs.PlanJudging.{least_if}
 use Rattle.tsp_routing.proofs.verdict.leaf_verdict.Goals as goal
 
@@ -44,12 +41,3 @@ returns-else-few-clause-verdict g c =
       is.2,
       subst (λ (k : ℕ). most_entries < k) (c.entries-few.ensures ∙ ap (λ (room : ℕ). n * (room + 1)) (s.loads.room_is cost)) c.if-few.false,
     )
-
-pub returns-clause-verdict : goal.returns-clause-verdict
-returns-clause-verdict g c =
-    let s = c.args.context.now in
-    let cost = g.C.Costs.at s.costs.now in
-    by_leaves _ _ (λ (judged : TreeVerdict). ((found : Option ℤ) → judged ≡ verdict.Bound found → ⊥)
-    → IsLeafVerdict (loads_problem s.demands cost) s.scale s.unit s.units.now.light (length s.crossed.now)
-    (families_with s.crossed.now (lent_in s.families.now)) (steps_of c.args.steps.now) judged)
-    c.in_ok-judged.judged c.in_ok-judged.ensures.judged (λ found is none. absurd (none found refl)) (λ leaf is none. is) c.in_default.not-Bound

@@ -1,6 +1,6 @@
 -- The goals of `judge_tour_tree` in src/certificate.rt, which bounds by a tree of cases, or returns the first reason:
 -- the facts of the cases that it makes, that places fit 32 bits, and what it ensures.
-use Rattle.tsp_verdict.proofs.Prelude.{◌≡◌, ◌∙◌, ℕ, ℤ, List, map, length, ap, sym, subst, arith, rules, FitsSigned, to_z, of_z, w64, Option, Some, unwrap_or, All, Vec, to_z-of_z, length-map, most_fixed, families_of, IsPairOf, IsScale, IsListedStep, nodes_of, memories_listed, Reason, Branches}
+use Rattle.tsp_verdict.proofs.Prelude.{◌≡◌, ◌∙◌, ℕ, List, map, ap, sym, subst, arith, rules, FitsSigned, to_z, of_z, w64, Option, Some, unwrap_or, All, Vec, to_z-of_z, length-map, most_fixed, families_of, IsPairOf, IsScale, IsListedStep, nodes_of, memories_listed, Reason, Branches}
 use Rattle.tsp_format.specs.states.TreeSteps.{step_of, steps_of, subset_rows_of}
 use Rattle.tsp_format.specs.Steps.{SubsetRow}
 use Rattle.tsp_cases.specs.Crossings.{AreFamiliesOf, lists_of}
