@@ -7,15 +7,15 @@ use Rattle.tsp_format.specs.declared.steps.TreeStep.{TreeStep}
 use Rattle.tsp_format.specs.Steps as listed
 use Rattle.tsp_format.specs.Words.{IsSymmetric}
 use Rattle.tsp_cases.specs.declared.family.Crossings.{Crossings}
-use Rattle.tsp_cases.specs.declared.judged.JudgedLeaves.{JudgedLeaves}
-use Rattle.tsp_cases.specs.declared.judged.JudgedLeaves.TheVariants as judged
+use Rattle.tsp_cases.specs.declared.judged.TreeVerdict.{TreeVerdict}
 use Rattle.tsp_cases.specs.declared.judged.JudgedLeaf.TheVariants as leaves
-use Rattle.tsp_cases.specs.ListedCases.{AreGoodNumbers, as_leaf_numbers, most_crossed, split_at, no_numbers_of, listed_steps}
+use Rattle.tsp_cases.specs.Families.{AreFamilies, families_with}
+use Rattle.tsp_cases.specs.ListedCases.{AreGoodNumbers, as_leaf_numbers, most_crossed, split_at, no_numbers_of, listed_steps, AreBranchesWithin, AreBranchesJudged}
 use Rattle.tsp_cases.specs.JudgedTrees.{AreCasesOf}
 use Rattle.tsp_cases.specs.declared.judged.CheckedTree.{CheckedTree}
 use Rattle.tsp_cases.specs.JudgedLeaves.{AreJudgedBy, IsFoundOfCase}
-use Rattle.tsp_cases.proofs.Passes.{whole_trees}
-use Rattle.tsp_branch.specs.BranchVerdicts.{AreJudgedLeaves, BoundsCycles}
+use Rattle.tsp_cases.proofs.Passes.{whole_trees, by_leaves, on_bound}
+use Rattle.tsp_branch.specs.BranchVerdicts.{AreJudgedLeaves, BoundsCycles, IsBranchVerdict}
 
 pub good_are_small : (n : ℕ) (crossed : List Crossings) (numbers : List ℤ) → All (λ own. 1 ≤ own.most) crossed
     → AreGoodNumbers n crossed (split_at n numbers) → AreSmall numbers
@@ -60,39 +60,39 @@ numbers_are n p crossed read ps ms at of_nodes of_families good =
 
 -- the least bound of all leaves, or the first bad leaf, is the judgement on a certificate whose families are good
 pub certificate_judged : (directed : Bool) (n : ℕ) (cost : ℕ → ℕ → ℤ) (scale : ℤ) (families : List Family) (crossed : List Crossings)
-    (given : List Decision) (steps : List listed.Step) (found : JudgedLeaves)
+    (given : List Decision) (steps : List listed.Step) (found : TreeVerdict)
     → AreJudgedBy (IsFoundAt directed n cost scale decided_number families) (AreGoodNumbers n crossed) n (length crossed) given steps
     found
     → All (IsFamily n) families → are_whole 1 steps ≡ true
     → AreJudgedLeaves directed n cost scale families crossed given steps found
-certificate_judged directed n cost scale families crossed given steps (judged.Bound found) is are whole = (
-  record {
-    families_are = are;
-    whole = sym (whole_trees n (no_numbers_of n (length crossed)) 1 steps) ∙ whole;
-    numbers_are = All-weaker (λ leaf. AreGoodNumbers n crossed leaf.1) (λ leaf. AreLeafNumbers n leaf.1)
-        (λ leaf good. record { each_node = good.each_node; signs = good.signs })
-        (leaves_of (given ∷ []) (listed_steps n (length crossed) steps)) is.0;
-  },
-  is.1,
-  is.2,
-)
-certificate_judged directed n cost scale families crossed given steps (judged.BadLeaf leaf) is are whole = is
+certificate_judged directed n cost scale families crossed given steps found is are whole =
+    by_leaves _ _ (AreJudgedLeaves directed n cost scale families crossed given steps) found is (λ bound is. (
+      record {
+        families_are = are;
+        whole = sym (whole_trees n (no_numbers_of n (length crossed)) 1 steps) ∙ whole;
+        numbers_are = All-weaker (λ leaf. AreGoodNumbers n crossed leaf.1) (λ leaf. AreLeafNumbers n leaf.1)
+            (λ leaf good. record { each_node = good.each_node; signs = good.signs })
+            (leaves_of (given ∷ []) (listed_steps n (length crossed) steps)) is.0;
+      },
+      is.1,
+      is.2,
+    )) (λ leaf is. is)
 
 pub cycles_of : CaseTreesBoundCycles → (directed : Bool) (n : ℕ) (cost : ℕ → ℕ → ℤ) (scale : ℤ) (families : List Family)
-    (crossed : List Crossings) (given : List Decision) (steps : List listed.Step) (found : JudgedLeaves)
+    (crossed : List Crossings) (given : List Decision) (steps : List listed.Step) (found : TreeVerdict)
     → AreCostsFor directed n cost → IsScale scale → ∥ All (IsFamily n) families ∥₁
     → (All (IsFamily n) families → AreJudgedLeaves directed n cost scale families crossed given steps found)
     → BoundsCycles directed n cost given found
-cycles_of bounds directed n cost scale families crossed given steps (judged.Bound found) costs_are scale_in are is =
-    each found (λ sure. let judged = is sure in
-    bounds directed n cost scale decided_number families given (listed_steps n (length crossed) steps) found costs_are scale_in
-    judged.0 judged.1)
+cycles_of bounds directed n cost scale families crossed given steps found costs_are scale_in are is =
+    on_bound (BoundsIfAny directed n cost given) found (λ bound same. each bound (λ sure.
+    let judged = subst (AreJudgedLeaves directed n cost scale families crossed given steps) same (is sure) in
+    bounds directed n cost scale decided_number families given (listed_steps n (length crossed) steps) bound costs_are scale_in
+    judged.0 judged.1))
   where
     each : (own : Option ℤ) → (All (IsFamily n) families → BoundsIfAny directed n cost given own)
         → BoundsIfAny directed n cost given own
     each (Some bound) if_sure = λ nodes cycle keeps. ∥∥₁_elim are (hlevel props) (λ sure. if_sure sure nodes cycle keeps)
     each None if_sure = λ nodes cycle keeps. ∥∥₁_elim are (hlevel props) (λ sure. if_sure sure nodes cycle keeps)
-cycles_of bounds directed n cost scale families crossed given steps (judged.BadLeaf leaf) costs_are scale_in are is = tt
 
 -- three nodes, and symmetric costs where pairs have no direction
 pub costs_for : (directed : Bool) (n : ℕ) (cost : ℕ → ℕ → ℤ) → 3 ≤ n → (directed ≡ false → IsSymmetric cost)
@@ -103,7 +103,7 @@ costs_for true n cost some even = omega (arith, some)
 -- ---- the same of the judgement on a tree of cases
 
 module _ (n : ℕ) (cost : ℕ → ℕ → ℤ) where
-  pub judged_of : (families : List Family) (crossed : List Crossings) (found : JudgedLeaves) (cases : CheckedTree) (directed : Bool) (scale : ℤ) (given : List Decision) (steps : List TreeStep)
+  pub judged_of : (families : List Family) (crossed : List Crossings) (found : TreeVerdict) (cases : CheckedTree) (directed : Bool) (scale : ℤ) (given : List Decision) (steps : List TreeStep)
       → AreCasesOf n directed scale given steps cases
       → AreJudgedLeaves cases.directed n cost cases.scale families crossed cases.given.now (steps_of cases.steps.now) found
       → AreJudgedLeaves directed n cost scale families crossed given (steps_of steps) found
@@ -113,9 +113,21 @@ module _ (n : ℕ) (cost : ℕ → ℕ → ℤ) where
       (subst (λ (ds : List Decision). AreJudgedLeaves cases.directed n cost cases.scale families crossed ds (steps_of steps) found) are.given_are
       (subst (λ (ss : List TreeStep). AreJudgedLeaves cases.directed n cost cases.scale families crossed cases.given.now (steps_of ss) found) are.steps_are is)))
 
-  pub cycles_of_cases : (found : JudgedLeaves) (cases : CheckedTree) (directed : Bool) (scale : ℤ) (given : List Decision) (steps : List TreeStep)
+  pub cycles_of_cases : (found : TreeVerdict) (cases : CheckedTree) (directed : Bool) (scale : ℤ) (given : List Decision) (steps : List TreeStep)
       → AreCasesOf n directed scale given steps cases
       → BoundsCycles cases.directed n cost cases.given.now found → BoundsCycles directed n cost given found
   cycles_of_cases found cases directed scale given steps are is =
       subst (λ (d : Bool). BoundsCycles d n cost given found) are.direction
       (subst (λ (ds : List Decision). BoundsCycles cases.directed n cost ds found) are.given_are is)
+
+-- where families are good, and each branch is on two nodes and none comes twice, the verdict on the leaves is that on the
+-- certificate
+pub verdict_of_leaves : (directed : Bool) (n : ℕ) (cost : ℕ → ℕ → ℤ) (scale : ℤ) (families : List (List (List ℕ)))
+    (crossed : List Crossings) (given : List Decision) (steps : List listed.Step) (found : TreeVerdict)
+    → AreFamilies n families crossed → AreBranchesWithin 1 n steps None → AreBranchesJudged directed given steps None
+    → AreJudgedLeaves directed n cost scale (families_with crossed families) crossed given steps found
+    → IsBranchVerdict directed n cost scale families given steps found
+verdict_of_leaves directed n cost scale families crossed given steps found are on_nodes once is =
+    by_leaves _ _ (IsBranchVerdict directed n cost scale families given steps) found is
+    (λ bound leaves. record { crossed = crossed; are_families = are; on_nodes = on_nodes; are_once = once; leaves = leaves })
+    (λ leaf leaves. record { crossed = crossed; are_families = are; on_nodes = on_nodes; are_once = once; leaves = leaves })

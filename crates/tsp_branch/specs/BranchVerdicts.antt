@@ -1,17 +1,16 @@
 -- The verdict on a branches file for a TSP or an ATSP: its bound, or the first reason against it, families before
 -- branches before leaves. tsp_verdict passes it on to the report.
-use Rattle.tsp_branch.specs.Prelude.{ℕ, List, ℤ, pos, length, Bool, None, Some, IfSome, total, IsLeastBound, triples_total, IsBoundSized, least_of, leaf_weight, IsLeafBound, IsCaseTree, IsCaseTreeBound, BoundsIfAny, decided_number}
+use Rattle.tsp_branch.specs.Prelude.{ℕ, List, ℤ, pos, length, Bool, None, Some, total, IsLeastBound, triples_total, least_of, leaf_weight, IsLeafBound, IsCaseTree, IsCaseTreeBound, BoundsIfAny, decided_number}
 use Rattle.std.specs.Prelude.{◌≡◌, ◌+ℤ◌, ◌-ℤ◌, ◌*ℤ◌}
 use Rattle.tsp_format.specs.Steps as listed
 use Rattle.tsp_bound.specs.Weighed.{IsLeastWeight}
 use Rattle.tsp_cases.specs.Families.{Family, families_with, AreFamilies, IsFirstBadFamily}
 use Rattle.tsp_cases.specs.ListedCases.{listed_steps, AreGoodLeaves, IsFirstBadLeaf, AreBranchesWithin, AreBranchesJudged}
 use Rattle.tsp_cases.specs.declared.family.Crossings.{Crossings}
-use Rattle.tsp_cases.specs.declared.judged.JudgedLeaves.{JudgedLeaves}
-use Rattle.tsp_cases.specs.declared.judged.JudgedLeaves.TheVariants as judged
+use Rattle.tsp_cases.specs.JudgedLeaves.{OnBound, OnLeaves}
+use Rattle.tsp_cases.specs.declared.judged.TreeVerdict.{TreeVerdict}
+use Rattle.tsp_cases.specs.declared.judged.TreeVerdict.TheVariants as verdict
 use Rattle.tsp_cases.specs.declared.decision.Decision.{Decision}
-use Rattle.tsp_branch.specs.declared.verdict.BranchVerdict.{BranchVerdict}
-use Rattle.tsp_branch.specs.declared.verdict.BranchVerdict.TheVariants as verdict
 
 -- the least whole number that, times the scale, is no less than the weight of a least 1-tree and the number given back
 pub record IsBoundOfWeights (n : ℕ) (w : ℕ → ℕ → ℤ) (scale given_back bound : ℤ) : Type 0 where
@@ -34,24 +33,22 @@ BoundsEachLeaf n w scale given_back bound = (cost : ℕ → ℕ → ℤ) (potent
 
 -- Where all leaves are good, the bound, or none where no leaf has one; else the first leaf that isn't.
 abbrev pub AreJudgedLeaves : Bool → ℕ → (ℕ → ℕ → ℤ) → ℤ → List Family → List Crossings → List Decision → List listed.Step
-    → JudgedLeaves
-    → Type 0
-AreJudgedLeaves directed n cost scale families crossed given steps (judged.Bound found) =
-    IsCaseTree n families given (listed_steps n (length crossed) steps)
+    → TreeVerdict → Type 0
+AreJudgedLeaves directed n cost scale families crossed given steps judged = OnLeaves
+    (λ found. IsCaseTree n families given (listed_steps n (length crossed) steps)
     × IsCaseTreeBound directed n cost scale decided_number families given (listed_steps n (length crossed) steps) found
-    × AreGoodLeaves n crossed steps
-AreJudgedLeaves directed n cost scale families crossed given steps (judged.BadLeaf leaf) = IsFirstBadLeaf n crossed steps leaf
+    × AreGoodLeaves n crossed steps)
+    (IsFirstBadLeaf n crossed steps) judged
 
 -- The bound is at most the length of every cycle that keeps the given decisions; if there is none, no cycle does.
-abbrev pub BoundsCycles : Bool → ℕ → (ℕ → ℕ → ℤ) → List Decision → JudgedLeaves → Type 0
-BoundsCycles directed n cost given (judged.Bound found) = BoundsIfAny directed n cost given found
-BoundsCycles directed n cost given (judged.BadLeaf leaf) = Unit {0}
+abbrev pub BoundsCycles : Bool → ℕ → (ℕ → ℕ → ℤ) → List Decision → TreeVerdict → Type 0
+BoundsCycles directed n cost given judged = OnBound (BoundsIfAny directed n cost given) judged
 
 -- ---- the verdict on a certificate by branching, for a TSP or an ATSP
 
 -- the judgement on the leaves, where all families are good, each branch begins with a node, and none comes twice
 pub record AreLeavesJudged (directed : Bool) (n : ℕ) (cost : ℕ → ℕ → ℤ) (scale : ℤ)
-    (families : List (List (List ℕ))) (given : List Decision) (steps : List listed.Step) (found : JudgedLeaves) : Type 0 where
+    (families : List (List (List ℕ))) (given : List Decision) (steps : List listed.Step) (found : TreeVerdict) : Type 0 where
   pub crossed : List Crossings
   pub are_families : AreFamilies n families crossed
   pub on_nodes : AreBranchesWithin 1 n steps None
@@ -60,30 +57,12 @@ pub record AreLeavesJudged (directed : Bool) (n : ℕ) (cost : ℕ → ℕ → �
 
 -- the first bad family; where all are good, the first branch that doesn't begin with a node; then the first one that
 -- comes twice; then the first bad leaf; and where there is none of these, the bound
-abbrev pub IsBranchVerdict : Bool → ℕ → (ℕ → ℕ → ℤ) → ℤ → List (List (List ℕ)) → List Decision → List listed.Step → BranchVerdict
+abbrev pub IsBranchVerdict : Bool → ℕ → (ℕ → ℕ → ℤ) → ℤ → List (List (List ℕ)) → List Decision → List listed.Step → TreeVerdict
     → Type 0
-IsBranchVerdict directed n cost scale families given steps (verdict.Bound found) =
-    AreLeavesJudged directed n cost scale families given steps (judged.Bound found)
 IsBranchVerdict directed n cost scale families given steps (verdict.BadFamily family) = IsFirstBadFamily n families family
 IsBranchVerdict directed n cost scale families given steps (verdict.BadBranch branch) =
     (crossed : List Crossings) × AreFamilies n families crossed × AreBranchesWithin 1 n steps (Some branch)
 IsBranchVerdict directed n cost scale families given steps (verdict.BranchTwice branch) = (crossed : List Crossings)
     × AreFamilies n families crossed × AreBranchesWithin 1 n steps None × AreBranchesJudged directed given steps (Some branch)
-IsBranchVerdict directed n cost scale families given steps (verdict.BadLeaf leaf) =
-    AreLeavesJudged directed n cost scale families given steps (judged.BadLeaf leaf)
-
--- A bound is at most the length of every cycle that keeps the given decisions; if there is none, no cycle keeps them.
-abbrev pub VerdictBoundsCycles : Bool → ℕ → (ℕ → ℕ → ℤ) → List Decision → BranchVerdict → Type 0
-VerdictBoundsCycles directed n cost given (verdict.Bound found) = BoundsIfAny directed n cost given found
-VerdictBoundsCycles directed n cost given (verdict.BadFamily family) = Unit {0}
-VerdictBoundsCycles directed n cost given (verdict.BadBranch branch) = Unit {0}
-VerdictBoundsCycles directed n cost given (verdict.BranchTwice branch) = Unit {0}
-VerdictBoundsCycles directed n cost given (verdict.BadLeaf leaf) = Unit {0}
-
--- The bound is so small that sums with it fit 128 bits.
-abbrev pub IsSizedVerdict : BranchVerdict → Type 0
-IsSizedVerdict (verdict.Bound found) = IfSome found IsBoundSized
-IsSizedVerdict (verdict.BadFamily family) = Unit {0}
-IsSizedVerdict (verdict.BadBranch branch) = Unit {0}
-IsSizedVerdict (verdict.BranchTwice branch) = Unit {0}
-IsSizedVerdict (verdict.BadLeaf leaf) = Unit {0}
+IsBranchVerdict directed n cost scale families given steps other =
+    AreLeavesJudged directed n cost scale families given steps other

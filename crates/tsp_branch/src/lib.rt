@@ -16,4 +16,4 @@ mod leaf_rows;
 mod verdict;
 
 pub use boxed::leaf_bound;
-pub use verdict::{BranchVerdict, branch_bound, judge_branches};
+pub use verdict::{branch_bound, judge_branches};

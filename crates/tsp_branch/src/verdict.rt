@@ -10,15 +10,15 @@ ghost use Rattle.tsp_format.specs.Words.{IsSymmetric};
 ghost use Rattle.tsp_cases.specs.Families.{IsFamily};
 ghost use Rattle.tsp_cases.specs.Crossings.{families_in};
 ghost use Rattle.tsp_cases.specs.ListedCases.{AreGoodNumbers};
-ghost use Rattle.tsp_cases.specs.JudgedLeaves.{AreSizedLeaves, IsFoundOfCase, IsSizedLeaf};
+ghost use Rattle.tsp_cases.specs.JudgedLeaves.{IsFoundOfCase, IsSizedLeaf, IsSizedVerdict};
 ghost use Rattle.tsp_cases.specs.states.Kept.{HoldsRows, IsScratch};
-ghost use Rattle.tsp_branch.specs.BranchVerdicts.{IsBranchVerdict, VerdictBoundsCycles, IsSizedVerdict, AreJudgedLeaves, BoundsCycles};
+ghost use Rattle.tsp_branch.specs.BranchVerdicts.{IsBranchVerdict, BoundsCycles, AreJudgedLeaves};
 
 use crate::case_leaf::CaseLeaf;
 use std::alloc::Global;
 use tsp_cases::{
     BranchingCertificate, CheckedTree, Decision, Families, JudgedCases, JudgedFamilies, JudgedLeaf,
-    JudgedLeaves, LeafContext, LeafJudge, Multipliers, OpenCase, Scratch, SetPlace, WholeTree,
+    LeafContext, LeafJudge, Multipliers, OpenCase, Scratch, SetPlace, TreeVerdict, WholeTree,
     case_trees_bound_cycles, fill_moved, judge_cases, judge_families, judge_leaves, judge_numbers,
     sets_by_node,
 };
@@ -43,44 +43,23 @@ use tsp_theory::Costs;
 pub fn judge_branches<C: Costs>(
     alloc: Global,
     tree: &BranchingCertificate<C>,
-) -> Result<BranchVerdict, Refused>
+) -> Result<TreeVerdict, Refused>
     ensures verdict { IfOk result (IsBranchVerdict tree.now.directed (C.nodes tree.now.costs.now) (C.at tree.now.costs.now)
         tree.now.scale (families_in tree.now.families.now) tree.now.given.now (steps_of tree.now.steps.now)) }
-    ensures cycles { IfOk result (VerdictBoundsCycles tree.now.directed (C.nodes tree.now.costs.now) (C.at tree.now.costs.now)
+    ensures cycles { IfOk result (BoundsCycles tree.now.directed (C.nodes tree.now.costs.now) (C.at tree.now.costs.now)
         tree.now.given.now) }
     ensures size { IfOk result IsSizedVerdict }
 {
     let families = match judge_families(alloc, tree)? {
         JudgedFamilies::Good(families) => families,
-        JudgedFamilies::Bad(family) => return Ok(BranchVerdict::BadFamily(family)),
+        JudgedFamilies::Bad(family) => return Ok(TreeVerdict::BadFamily(family)),
     };
     let cases = match judge_cases(alloc, tree)? {
         JudgedCases::Good(cases) => cases,
-        JudgedCases::BadBranch(branch) => return Ok(BranchVerdict::BadBranch(branch)),
-        JudgedCases::Twice(branch) => return Ok(BranchVerdict::BranchTwice(branch)),
+        JudgedCases::BadBranch(branch) => return Ok(TreeVerdict::BadBranch(branch)),
+        JudgedCases::Twice(branch) => return Ok(TreeVerdict::BranchTwice(branch)),
     };
-    match branch_bound(alloc, tree.costs, &families, &cases)? {
-        JudgedLeaves::Bound(bound) => Ok(BranchVerdict::Bound(bound)),
-        JudgedLeaves::BadLeaf(leaf) => Ok(BranchVerdict::BadLeaf(leaf)),
-    }
-}
-
-// ---- the verdict on a certificate by branching, as an enum
-
-/// The verdict on a certificate by branching.
-#[derive(Drop)]
-pub enum BranchVerdict {
-    /// The bound: no cycle that keeps the given decisions is shorter. `None` if no leaf has one:
-    /// then no cycle keeps them.
-    Bound(Option<i128>),
-    /// The first family that isn't good, counted from 1.
-    BadFamily(usize),
-    /// The first branch that isn't on two nodes, counted from 1.
-    BadBranch(usize),
-    /// The first branch on a pair that is decided above it or given, counted from 1.
-    BranchTwice(usize),
-    /// The first leaf that isn't good, counted from 1.
-    BadLeaf(usize),
+    branch_bound(alloc, tree.costs, &families, &cases)
 }
 
 // ---- the bound of a certificate by branching
@@ -109,7 +88,7 @@ pub fn branch_bound<C: Costs>(
     costs: &C,
     families: &Families,
     cases: &CheckedTree,
-) -> Result<JudgedLeaves, Refused>
+) -> Result<TreeVerdict, Refused>
     requires some { 3 ≤ C.nodes costs.now }
     requires even { cases.now.directed ≡ false → IsSymmetric (C.at costs.now) }
     requires families { families.now.nodes ≡ C.nodes costs.now }
@@ -119,7 +98,7 @@ pub fn branch_bound<C: Costs>(
         families.now.crossed.items cases.now.given.now (steps_of cases.now.steps.now) judged) }
     ensures cycles { IfOk result
         (BoundsCycles cases.now.directed (C.nodes costs.now) (C.at costs.now) cases.now.given.now) }
-    ensures size { IfOk result AreSizedLeaves }
+    ensures size { IfOk result IsSizedVerdict }
 {
     case_trees_bound_cycles();
     let by_node = sets_by_node(alloc, families)?;
@@ -137,12 +116,12 @@ pub fn branch_bound<C: Costs>(
 /// # Errors
 ///
 /// Out of memory.
-fn judge_context<C: Costs>(alloc: Global, context: &LeafContext<C>) -> Result<JudgedLeaves, Refused>
+fn judge_context<C: Costs>(alloc: Global, context: &LeafContext<C>) -> Result<TreeVerdict, Refused>
     ensures judged { IfOk result (λ judged. All (IsFamily (C.nodes context.now.costs.now)) (good_in context.now.families.now)
         → AreJudgedLeaves context.now.cases.now.directed (C.nodes context.now.costs.now) (C.at context.now.costs.now)
         context.now.cases.now.scale (good_in context.now.families.now) context.now.families.now.crossed.items
         context.now.cases.now.given.now (steps_of context.now.cases.now.steps.now) judged) }
-    ensures size { IfOk result AreSizedLeaves }
+    ensures size { IfOk result IsSizedVerdict }
 {
     let mut room = Scratch::new(alloc, context, keeps_rows(context))?;
     let steps = WholeTree {

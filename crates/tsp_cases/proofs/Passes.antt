@@ -5,11 +5,12 @@ use Rattle.tsp_cases.proofs.CaseLaws.{stacks_hold_cases}
 use Rattle.tsp_cases.proofs.OpenCases.{stack_more}
 use Rattle.tsp_cases.specs.CaseTrees.{IsAbove, IsLeastFound}
 use Rattle.tsp_cases.specs.Cases.{LeafNumbers, decide, are_case_trees, leaves_of, cases_of, later_cases, open_cases, next_stack}
-use Rattle.tsp_cases.specs.JudgedLeaves.{IsLowest, AreJudgedBy, IsJudgedLeaf, IsSizedLeaf}
+use Rattle.tsp_cases.specs.JudgedLeaves.{IsLowest, OnBound, OnLeaves, AreJudgedBy, IsJudgedLeaf, IsSizedLeaf}
 use Rattle.tsp_cases.specs.ListedCases.{IsStepOf, all_grown, no_numbers_of, leaf_changes, after_leaves, IsGoodLeafBy, AreGoodLeavesBy, IsFirstBadLeafBy, is_decided, Divided, branches_of_cases, IsFirstTwice, split_at, steps_from, listed_steps}
 use Rattle.tsp_cases.specs.declared.judged.JudgedLeaf.{JudgedLeaf}
 use Rattle.tsp_cases.specs.declared.judged.JudgedLeaf.TheVariants as leaves
-use Rattle.tsp_cases.specs.declared.judged.JudgedLeaves.TheVariants as judged
+use Rattle.tsp_cases.specs.declared.judged.TreeVerdict.{TreeVerdict}
+use Rattle.tsp_cases.specs.declared.judged.TreeVerdict.TheVariants as verdict
 use Rattle.tsp_cases.specs.declared.decision.Decision.{Decision}
 use Rattle.tsp_cases.specs.states.Kept.{AreSmall}
 use Rattle.tsp_cases.specs.states.OpenCases.{stack_of, IsNextStack}
@@ -390,7 +391,7 @@ module _ (Found : List Decision × LeafNumbers → Option ℤ → Type 0) (Good 
 
   at_end : (numbers : List ℤ) (stack : Option (List Decision)) (lowest : Option ℤ) (leaf : ℕ)
       → IsAtStep Found Good Fits n family_count given all numbers stack lowest leaf []
-      → AreJudgedBy Found Good n family_count given all (judged.Bound lowest)
+      → AreJudgedBy Found Good n family_count given all (verdict.Bound lowest)
   at_end numbers stack lowest leaf h =
       let all_good = h.good tt in
       let leaves = leaves_of (given ∷ []) (listed_steps n family_count all) in
@@ -415,7 +416,7 @@ module _ (Found : List Decision × LeafNumbers → Option ℤ → Type 0) (Good 
   at_step numbers stack lowest leaf step steps (inr h) = absurd (none_open numbers lowest leaf step steps h)
 
   pub passed : (numbers : List ℤ) (stack : List Decision) (lowest : Option ℤ) (leaf : ℕ)
-      → IsPassing numbers stack lowest leaf [] → AreJudgedBy Found Good n family_count given all (judged.Bound lowest)
+      → IsPassing numbers stack lowest leaf [] → AreJudgedBy Found Good n family_count given all (verdict.Bound lowest)
   passed numbers stack lowest leaf (inl h) = at_end numbers (Some (stack_of stack)) lowest leaf h
   passed numbers stack lowest leaf (inr h) = at_end numbers None lowest leaf h
 
@@ -459,7 +460,7 @@ module _ (Found : List Decision × LeafNumbers → Option ℤ → Type 0) (Good 
   pub all_passed : (all : List TreeStep) (numbers : List ℤ) (stack : List Decision) (lowest : Option ℤ) (leaf index : ℕ)
       → length all ≤ index
       → IsPassing Found Good Fits n family_count given (steps_of all) numbers stack lowest leaf (steps_of (drop index all))
-      → AreJudgedBy Found Good n family_count given (steps_of all) (judged.Bound lowest)
+      → AreJudgedBy Found Good n family_count given (steps_of all) (verdict.Bound lowest)
   all_passed all numbers stack lowest leaf index past at =
       passed Found Good Fits n family_count given (steps_of all) numbers stack lowest leaf
       (subst (λ (steps : List TreeStep). IsPassing Found Good Fits n family_count given (steps_of all) numbers stack lowest leaf
@@ -528,3 +529,30 @@ low_sized lowest own lower found before here some is = sized lowest own before (
     sized (Some low) None p q is = subst (λ (o : Option ℤ). IfSome o IsBoundSized) (sym is) p
     sized (Some low) (Some own) p q (inl is) = subst (λ (o : Option ℤ). IfSome o IsBoundSized) (sym is.0) p
     sized (Some low) (Some own) p q (inr is) = subst (λ (o : Option ℤ). IfSome o IsBoundSized) (sym is.0) q
+
+-- ---- the verdict on the leaves, by cases: a bound or a bad leaf
+
+pub by_leaves : (OfBound : Option ℤ → Type 0) (OfLeaf : ℕ → Type 0) (Is : TreeVerdict → Type 0) (judged : TreeVerdict)
+    → OnLeaves OfBound OfLeaf judged → ((found : Option ℤ) → OfBound found → Is (verdict.Bound found))
+    → ((leaf : ℕ) → OfLeaf leaf → Is (verdict.BadLeaf leaf)) → Is judged
+by_leaves OfBound OfLeaf Is (verdict.Bound found) is bound bad = bound found is
+by_leaves OfBound OfLeaf Is (verdict.BadLeaf leaf) is bound bad = bad leaf is
+by_leaves OfBound OfLeaf Is (verdict.BadFamily family) is bound bad = absurd is
+by_leaves OfBound OfLeaf Is (verdict.BadMemory customer) is bound bad = absurd is
+by_leaves OfBound OfLeaf Is (verdict.BadRow row) is bound bad = absurd is
+by_leaves OfBound OfLeaf Is (verdict.BadBranch branch) is bound bad = absurd is
+by_leaves OfBound OfLeaf Is (verdict.BranchTwice branch) is bound bad = absurd is
+by_leaves OfBound OfLeaf Is verdict.TooManyLoads is bound bad = absurd is
+by_leaves OfBound OfLeaf Is (verdict.TooManyStates leaf) is bound bad = absurd is
+
+pub on_bound : (OfBound : Option ℤ → Type 0) (judged : TreeVerdict)
+    → ((found : Option ℤ) → judged ≡ verdict.Bound found → OfBound found) → OnBound OfBound judged
+on_bound OfBound (verdict.Bound found) bound = bound found refl
+on_bound OfBound (verdict.BadFamily family) bound = tt
+on_bound OfBound (verdict.BadMemory customer) bound = tt
+on_bound OfBound (verdict.BadRow row) bound = tt
+on_bound OfBound (verdict.BadBranch branch) bound = tt
+on_bound OfBound (verdict.BranchTwice branch) bound = tt
+on_bound OfBound (verdict.BadLeaf leaf) bound = tt
+on_bound OfBound verdict.TooManyLoads bound = tt
+on_bound OfBound (verdict.TooManyStates leaf) bound = tt

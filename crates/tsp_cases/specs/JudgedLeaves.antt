@@ -8,8 +8,8 @@ use Rattle.tsp_cases.specs.Cases.{LeafNumbers, leaves_of}
 use Rattle.tsp_cases.specs.ListedCases.{listed_steps, all_grown, split_at, IsGoodLeafBy, AreGoodLeavesBy, IsFirstBadLeafBy}
 use Rattle.tsp_cases.specs.declared.judged.JudgedLeaf.{JudgedLeaf}
 use Rattle.tsp_cases.specs.declared.judged.JudgedLeaf.TheVariants as leaves
-use Rattle.tsp_cases.specs.declared.judged.JudgedLeaves.{JudgedLeaves}
-use Rattle.tsp_cases.specs.declared.judged.JudgedLeaves.TheVariants as judged
+use Rattle.tsp_cases.specs.declared.judged.TreeVerdict.{TreeVerdict}
+use Rattle.tsp_cases.specs.declared.judged.TreeVerdict.TheVariants as verdict
 use Rattle.tsp_cases.specs.declared.decision.Decision.{Decision}
 use Rattle.tsp_cases.specs.states.Kept.{AreSmall}
 
@@ -21,20 +21,30 @@ IsLowest (Some lowest) (Some own) lower = ((lower ≡ Some lowest) × (lowest �
 
 -- ---- the judgement on the leaves of a tree, whatever gives a leaf's bound
 
+-- the verdict is a bound of which this is so, or a bad leaf of which that is so
+abbrev pub OnLeaves : (Option ℤ → Type 0) → (ℕ → Type 0) → TreeVerdict → Type 0
+OnLeaves OfBound OfLeaf (verdict.Bound found) = OfBound found
+OnLeaves OfBound OfLeaf (verdict.BadLeaf leaf) = OfLeaf leaf
+OnLeaves OfBound OfLeaf other = ⊥
+
+-- this is so of the bound, if the verdict is one
+abbrev pub OnBound : (Option ℤ → Type 0) → TreeVerdict → Type 0
+OnBound OfBound (verdict.Bound found) = OfBound found
+OnBound OfBound other = Unit {0}
+
 -- Where the numbers of all leaves are good, the least bound that is found of a leaf, or none where no leaf has one;
 -- else the first bad leaf.
 abbrev pub AreJudgedBy : (List Decision × LeafNumbers → Option ℤ → Type 0) → (LeafNumbers → Type 0) → ℕ → ℕ → List Decision
-    → List listed.Step → JudgedLeaves → Type 0
-AreJudgedBy found good n families given steps (judged.Bound least) =
-    All (λ leaf. good leaf.1) (leaves_of (given ∷ []) (listed_steps n families steps))
+    → List listed.Step → TreeVerdict → Type 0
+AreJudgedBy found good n families given steps judged = OnLeaves
+    (λ least. All (λ leaf. good leaf.1) (leaves_of (given ∷ []) (listed_steps n families steps))
     × IsLeastFound found (leaves_of (given ∷ []) (listed_steps n families steps)) least
-    × AreGoodLeavesBy good n families steps
-AreJudgedBy found good n families given steps (judged.BadLeaf leaf) = IsFirstBadLeafBy good n families steps leaf
+    × AreGoodLeavesBy good n families steps)
+    (IsFirstBadLeafBy good n families steps) judged
 
 -- The bound is so small that sums with it fit 128 bits.
-abbrev pub AreSizedLeaves : JudgedLeaves → Type 0
-AreSizedLeaves (judged.Bound found) = IfSome found IsBoundSized
-AreSizedLeaves (judged.BadLeaf leaf) = Unit {0}
+abbrev pub IsSizedVerdict : TreeVerdict → Type 0
+IsSizedVerdict judged = OnBound (λ found. IfSome found IsBoundSized) judged
 
 -- ---- one leaf
 

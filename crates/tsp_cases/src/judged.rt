@@ -32,14 +32,33 @@ pub enum JudgedCases<'a> {
     Twice(usize),
 }
 
-/// What the leaves of a tree give.
+/// The verdict on a tree of cases, for tours and for routes: its bound, or its first fault.
+/// Families, rows, branches and leaves count from 1.
 #[derive(Drop)]
-pub enum JudgedLeaves {
+pub enum TreeVerdict {
     /// The least bound of a leaf: no solution that keeps the given decisions is shorter. `None`
-    /// if no leaf has one: then no solution keeps them.
+    /// if no leaf has one: then no solution keeps them. For routes, a solution is a plan whose
+    /// routes each have a customer.
     Bound(Option<i128>),
-    /// The first leaf that isn't good, counted from 1.
+    /// The first family that isn't good. For routes, a good one is a single set of customers.
+    BadFamily(usize),
+    /// The customer of the first bad list: one with a node that isn't a customer, with a customer
+    /// twice, or whose first customer has an earlier list. If all lists and rows are good, the
+    /// first customer that keeps more than 64 customers and rows. Only routes have lists.
+    BadMemory(u32),
+    /// The first row with fewer than two customers in its set, or with a node that isn't a customer
+    /// or comes twice. Only routes have rows.
+    BadRow(usize),
+    /// The first branch that isn't on two nodes, or for routes on one of the families.
+    BadBranch(usize),
+    /// The first branch on a pair that is decided above it or given. Only tours have it.
+    BranchTwice(usize),
+    /// The first leaf that isn't good.
     BadLeaf(usize),
+    /// A table by node and load would have more than 10,000,000 entries. Only routes have it.
+    TooManyLoads,
+    /// The first leaf whose runs have more than 10,000,000 kept states. Only routes have it.
+    TooManyStates(usize),
 }
 
 /// The judgement on a leaf: its bound, or that its numbers are bad.

@@ -37,7 +37,7 @@ pub use examples::{
 pub use families::Families;
 pub use family::{CostSquare, Crossings, NodeSets, family_crossings, least_cycle, parts_of};
 pub use good_families::{judge_families, mark_nodes};
-pub use judged::{CheckedTree, JudgedCases, JudgedFamilies, JudgedLeaf, JudgedLeaves};
+pub use judged::{CheckedTree, JudgedCases, JudgedFamilies, JudgedLeaf, TreeVerdict};
 pub use kept::{KeptRows, LeafContext, Scratch};
 pub use laws::{
     case_tree_bounds_are_unique, case_trees_bound_cycles, cases_bound_cycles, cases_have_no_cycle,

@@ -8,7 +8,7 @@ ghost use Rattle.std.specs.Prelude.{◌≡◌, ◌+◌, ◌<◌, ◌^◌, ◌∷
 ghost use Rattle.tsp_cases.specs.Cases.{cases_of, leaves_of, LeafNumbers};
 ghost use Rattle.tsp_cases.specs.Families.{most_or_least, sum_with};
 ghost use Rattle.tsp_cases.specs.ListedCases.{AreGoodNumbers, as_leaf_numbers, listed_steps, IsStepOf, all_grown};
-ghost use Rattle.tsp_cases.specs.JudgedLeaves.{AreJudgedBy, AreSizedLeaves, IsJudgedLeaf, IsSizedLeaf, IsFoundOfCase, IsLowest};
+ghost use Rattle.tsp_cases.specs.JudgedLeaves.{AreJudgedBy, IsSizedVerdict, IsJudgedLeaf, IsSizedLeaf, IsFoundOfCase, IsLowest};
 ghost use Rattle.tsp_cases.specs.declared.decision.Decision.{Decision};
 ghost use Rattle.tsp_cases.specs.states.OpenCases.{IsDecision, IsNextStack, stack_of, IsOpenCase, decisions_in};
 ghost use Rattle.tsp_cases.specs.states.Kept.{AreSmall};
@@ -16,7 +16,7 @@ ghost use Rattle.tsp_cases.specs.states.Kept.{AreSmall};
 use crate::decision::Decision;
 use crate::families::Families;
 use crate::family::Crossings;
-use crate::judged::{JudgedLeaf, JudgedLeaves};
+use crate::judged::{JudgedLeaf, TreeVerdict};
 use crate::multipliers::Multipliers;
 use crate::open_case::OpenCase;
 use std::alloc::Global;
@@ -37,7 +37,7 @@ pub fn judge_leaves<J: LeafJudge>(
     tree: &WholeTree,
     memory: &mut J::Memory,
     count: usize,
-) -> Result<JudgedLeaves, Refused>
+) -> Result<TreeVerdict, Refused>
     requires places { tree.now.places ≡ J.places judge.now }
     requires direction { tree.now.directed ≡ J.directed judge.now }
     requires count { count ≡ J.nodes judge.now + J.family_count judge.now }
@@ -46,7 +46,7 @@ pub fn judge_leaves<J: LeafJudge>(
         (listed_steps (J.nodes judge.now) (J.family_count judge.now) (steps_of tree.now.steps.now)))) }
     ensures judged { IfOk result (AreJudgedBy (J.found judge.now) (J.good judge.now) (J.nodes judge.now) (J.family_count judge.now)
         tree.now.given.now (steps_of tree.now.steps.now)) }
-    ensures size { IfOk result AreSizedLeaves }
+    ensures size { IfOk result IsSizedVerdict }
 {
     let mut numbers = filled(alloc, 0, count)?;
     let mut case = OpenCase::new(alloc, tree.places, tree.directed, tree.given)?;
@@ -63,7 +63,7 @@ pub fn judge_leaves<J: LeafJudge>(
                 leaf += 1;
                 let judged = judge_leaf(alloc, judge, &case, changes, &mut numbers, &mut *memory)?;
                 let JudgedLeaf::Found(own) = judged else {
-                    return Ok(JudgedLeaves::BadLeaf(leaf));
+                    return Ok(TreeVerdict::BadLeaf(leaf));
                 };
                 lowest = lower(lowest, own);
                 judge.leave(&mut *memory, &case.stack);
@@ -71,7 +71,7 @@ pub fn judge_leaves<J: LeafJudge>(
             }
         }
     }
-    Ok(JudgedLeaves::Bound(lowest))
+    Ok(TreeVerdict::Bound(lowest))
 }
 
 /// Judges a leaf. Its numbers are those of the leaf before it, plus its `changes`.

@@ -1,27 +1,55 @@
 -- The verdict on a certificate for routes, by that on its leaves, and the plans that it bounds.
-use Rattle.tsp_routing.proofs.Prelude.{◌≡◌, ◌∙◌, ℕ, ◌+◌, ◌≤◌, ◌<◌, ◌*◌, Bool, true, false, List, [], ◌∷◌, length, sym, ap, subst, arith, ℤ, Option, Some, None, recursion_from_All, are_whole, IsScale, RoutingProblem, families_with, listed_steps, no_numbers_of, whole_trees, Crossings, CaseStep, LeafNumbers, leaves_of, Decision}
+use Rattle.tsp_routing.proofs.Prelude.{◌≡◌, ◌∙◌, ℕ, ◌+◌, ◌≤◌, ◌<◌, ◌*◌, Bool, true, false, List, [], ◌∷◌, length, refl, sym, ap, subst, arith, ℤ, Option, Some, None, recursion_from_All, are_whole, IsScale, RoutingProblem, families_with, listed_steps, no_numbers_of, whole_trees, Crossings, CaseStep, LeafNumbers, leaves_of, Decision}
 use Rattle.std.proofs.Math.Logic.{∥∥₁_elim}
 use Rattle.std.proofs.Props.{props}
 use Rattle.tsp_format.specs.Steps as listed
 use Rattle.tsp_format.specs.Steps.{SubsetRow}
+use Rattle.tsp_cases.specs.declared.judged.TreeVerdict.{TreeVerdict}
+use Rattle.tsp_cases.specs.declared.judged.TreeVerdict.TheVariants as verdict
 use Rattle.tsp_routing.specs.PlanBounds.{IsPlanTreeBound, PlanTreesBoundPlans, BoundsPlansIfAny}
 use Rattle.tsp_routing.specs.PlanLinks.{IsCutFamily, AreUnits, IsRoutable, capacity_in_parts}
 use Rattle.tsp_routing.specs.PlanVerdicts.{AreCapacityCuts, AreGoodBranches, most_entries, HasTooManyLoads}
-use Rattle.tsp_routing.specs.RunTrees.{near_of, IsGoodMemory, placed_steps, family_numbers, rows_of_leaf, RunTree, IsFoundByRuns, IsRunTreeBound, RunTreesBoundPlans}
+use Rattle.tsp_routing.specs.RunTrees.{near_of, IsGoodMemory, AreGoodRunLeaves, placed_steps, family_numbers, rows_of_leaf, RunTree, IsFoundByRuns, IsRunTreeBound, RunTreesBoundPlans}
 use Rattle.tsp_routing.specs.RunVerdicts.{is_by_runs, AreGoodLeavesOf, IsFirstBadLeafOf, tree_with, IsPlanBoundFound, IsPlanVerdict, VerdictBoundsPlans, PlanBoundsFoundAreUnique}
-use Rattle.tsp_routing.specs.declared.plan_tree.PlanVerdict.{PlanVerdict}
-use Rattle.tsp_routing.specs.declared.plan_tree.PlanVerdict.TheVariants as verdict
-use Rattle.tsp_routing.specs.states.Judged.{IsLeafVerdict}
-use Rattle.tsp_routing.specs.states.RunJudged.{IsRunLeafVerdict}
+use Rattle.tsp_routing.specs.states.Judged.{IsLeafVerdict, entries_in}
+use Rattle.tsp_routing.specs.states.RunJudged.{AreRunsJudged, IsRunLeafVerdict}
+use Rattle.tsp_cases.proofs.Passes.{by_leaves, on_bound}
 use Rattle.tsp_routing.proofs.PlacedSteps.{whole_placed}
+use Rattle.tsp_cases.specs.JudgedLeaves.{AreJudgedBy}
+use Rattle.tsp_cases.specs.ListedCases.{AreGoodLeavesBy}
 use Rattle.tsp_routing.proofs.PlanBounds.{one_found, plan_tree_bounds_are_unique, all_crossed, one_light}
 use Rattle.tsp_routing.proofs.RunBounds.{run_bounds_are_unique}
+
+-- ---- the verdict on the leaves, after both passes
+
+-- where no leaf is bad, all are good
+pub all_good : (Found : List Decision × LeafNumbers → Option ℤ → Type 0) (Good : LeafNumbers → Type 0) (n count : ℕ)
+    (given : List Decision) (steps : List listed.Step) (judged : TreeVerdict)
+    → AreJudgedBy Found Good n count given steps judged → ((leaf : ℕ) → judged ≡ verdict.BadLeaf leaf → ⊥)
+    → AreGoodLeavesBy Good n count steps
+all_good Found Good n count given steps judged is =
+    by_leaves _ _ (λ (other : TreeVerdict). ((leaf : ℕ) → other ≡ verdict.BadLeaf leaf → ⊥) → AreGoodLeavesBy Good n count steps)
+    judged is (λ found is none. is.2) (λ leaf is none. absurd (none leaf refl))
+
+pub verdict_of_judged_runs : (tree : RunTree) (steps : List listed.Step) (judged : TreeVerdict)
+    → AreGoodRunLeaves tree.problem.nodes tree.family_count tree.row_count steps
+    → entries_in tree.problem tree.unit tree.light ≤ most_entries
+    → AreRunsJudged tree (placed_steps tree.problem.nodes tree.family_count steps) judged → IsRunLeafVerdict tree steps judged
+verdict_of_judged_runs tree steps (verdict.Bound found) good few is = (good, few, is.0, is.1)
+verdict_of_judged_runs tree steps (verdict.TooManyStates leaf) good few is = (good, few, is)
+verdict_of_judged_runs tree steps (verdict.BadFamily family) good few is = absurd is
+verdict_of_judged_runs tree steps (verdict.BadMemory customer) good few is = absurd is
+verdict_of_judged_runs tree steps (verdict.BadRow row) good few is = absurd is
+verdict_of_judged_runs tree steps (verdict.BadBranch branch) good few is = absurd is
+verdict_of_judged_runs tree steps (verdict.BranchTwice branch) good few is = absurd is
+verdict_of_judged_runs tree steps (verdict.BadLeaf leaf) good few is = absurd is
+verdict_of_judged_runs tree steps verdict.TooManyLoads good few is = absurd is
 
 module _ (problem : RoutingProblem) (scale : ℤ) (unit : ℕ) (families : List (List (List ℕ))) (lists : List (List ℕ))
     (rows : List SubsetRow) (steps : List listed.Step) where
   -- ---- by q-routes
 
-  pub verdict_of_leaves : (light : ℕ) (crossed : List Crossings) (found : PlanVerdict) → is_by_runs lists rows ≡ false
+  pub verdict_of_leaves : (light : ℕ) (crossed : List Crossings) (found : TreeVerdict) → is_by_runs lists rows ≡ false
       → AreUnits problem unit light → AreCapacityCuts problem families crossed
       → IsGoodMemory problem.nodes problem.depot lists rows → AreGoodBranches problem.nodes (length families) steps
       → IsLeafVerdict problem scale unit light (length families) (families_with crossed families) steps found
@@ -30,6 +58,7 @@ module _ (problem : RoutingProblem) (scale : ℤ) (unit : ℕ) (families : List 
   verdict_of_leaves light crossed (verdict.BadMemory customer) neither units cuts memory branches is = absurd is
   verdict_of_leaves light crossed (verdict.BadRow row) neither units cuts memory branches is = absurd is
   verdict_of_leaves light crossed (verdict.BadBranch branch) neither units cuts memory branches is = absurd is
+  verdict_of_leaves light crossed (verdict.BranchTwice branch) neither units cuts memory branches is = absurd is
   verdict_of_leaves light crossed (verdict.TooManyStates leaf) neither units cuts memory branches is = absurd is
   verdict_of_leaves light crossed (verdict.BadLeaf leaf) neither units cuts memory branches is = (
     ((crossed, cuts), branches),
@@ -65,7 +94,7 @@ module _ (problem : RoutingProblem) (scale : ℤ) (unit : ℕ) (families : List 
       (one_light problem unit loads.light light loads.units units) loads.many in
       omega (arith, few, many)
 
-  pub verdict_of_runs : (light : ℕ) (crossed : List Crossings) (found : PlanVerdict) → is_by_runs lists rows ≡ true
+  pub verdict_of_runs : (light : ℕ) (crossed : List Crossings) (found : TreeVerdict) → is_by_runs lists rows ≡ true
       → AreUnits problem unit light → AreCapacityCuts problem families crossed
       → IsGoodMemory problem.nodes problem.depot lists rows → AreGoodBranches problem.nodes (length families) steps
       → IsRunLeafVerdict (tree_with problem scale unit families lists rows light crossed) steps found
@@ -74,6 +103,7 @@ module _ (problem : RoutingProblem) (scale : ℤ) (unit : ℕ) (families : List 
   verdict_of_runs light crossed (verdict.BadMemory customer) either units cuts memory branches is = absurd is
   verdict_of_runs light crossed (verdict.BadRow row) either units cuts memory branches is = absurd is
   verdict_of_runs light crossed (verdict.BadBranch branch) either units cuts memory branches is = absurd is
+  verdict_of_runs light crossed (verdict.BranchTwice branch) either units cuts memory branches is = absurd is
   verdict_of_runs light crossed (verdict.BadLeaf leaf) either units cuts memory branches is = (
     ((crossed, cuts), branches),
     memory,
@@ -124,16 +154,10 @@ module _ (problem : RoutingProblem) (scale : ℤ) (unit : ℕ) (families : List 
         (sym (whole_trees problem.nodes (no_numbers_of problem.nodes (length families + length rows)) 1 placed)
         ∙ (whole_placed problem.nodes (length families) 1 steps ∙ whole)) is.bound
 
-    pub verdict_bounds : (found : PlanVerdict) → IsPlanVerdict problem scale unit families lists rows steps found
+    pub verdict_bounds : (found : TreeVerdict) → IsPlanVerdict problem scale unit families lists rows steps found
         → VerdictBoundsPlans problem found
-    verdict_bounds (verdict.BadFamily family) is = tt
-    verdict_bounds (verdict.BadMemory customer) is = tt
-    verdict_bounds (verdict.BadRow row) is = tt
-    verdict_bounds (verdict.BadBranch branch) is = tt
-    verdict_bounds (verdict.BadLeaf leaf) is = tt
-    verdict_bounds verdict.TooManyLoads is = tt
-    verdict_bounds (verdict.TooManyStates leaf) is = tt
-    verdict_bounds (verdict.Bound found) is = bounded (is_by_runs lists rows) found is.1
+    verdict_bounds found is = on_bound (BoundsPlansIfAny problem) found (λ bound same.
+        bounded (is_by_runs lists rows) bound (subst (IsPlanVerdict problem scale unit families lists rows steps) same is).1)
 
 -- ---- a certificate has one bound, or none
 

@@ -1,16 +1,17 @@
 -- Circle 3 of docs/trust.md.
 -- The verdict on a certificate for routes: its bound, or the first reason against it. A certificate that lists no memory
 -- and no subset row bounds leaves by q-routes; every other one bounds them by runs.
-use Rattle.tsp_routing.specs.Prelude.{Bool, true, false, ℕ, List, [], length, ℤ, IfSome, Option, Step, IsBoundSized, RoutingProblem, families_with, AreGoodLeavesBy, IsFirstBadLeafBy, listed_steps}
+use Rattle.tsp_routing.specs.Prelude.{Bool, true, false, ℕ, List, [], length, ℤ, Option, Step, RoutingProblem, families_with, AreGoodLeavesBy, IsFirstBadLeafBy, listed_steps}
 use Rattle.std.specs.Prelude.{◌+◌, ◌≡◌, ◌≤◌, ◌*◌}
 use Rattle.tsp_format.specs.Steps.{SubsetRow}
+use Rattle.tsp_cases.specs.JudgedLeaves.{OnBound}
 use Rattle.tsp_cases.specs.declared.family.Crossings.{Crossings}
+use Rattle.tsp_cases.specs.declared.judged.TreeVerdict.{TreeVerdict}
+use Rattle.tsp_cases.specs.declared.judged.TreeVerdict.TheVariants as verdict
 use Rattle.tsp_routing.specs.PlanBounds.{BoundsPlansIfAny}
 use Rattle.tsp_routing.specs.PlanLinks.{AreUnits, capacity_in_parts}
 use Rattle.tsp_routing.specs.PlanVerdicts.{AreGoodBranches, IsFirstBadPlanBranch, AreGoodPlanLeaves, IsFirstBadPlanLeaf, IsFirstBadSet, AreCapacityCuts, most_entries, HasTooManyLoads, HasGoodTree, IsBoundFound}
 use Rattle.tsp_routing.specs.RunTrees.{AreGoodLists, IsFirstBadRow, IsGoodMemory, IsBadMemory, placed_steps, AreGoodRunLeaves, IsFirstBadRunLeaf, RunTree, AreFewNumbers, IsRunTreeBound}
-use Rattle.tsp_routing.specs.declared.plan_tree.PlanVerdict.{PlanVerdict}
-use Rattle.tsp_routing.specs.declared.plan_tree.PlanVerdict.TheVariants as verdict
 
 -- whether a certificate lists a memory or a subset row
 abbrev pub is_by_runs : List (List ℕ) → List SubsetRow → Bool
@@ -100,7 +101,7 @@ HasGoodCuts problem families = (crossed : List Crossings) × AreCapacityCuts pro
 -- that keeps too much; the first bad branch; the first bad leaf; that there are too many loads; the first leaf with too
 -- many kept states; and else the bound.
 abbrev pub IsPlanVerdict : RoutingProblem → ℤ → ℕ → List (List (List ℕ)) → List (List ℕ) → List SubsetRow → List Step
-    → PlanVerdict → Type 0
+    → TreeVerdict → Type 0
 IsPlanVerdict problem scale unit families lists rows steps (verdict.BadFamily family) =
     IsFirstBadSet problem.nodes problem.depot families family
 IsPlanVerdict problem scale unit families lists rows steps (verdict.BadMemory customer) =
@@ -123,16 +124,11 @@ IsPlanVerdict problem scale unit families lists rows steps (verdict.TooManyState
 IsPlanVerdict problem scale unit families lists rows steps (verdict.Bound found) =
     IsGoodMemory problem.nodes problem.depot lists rows
     × IsPlanBoundFound (is_by_runs lists rows) problem scale unit families lists rows steps found
+IsPlanVerdict problem scale unit families lists rows steps (verdict.BranchTwice branch) = ⊥
 
 -- A bound is at most the length of every filled plan; where there is none, there is no filled plan.
-abbrev pub VerdictBoundsPlans : RoutingProblem → PlanVerdict → Type 0
-VerdictBoundsPlans problem (verdict.Bound found) = BoundsPlansIfAny problem found
-VerdictBoundsPlans problem other = Unit {0}
-
--- The bound is so small that sums with it fit 128 bits.
-abbrev pub IsSizedPlanVerdict : PlanVerdict → Type 0
-IsSizedPlanVerdict (verdict.Bound found) = IfSome found IsBoundSized
-IsSizedPlanVerdict other = Unit {0}
+abbrev pub VerdictBoundsPlans : RoutingProblem → TreeVerdict → Type 0
+VerdictBoundsPlans problem judged = OnBound (BoundsPlansIfAny problem) judged
 
 -- A certificate has one bound, or none.
 abbrev pub PlanBoundsFoundAreUnique : Type 0

@@ -61,5 +61,5 @@ pub use laws::{
     plans_keep_limits, plans_leave_cuts, routes_are_q_routes, routes_are_runs,
     run_bounds_bound_plans, run_trees_bound_plans, starts_are_told_from_both_ends,
 };
-pub use plan_tree::{PlanTree, PlanVerdict};
+pub use plan_tree::PlanTree;
 pub use verdict::judge_plans;

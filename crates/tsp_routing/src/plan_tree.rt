@@ -1,4 +1,4 @@
-//! A certificate for routes, and the verdict on it.
+//! A certificate for routes.
 
 ghost use Rattle.tsp_routing.specs.Prelude.{All, true, length, pos, most_demand, most_capacity, IsNode, IsFromTo, are_whole, IsScale, AreFamiliesOf};
 ghost use Rattle.std.specs.Prelude.{◌≡◌, ◌≤◌, ◌<◌, ◌^◌};
@@ -8,31 +8,6 @@ ghost use Rattle.tsp_routing.specs.states.JudgedMemory.{AreListsOf, AreRowsOf};
 
 use tsp_format::{RowSets, TreeStep};
 use tsp_theory::Costs;
-
-/// The verdict on a certificate for routes.
-#[derive(Drop)]
-pub enum PlanVerdict {
-    /// The first family that isn't a single set of customers, each once. Families count from 1.
-    BadFamily(usize),
-    /// The customer of the first bad list: one with a node that isn't a customer, with a customer
-    /// twice, or whose first customer has an earlier list. If all lists and rows are good, the
-    /// first customer that keeps more than 64 customers and rows.
-    BadMemory(u32),
-    /// The first row with fewer than two customers in its set, or with a node that isn't a customer
-    /// or comes twice. Rows count from 1.
-    BadRow(usize),
-    /// The first branch that isn't on one of the families, counted from 1.
-    BadBranch(usize),
-    /// The first leaf that isn't good, counted from 1.
-    BadLeaf(usize),
-    /// A table by node and load would have more than 10,000,000 entries.
-    TooManyLoads,
-    /// The first leaf, counted from 1, whose runs have more than 10,000,000 kept states.
-    TooManyStates(usize),
-    /// The bound: no plan whose routes each have a customer is shorter. `None` if no leaf has
-    /// one: then there is no such plan.
-    Bound(Option<i128>),
-}
 
 /// A tree of cases for routes, and what it is for: costs, a depot, a demand of each node, and what
 /// a route carries at most.

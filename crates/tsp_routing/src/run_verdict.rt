@@ -3,22 +3,21 @@
 ghost use Rattle.tsp_routing.specs.Prelude.{All, [], ℕ, length, true, map, IfOk, are_whole, IsStepOf, lent_in};
 ghost use Rattle.std.specs.Prelude.{◌≡◌, ◌<◌, ◌≤◌, ◌+◌, ◌^◌};
 ghost use Rattle.tsp_format.specs.states.TreeSteps.{steps_of, subset_row_of};
-ghost use Rattle.tsp_cases.specs.JudgedLeaves.{AreJudgedBy, AreSizedLeaves};
+ghost use Rattle.tsp_cases.specs.JudgedLeaves.{AreJudgedBy, IsSizedVerdict};
 ghost use Rattle.tsp_routing.specs.PlanBounds.{most_capacity_in_parts};
-ghost use Rattle.tsp_routing.specs.RunTrees.{IsGoodMemory, AreRunNumbers, AreFewNumbers, IsFoundByRuns, placed_steps};
-ghost use Rattle.tsp_routing.specs.RunVerdicts.{IsSizedPlanVerdict};
+ghost use Rattle.tsp_routing.specs.RunTrees.{IsGoodMemory, AreRunNumbers, placed_steps};
 ghost use Rattle.tsp_routing.specs.states.JudgedMemory.{IsNearTable};
-ghost use Rattle.tsp_routing.specs.states.RunJudged.{IsRunScratch, tree_in, IsRunLeafVerdict};
+ghost use Rattle.tsp_routing.specs.states.RunJudged.{IsRunScratch, tree_in, AreRunsJudged, IsRunLeafVerdict};
 ghost use Rattle.tsp_routing.specs.states.RunTables.{item_lists};
 
 use crate::context::PlanContext;
 use crate::memory_tables::memories_of;
 use crate::placed_steps::placed_steps;
-use crate::plan_tree::{PlanTree, PlanVerdict};
+use crate::plan_tree::PlanTree;
 use crate::run_judge::{NumbersJudge, RunJudge, RunScratch};
 use crate::verdict::{MOST_ENTRIES, entries};
 use std::alloc::Global;
-use tsp_cases::{JudgedLeaves, WholeTree, judge_leaves};
+use tsp_cases::{TreeVerdict, WholeTree, judge_leaves};
 use tsp_format::TreeStep;
 use tsp_io::{Refused, filled};
 use tsp_theory::Costs;
@@ -34,7 +33,7 @@ pub(crate) fn run_leaf_verdict<C: Costs>(
     context: &PlanContext<C>,
     tree: &PlanTree<C>,
     near: &[Vec<u32>],
-) -> Result<PlanVerdict, Refused>
+) -> Result<TreeVerdict, Refused>
     requires memory { IsGoodMemory context.now.demands.nodes context.now.demands.depot (item_lists tree.now.near.now)
         (map subset_row_of tree.now.rows.now) }
     requires near { IsNearTable context.now.demands.nodes (item_lists tree.now.near.now) near.now }
@@ -42,20 +41,18 @@ pub(crate) fn run_leaf_verdict<C: Costs>(
     ensures verdict { IfOk result (IsRunLeafVerdict (tree_in context.now.demands (C.at context.now.costs.now) context.now.scale
         context.now.unit context.now.units.now.light context.now.crossed.now (lent_in context.now.families.now)
         tree.now.near.now tree.now.rows.now) (steps_of tree.now.steps.now)) }
-    ensures size { IfOk result IsSizedPlanVerdict }
+    ensures size { IfOk result IsSizedVerdict }
 {
     let families = context.crossed.len() as u32;
     let steps = placed_steps(alloc, context.demands.nodes, families, tree.steps)?;
-    if let JudgedLeaves::BadLeaf(leaf) = judge_all_numbers(alloc, context, tree, &steps)? {
-        return Ok(PlanVerdict::BadLeaf(leaf));
+    let numbers = judge_all_numbers(alloc, context, tree, &steps)?;
+    if let TreeVerdict::BadLeaf(leaf) = numbers {
+        return Ok(TreeVerdict::BadLeaf(leaf));
     }
     if entries(context.demands.nodes, context.units.room) > MOST_ENTRIES {
-        return Ok(PlanVerdict::TooManyLoads);
+        return Ok(TreeVerdict::TooManyLoads);
     }
-    match judge_all_runs(alloc, context, tree, near, &steps)? {
-        JudgedLeaves::BadLeaf(leaf) => Ok(PlanVerdict::TooManyStates(leaf)),
-        JudgedLeaves::Bound(found) => Ok(PlanVerdict::Bound(found)),
-    }
+    judge_all_runs(alloc, context, tree, near, &steps)
 }
 
 /// The first leaf whose numbers aren't good; else no bound. The steps have places of numbers.
@@ -68,7 +65,7 @@ fn judge_all_numbers<C: Costs>(
     context: &PlanContext<C>,
     tree: &PlanTree<C>,
     steps: &[TreeStep],
-) -> Result<JudgedLeaves, Refused>
+) -> Result<TreeVerdict, Refused>
     requires few { length steps.now < 2 ^ 32 }
     requires steps { ∥ All (IsStepOf (context.now.demands.nodes + length context.now.crossed.now)) (steps_of steps.now) ∥₁ }
     requires whole { are_whole 1 (steps_of steps.now) ≡ true }
@@ -110,7 +107,7 @@ fn judge_all_runs<C: Costs>(
     tree: &PlanTree<C>,
     near: &[Vec<u32>],
     steps: &[TreeStep],
-) -> Result<JudgedLeaves, Refused>
+) -> Result<TreeVerdict, Refused>
     requires room { context.now.units.now.room ≤ most_capacity_in_parts }
     requires memory { IsGoodMemory context.now.demands.nodes context.now.demands.depot (item_lists tree.now.near.now)
         (map subset_row_of tree.now.rows.now) }
@@ -118,15 +115,10 @@ fn judge_all_runs<C: Costs>(
     requires few { length steps.now < 2 ^ 32 }
     requires steps { ∥ All (IsStepOf (context.now.demands.nodes + length context.now.crossed.now)) (steps_of steps.now) ∥₁ }
     requires whole { are_whole 1 (steps_of steps.now) ≡ true }
-    ensures judged { IfOk result (AreJudgedBy
-        (IsFoundByRuns (tree_in context.now.demands (C.at context.now.costs.now) context.now.scale
+    ensures judged { IfOk result (AreRunsJudged (tree_in context.now.demands (C.at context.now.costs.now) context.now.scale
         context.now.unit context.now.units.now.light context.now.crossed.now (lent_in context.now.families.now)
-        tree.now.near.now tree.now.rows.now))
-        (AreFewNumbers (tree_in context.now.demands (C.at context.now.costs.now) context.now.scale
-        context.now.unit context.now.units.now.light context.now.crossed.now (lent_in context.now.families.now)
-        tree.now.near.now tree.now.rows.now))
-        context.now.demands.nodes (length context.now.crossed.now + length tree.now.rows.now) [] (steps_of steps.now)) }
-    ensures size { IfOk result AreSizedLeaves }
+        tree.now.near.now tree.now.rows.now) (steps_of steps.now)) }
+    ensures size { IfOk result IsSizedVerdict }
 {
     let nodes = context.demands.nodes;
     let memories = memories_of(alloc, nodes, near, tree.rows)?;
@@ -143,7 +135,11 @@ fn judge_all_runs<C: Costs>(
         steps,
     };
     let mut room = scratch(alloc, nodes as usize, numbers)?;
-    judge_leaves(alloc, &judge, &whole, &mut room, nodes as usize + numbers)
+    let judged = judge_leaves(alloc, &judge, &whole, &mut room, nodes as usize + numbers)?;
+    match judged {
+        TreeVerdict::BadLeaf(leaf) => Ok(TreeVerdict::TooManyStates(leaf)),
+        bound => Ok(bound),
+    }
 }
 
 /// Numbers of a leaf, all 0.

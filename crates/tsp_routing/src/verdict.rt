@@ -4,14 +4,14 @@ ghost use Rattle.tsp_routing.specs.Prelude.{All, true, [], length, nat_abs, IfOk
 ghost use Rattle.std.specs.Prelude.{◌≡◌, ◌≤◌, ◌<◌, ◌+◌, ◌*◌, ◌^◌};
 ghost use Rattle.tsp_format.specs.states.TreeSteps.{steps_of, subset_row_of};
 ghost use Rattle.tsp_cases.specs.Crossings.{AreFamiliesOf};
-ghost use Rattle.tsp_cases.specs.JudgedLeaves.{AreJudgedBy, AreSizedLeaves, IsFoundOfCase, IsSizedLeaf};
+ghost use Rattle.tsp_cases.specs.JudgedLeaves.{AreJudgedBy, IsFoundOfCase, IsSizedLeaf, IsSizedVerdict};
 ghost use Rattle.tsp_cases.specs.states.GoodFamilies.{AreUnmarked, AddsNoOther};
 ghost use Rattle.tsp_cases.specs.states.OpenCases.{IsOpenCase, decisions_in};
 ghost use Rattle.tsp_routing.specs.PlanLinks.{IsCutFamily};
 ghost use Rattle.tsp_routing.specs.PlanVerdicts.{ArePlanNumbers, AreCapacityCuts, IsGoodSet, routing_with};
 ghost use Rattle.tsp_routing.specs.PlanBounds.{most_capacity_in_parts};
 ghost use Rattle.tsp_routing.specs.RunTrees.{IsGoodMemory};
-ghost use Rattle.tsp_routing.specs.RunVerdicts.{is_by_runs, IsPlanVerdict, VerdictBoundsPlans, IsSizedPlanVerdict};
+ghost use Rattle.tsp_routing.specs.RunVerdicts.{is_by_runs, IsPlanVerdict, VerdictBoundsPlans};
 ghost use Rattle.tsp_routing.specs.states.Demands.{loads_problem, AreDemands};
 ghost use Rattle.tsp_routing.specs.states.Judged.{AreCutsJudged, AreCutNumbers, IsFewCrossed, IsFoundOfFew, IsLeafVerdict, IsPlanScratch};
 ghost use Rattle.tsp_routing.specs.states.JudgedMemory.{IsNearTable};
@@ -22,12 +22,12 @@ use crate::judged_memory::{JudgedMemory, judge_memory};
 use crate::laws::{plan_trees_bound_plans, run_trees_bound_plans};
 use crate::plan_leaf::{PlanLeaf, leaf_bound, moved_of};
 use crate::plan_numbers::judge_numbers;
-use crate::plan_tree::{PlanTree, PlanVerdict};
+use crate::plan_tree::PlanTree;
 use crate::run_verdict::run_leaf_verdict;
 use crate::units::{Demands, unit_loads};
 use std::alloc::Global;
 use tsp_cases::{
-    Crossings, Decision, Families, JudgedLeaf, JudgedLeaves, LeafJudge, OpenCase, WholeTree,
+    Crossings, Decision, Families, JudgedLeaf, LeafJudge, OpenCase, TreeVerdict, WholeTree,
     first_bad_branch, judge_leaves, mark_nodes, sets_by_node,
 };
 use tsp_format::{RowSets, TreeStep};
@@ -50,14 +50,14 @@ pub(crate) const MOST_ENTRIES: u128 = 10_000_000;
 /// Out of memory, of which it takes some for each node, each family, each decision of a case, each
 /// pair of up to 5,000 nodes, and each node and load. With lists or rows also for each step, each
 /// node and row, and each kept state of a leaf.
-pub fn judge_plans<C: Costs>(alloc: Global, tree: &PlanTree<C>) -> Result<PlanVerdict, Refused>
+pub fn judge_plans<C: Costs>(alloc: Global, tree: &PlanTree<C>) -> Result<TreeVerdict, Refused>
     ensures verdict { IfOk result (IsPlanVerdict (routing_with (C.nodes tree.now.costs.now) (C.at tree.now.costs.now)
         tree.now.depot tree.now.demands.now tree.now.capacity) tree.now.scale (nat_abs tree.now.unit)
         (families_in tree.now.families.now) (item_lists tree.now.near.now) (map subset_row_of tree.now.rows.now)
         (steps_of tree.now.steps.now)) }
     ensures plans { IfOk result (VerdictBoundsPlans (routing_with (C.nodes tree.now.costs.now) (C.at tree.now.costs.now)
         tree.now.depot tree.now.demands.now tree.now.capacity)) }
-    ensures size { IfOk result IsSizedPlanVerdict }
+    ensures size { IfOk result IsSizedVerdict }
 {
     plan_trees_bound_plans();
     run_trees_bound_plans();
@@ -69,12 +69,12 @@ pub fn judge_plans<C: Costs>(alloc: Global, tree: &PlanTree<C>) -> Result<PlanVe
 /// # Errors
 ///
 /// Out of memory.
-fn judged_plans<C: Costs>(alloc: Global, tree: &PlanTree<C>) -> Result<PlanVerdict, Refused>
+fn judged_plans<C: Costs>(alloc: Global, tree: &PlanTree<C>) -> Result<TreeVerdict, Refused>
     ensures verdict { IfOk result (IsPlanVerdict (routing_with (C.nodes tree.now.costs.now) (C.at tree.now.costs.now)
         tree.now.depot tree.now.demands.now tree.now.capacity) tree.now.scale (nat_abs tree.now.unit)
         (families_in tree.now.families.now) (item_lists tree.now.near.now) (map subset_row_of tree.now.rows.now)
         (steps_of tree.now.steps.now)) }
-    ensures size { IfOk result IsSizedPlanVerdict }
+    ensures size { IfOk result IsSizedVerdict }
 {
     let demands = Demands {
         nodes: tree.costs.count(),
@@ -84,12 +84,12 @@ fn judged_plans<C: Costs>(alloc: Global, tree: &PlanTree<C>) -> Result<PlanVerdi
     };
     let (families, crossed) = match judge_cuts(alloc, &demands, tree.families)? {
         JudgedCuts::Good(families, crossed) => (families, crossed),
-        JudgedCuts::Bad(family) => return Ok(PlanVerdict::BadFamily(family)),
+        JudgedCuts::Bad(family) => return Ok(TreeVerdict::BadFamily(family)),
     };
     let near = match judge_memory(alloc, &demands, tree.near, tree.rows)? {
         JudgedMemory::Good(near) => near,
-        JudgedMemory::BadMemory(customer) => return Ok(PlanVerdict::BadMemory(customer)),
-        JudgedMemory::BadRow(row) => return Ok(PlanVerdict::BadRow(row)),
+        JudgedMemory::BadMemory(customer) => return Ok(TreeVerdict::BadMemory(customer)),
+        JudgedMemory::BadRow(row) => return Ok(TreeVerdict::BadRow(row)),
     };
     tree_verdict(alloc, tree, demands, &families, &crossed, &near)
 }
@@ -106,7 +106,7 @@ fn tree_verdict<C: Costs>(
     families: &Families,
     crossed: &[Crossings],
     near: &[Vec<u32>],
-) -> Result<PlanVerdict, Refused>
+) -> Result<TreeVerdict, Refused>
     requires demands { AreDemands demands }
     requires same { C.nodes tree.now.costs.now ≡ demands.nodes }
     requires own { families.now.nodes ≡ demands.nodes }
@@ -118,12 +118,12 @@ fn tree_verdict<C: Costs>(
     ensures verdict { IfOk result (IsPlanVerdict (loads_problem demands.entry (C.at tree.now.costs.now)) tree.now.scale
         (nat_abs tree.now.unit) (families_in tree.now.families.now) (item_lists tree.now.near.now)
         (map subset_row_of tree.now.rows.now) (steps_of tree.now.steps.now)) }
-    ensures size { IfOk result IsSizedPlanVerdict }
+    ensures size { IfOk result IsSizedVerdict }
 {
     let nodes = demands.nodes;
     let last = nodes + tree.families.len() as u32;
     if let Some(branch) = first_bad_branch(tree.steps, nodes + 1, last) {
-        return Ok(PlanVerdict::BadBranch(branch));
+        return Ok(TreeVerdict::BadBranch(branch));
     }
     let by_node = sets_by_node(alloc, families)?;
     let unit = tree.unit as u64;
@@ -160,24 +160,25 @@ fn leaf_verdict<C: Costs>(
     alloc: Global,
     context: &PlanContext<C>,
     steps: &[TreeStep],
-) -> Result<PlanVerdict, Refused>
+) -> Result<TreeVerdict, Refused>
     requires few { length steps.now < 2 ^ 32 }
     requires steps { ∥ All (IsStepOf (context.now.demands.nodes + length context.now.crossed.now)) (steps_of steps.now) ∥₁ }
     requires whole { are_whole 1 (steps_of steps.now) ≡ true }
     ensures verdict { IfOk result (IsLeafVerdict (loads_problem context.now.demands (C.at context.now.costs.now))
         context.now.scale context.now.unit context.now.units.now.light (length context.now.crossed.now)
         (families_with context.now.crossed.now (lent_in context.now.families.now)) (steps_of steps.now)) }
-    ensures size { IfOk result IsSizedPlanVerdict }
+    ensures size { IfOk result IsSizedVerdict }
 {
     let few = entries(context.demands.nodes, context.units.room) <= MOST_ENTRIES;
-    match judge_all(alloc, context, few, steps)? {
-        JudgedLeaves::BadLeaf(leaf) => Ok(PlanVerdict::BadLeaf(leaf)),
-        JudgedLeaves::Bound(found) => {
+    let judged = judge_all(alloc, context, few, steps)?;
+    match judged {
+        TreeVerdict::Bound(found) => {
             if few {
-                return Ok(PlanVerdict::Bound(found));
+                return Ok(TreeVerdict::Bound(found));
             }
-            Ok(PlanVerdict::TooManyLoads)
+            Ok(TreeVerdict::TooManyLoads)
         }
+        fault => Ok(fault),
     }
 }
 
@@ -198,7 +199,7 @@ fn judge_all<C: Costs>(
     context: &PlanContext<C>,
     few: bool,
     steps: &[TreeStep],
-) -> Result<JudgedLeaves, Refused>
+) -> Result<TreeVerdict, Refused>
     requires room { few ≡ true → context.now.units.now.room ≤ most_capacity_in_parts }
     requires few { length steps.now < 2 ^ 32 }
     requires steps { ∥ All (IsStepOf (context.now.demands.nodes + length context.now.crossed.now)) (steps_of steps.now) ∥₁ }
@@ -209,7 +210,7 @@ fn judge_all<C: Costs>(
         (families_with context.now.crossed.now (lent_in context.now.families.now)))
         (ArePlanNumbers context.now.demands.nodes (length context.now.crossed.now))
         context.now.demands.nodes (length context.now.crossed.now) [] (steps_of steps.now)) }
-    ensures size { IfOk result AreSizedLeaves }
+    ensures size { IfOk result IsSizedVerdict }
 {
     let nodes = context.demands.nodes as usize;
     let family_count = context.crossed.len();

@@ -33,6 +33,6 @@ pub use Rattle.tsp_report.specs.declared.verdict.Reason.TheVariants.{BadBranch, 
 pub use Rattle.tsp_report.specs.declared.verdict.Verdict.{Verdict}
 pub use Rattle.tsp_routing.proofs.SmallQRoutes.{of_customers}
 pub use Rattle.tsp_routing.specs.PlanVerdicts.{AreCapacityCuts, AreGoodBranches, HasTooManyLoads, IsFirstBadPlanBranch, IsFirstBadSet, most_entries, routing_with}
-pub use Rattle.tsp_routing.specs.RunVerdicts.{IsPlanBoundFound, IsPlanVerdict, IsSizedPlanVerdict, PlanBoundsFoundAreUnique, VerdictBoundsPlans}
+pub use Rattle.tsp_routing.specs.RunVerdicts.{IsPlanBoundFound, IsPlanVerdict, PlanBoundsFoundAreUnique, VerdictBoundsPlans}
 pub use Rattle.tsp_theory.specs.Bounds.{AdjustedBoundsBoundCycles, AreGood, AreOnPairs, DualsBoundCycles, IsAdjustedBound, IsAdjustedBoundOf, IsBoundSized, IsDualBound, IsFirstBroken, IsScale, UsesEach, adjusted, entry, is_same_pair, numbers_on, pair_of, weight_between}
 pub use Rattle.tsp_theory.specs.Tour.{AreNeighbours, BoundsTours, HasNoTour, IsCustomer, IsCycle, IsLeastRoutes, IsPlan, RoutingProblem, Uses, demand_of, length_of, links_to, load_of, plan_length, sum_int_by}

@@ -13,8 +13,9 @@ use Rattle.tsp_format.specs.Steps.{Step, Branch, Leaf, change_count}
 use Rattle.tsp_format.specs.declared.kinds.Kind.TheVariants as kinds
 use Rattle.tsp_routing.proofs.PlanBounds.{all_crossed, one_light}
 use Rattle.tsp_routing.specs.PlanLinks.{IsCutFamily, AreUnits, capacity_in_parts}
-use Rattle.tsp_routing.specs.declared.plan_tree.PlanVerdict.{PlanVerdict}
-use Rattle.tsp_routing.specs.declared.plan_tree.PlanVerdict.TheVariants as found
+use Rattle.tsp_cases.specs.JudgedLeaves.{IsSizedVerdict}
+use Rattle.tsp_cases.specs.declared.judged.TreeVerdict.{TreeVerdict}
+use Rattle.tsp_cases.specs.declared.judged.TreeVerdict.TheVariants as found
 use Rattle.tsp_routing.specs.states.LeafWeights.{IsPlanStep}
 use Rattle.tsp_report.specs.declared.verdict.BoundVerdict.TheVariants as bounds
 use Rattle.tsp_report.specs.declared.verdict.Verdict.TheVariants.{Routes}
@@ -25,7 +26,9 @@ use Rattle.tsp_verdict.proofs.TourVerdicts.{all_apart, marked_there, there_marke
 use Rattle.tsp_verdict.specs.Certificates.{unit_in, by_runs_in, AppliesToQRoutes, HasBoundByQRoutes}
 use Rattle.tsp_verdict.specs.Certified.{AppliesToRouting, NoneAgainstRouting, IsBoundBy, HasNoBoundBy, BoundsSolutionsBy, HasNoSolutionBy, AppliesToCertificateBy, AppliesToCertificate, FindsBound}
 use Rattle.tsp_verdict.specs.Solutions.{IsFirstPlace, IsLarger, IsAt, IsAtEarlierPlace, visited, tours_of, NoneBefore, IsFirstUnserved, IsOverloaded, AppliesToRoutes, NoneOfRoutesBefore, NoneOfRoutesBeforePlaces, total_of, AreCustomers, IsFirstAgainstRoutes, IsRoutesVerdict, IsFirstReason}
+use Rattle.tsp_verdict.proofs.TreeReasons.{pairs_few}
 use Rattle.tsp_verdict.specs.states.Marks.{Marked}
+use Rattle.tsp_verdict.specs.states.TreeFound.{IsNumbered, found_by_tree}
 
 -- ---- the reasons against the instance, whatever the routes
 
@@ -271,7 +274,7 @@ is_planned inst sol seen size routes demands capacity depot measured count least
 -- ---- what is found of the files
 
 -- what is found of the instance and the tree
-pub record IsReportedOfRoutes (inst tree : Fields) (verdict : PlanVerdict) : Type 0 where
+pub record IsReportedOfRoutes (inst tree : Fields) (verdict : TreeVerdict) : Type 0 where
   pub steps : List Step
   pub steps_are : tree.branches ≡ Some steps
   pub by_steps : IsPlanVerdict (routing_of inst) (scale_in tree) (unit_in tree) (families_listed tree) (memories_listed tree)
@@ -320,7 +323,7 @@ problem_is inst tree depot demands capacity scale unit families lists rows steps
     ∙ ap (λ (z : ℤ). routing_with (nodes_of inst) (cost inst) (depot_of inst) (demands_of inst) z) are.capacity_is
 
 pub reported_of_routes : (inst tree : Fields) (depot : ℕ) (demands : List ℤ) (capacity scale unit : ℤ)
-    (families : List (List (List ℕ))) (lists : List (List ℕ)) (rows : List SubsetRow) (steps : List Step) (verdict : PlanVerdict)
+    (families : List (List (List ℕ))) (lists : List (List ℕ)) (rows : List SubsetRow) (steps : List Step) (verdict : TreeVerdict)
     → AreOfFiles inst tree depot demands capacity scale unit families lists rows steps
     → IsPlanVerdict (routing_with (nodes_of inst) (cost inst) depot demands capacity) scale (nat_abs unit) families lists rows steps verdict
     → IsReportedOfRoutes inst tree verdict
@@ -341,7 +344,7 @@ reported_of_routes inst tree depot demands capacity scale unit families lists ro
 }
 
 pub bounds_of_routes : (inst tree : Fields) (depot : ℕ) (demands : List ℤ) (capacity scale unit : ℤ)
-    (families : List (List (List ℕ))) (lists : List (List ℕ)) (rows : List SubsetRow) (steps : List Step) (verdict : PlanVerdict)
+    (families : List (List (List ℕ))) (lists : List (List ℕ)) (rows : List SubsetRow) (steps : List Step) (verdict : TreeVerdict)
     → AreOfFiles inst tree depot demands capacity scale unit families lists rows steps
     → VerdictBoundsPlans (routing_with (nodes_of inst) (cost inst) depot demands capacity) verdict
     → VerdictBoundsPlans (routing_of inst) verdict
@@ -644,6 +647,39 @@ plans_missing inst tree cvrp sort size is none = (
   subst (λ k. HasNoBoundBy Branches k inst tree) (sym cvrp) (has_bound inst tree None is),
   subst (λ k. HasNoSolutionBy k inst) (sym cvrp) none,
 )
+
+-- ---- what the certificate gives, by the verdict on its tree
+
+pub plans_find : (inst tree : Fields) (verdict : TreeVerdict) → inst.kind ≡ Some kinds.Cvrp → is_branches_file tree.kind ≡ true
+    → nodes_of tree ≡ nodes_of inst → IsReportedOfRoutes inst tree verdict → VerdictBoundsPlans (routing_of inst) verdict
+    → IsSizedVerdict verdict → FindsBound Branches inst tree (found_by_tree verdict)
+plans_find inst tree (found.Bound (Some bound)) cvrp sort size is below sized = plans_bounded inst tree bound cvrp sort size is below sized
+plans_find inst tree (found.Bound None) cvrp sort size is below sized = plans_missing inst tree cvrp sort size is below
+plans_find inst tree (found.BadFamily index) cvrp sort size is below sized = set_first inst tree index cvrp sort size is
+plans_find inst tree (found.BadMemory node) cvrp sort size is below sized = memory_first inst tree node cvrp sort size is
+plans_find inst tree (found.BadRow index) cvrp sort size is below sized = row_first inst tree index cvrp sort size is
+plans_find inst tree (found.BadBranch index) cvrp sort size is below sized = branch_first inst tree index cvrp sort size is
+plans_find inst tree (found.BranchTwice index) cvrp sort size is below sized = absurd is.by_steps
+plans_find inst tree (found.BadLeaf index) cvrp sort size is below sized = plan_leaf_first inst tree index cvrp sort size is
+plans_find inst tree found.TooManyLoads cvrp sort size is below sized = loads_first inst tree cvrp sort size is
+plans_find inst tree (found.TooManyStates index) cvrp sort size is below sized = states_first inst tree index cvrp sort size is
+
+-- its number fits 32 bits
+pub plans_numbered : (problem : RoutingProblem) (scale : ℤ) (unit : ℕ) (families : List (List (List ℕ))) (lists : List (List ℕ))
+    (rows : List SubsetRow) (steps : List Step) (verdict : TreeVerdict) → length families < 2 ^ 32 → length rows < 2 ^ 32
+    → length steps < 2 ^ 32 → IsPlanVerdict problem scale unit families lists rows steps verdict → IsNumbered verdict
+plans_numbered problem scale unit families lists rows steps (found.Bound bound) sets_few rows_few few is = tt
+plans_numbered problem scale unit families lists rows steps (found.BadFamily index) sets_few rows_few few is = omega (arith, is.most, sets_few)
+plans_numbered problem scale unit families lists rows steps (found.BadMemory node) sets_few rows_few few is = tt
+plans_numbered problem scale unit families lists rows steps (found.BadRow index) sets_few rows_few few is = omega (arith, is.2.most, rows_few)
+plans_numbered problem scale unit families lists rows steps (found.BadBranch index) sets_few rows_few few is =
+    omega (arith, is.2.inside, pairs_few steps, few)
+plans_numbered problem scale unit families lists rows steps (found.BranchTwice index) sets_few rows_few few is = absurd is
+plans_numbered problem scale unit families lists rows steps (found.BadLeaf index) sets_few rows_few few is =
+    omega (arith, leaf_few (is_by_runs lists rows) problem.nodes (length families) (length rows) steps index is.2, few)
+plans_numbered problem scale unit families lists rows steps found.TooManyLoads sets_few rows_few few is = tt
+plans_numbered problem scale unit families lists rows steps (found.TooManyStates index) sets_few rows_few few is =
+    omega (arith, placed_few problem.nodes (length families) steps index is.3.first.most, few)
 
 -- ---- memories and rows as plans have them
 

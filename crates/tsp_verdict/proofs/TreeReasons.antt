@@ -13,15 +13,17 @@ use Rattle.tsp_cases.specs.Crossings.{AreSetsOf, AreFamiliesOf, lists_of, famili
 use Rattle.tsp_cases.specs.declared.decision.Decision.{Decision}
 use Rattle.tsp_branch.proofs.Judging.{costs_for}
 use Rattle.tsp_branch.specs.BranchVerdicts.{IsBranchVerdict}
-use Rattle.tsp_branch.specs.declared.verdict.BranchVerdict.{BranchVerdict}
-use Rattle.tsp_branch.specs.declared.verdict.BranchVerdict.TheVariants as found
+use Rattle.tsp_cases.specs.JudgedLeaves.{IsSizedVerdict}
+use Rattle.tsp_cases.specs.declared.judged.TreeVerdict.{TreeVerdict}
+use Rattle.tsp_cases.specs.declared.judged.TreeVerdict.TheVariants as found
 use Rattle.tsp_verdict.proofs.CarriedBounds.{Same, fitting}
 use Rattle.tsp_verdict.proofs.FirstReasons.{tree_either}
 use Rattle.tsp_verdict.proofs.GivenPairs.{keeps_given}
 use Rattle.tsp_verdict.specs.Certificates.{each_once, given_in, case_steps_in, families_with_numbers, AreNumbersOf, IsBadFamily, AppliesToBranches, HasBoundByBranches, IsBoundByBranches, HasNoBoundByBranches, AppliesToQRoutes}
-use Rattle.tsp_verdict.specs.Certified.{IsBoundBy, HasNoBoundBy, HasNoBound, AppliesToCertificateBy, AppliesToCertificate, BoundsSolutionsBy, BoundsSolutions, HasNoSolutionBy, HasNoSolution, IsCertified}
+use Rattle.tsp_verdict.specs.Certified.{IsBoundBy, HasNoBoundBy, HasNoBound, AppliesToCertificateBy, AppliesToCertificate, BoundsSolutionsBy, BoundsSolutions, HasNoSolutionBy, HasNoSolution, IsCertified, FindsBound}
 use Rattle.tsp_verdict.specs.Solutions.{IsFirstPlace, NoneBefore, IsFirstReason}
 use Rattle.tsp_verdict.specs.states.TourKnownBounds.{IsSymmetricTsp}
+use Rattle.tsp_verdict.specs.states.TreeFound.{IsNumbered, found_by_tree}
 
 -- ---- sets of nodes
 
@@ -118,7 +120,7 @@ bad_within n crossed steps bad h =
 abbrev pub ListsNeither : Fields → Type 0
 ListsNeither tree = (memories_listed tree ≡ []) × (rows_listed tree ≡ [])
 
-pub record IsReported (inst tree : Fields) (costs : ℕ → ℕ → ℤ) (verdict : BranchVerdict) : Type 0 where
+pub record IsReported (inst tree : Fields) (costs : ℕ → ℕ → ℤ) (verdict : TreeVerdict) : Type 0 where
   pub steps : List listed.Step
   pub steps_are : tree.branches ≡ Some steps
   pub by_steps : IsBranchVerdict (is_directed inst.kind) (nodes_of inst) costs (scale_in tree) (families_listed tree)
@@ -176,7 +178,7 @@ are_of inst tree directed n scale families fixed given steps directed_is count s
     }
 
 pub reported : (inst tree : Fields) (directed : Bool) (n : ℕ) (costs : ℕ → ℕ → ℤ) (scale : ℤ) (families : List (List (List ℕ)))
-    (given : List Decision) (steps : List listed.Step) (verdict : BranchVerdict)
+    (given : List Decision) (steps : List listed.Step) (verdict : TreeVerdict)
     → AreOf inst tree directed n scale families given steps
     → IsBranchVerdict directed n costs scale families given steps verdict → IsReported inst tree costs verdict
 reported inst tree directed n costs scale families given steps verdict are h =
@@ -564,3 +566,42 @@ no_tour inst tree costs law kind some even scaled same is = (
   without_tours inst kind (λ nodes tour. cycles_bounded inst tree costs None same is law kind some even scaled nodes tour.cycle
       (tour_keeps inst nodes tour)),
 )
+
+-- ---- what the certificate gives, by the verdict on its tree
+
+pub tree_finds : NumbersAreUnique → CaseTreesBoundCycles → (inst tree : Fields) (costs : ℕ → ℕ → ℤ) (verdict : TreeVerdict)
+    → HasArcsOrEdges inst → is_branches_file tree.kind ≡ true → nodes_of tree ≡ nodes_of inst → 3 ≤ nodes_of inst → IsSymmetricTsp inst
+    → IsScale (scale_in tree) → Same costs (cost inst) → IsSizedVerdict verdict → IsReported inst tree costs verdict
+    → FindsBound Branches inst tree (found_by_tree verdict)
+tree_finds unique law inst tree costs (found.Bound (Some bound)) kind sort size some even scaled same sized is = (
+  nothing_applies unique inst tree costs (Some bound) kind sort size is,
+  certified inst tree costs bound law kind some even scaled same sized is,
+)
+tree_finds unique law inst tree costs (found.Bound None) kind sort size some even scaled same sized is =
+    let gone = no_tour inst tree costs law kind some even scaled same is in
+    (nothing_applies unique inst tree costs None kind sort size is, gone.0, gone.1)
+tree_finds unique law inst tree costs (found.BadFamily index) kind sort size some even scaled same sized is = family_first inst tree costs index kind sort size is
+tree_finds unique law inst tree costs (found.BadMemory node) kind sort size some even scaled same sized is = absurd is.by_steps.leaves
+tree_finds unique law inst tree costs (found.BadRow index) kind sort size some even scaled same sized is = absurd is.by_steps.leaves
+tree_finds unique law inst tree costs (found.BadBranch index) kind sort size some even scaled same sized is = pair_first inst tree costs index kind sort size is
+tree_finds unique law inst tree costs (found.BranchTwice index) kind sort size some even scaled same sized is = twice_first inst tree costs index kind sort size is
+tree_finds unique law inst tree costs (found.BadLeaf index) kind sort size some even scaled same sized is = leaf_first inst tree costs index kind sort size is
+tree_finds unique law inst tree costs found.TooManyLoads kind sort size some even scaled same sized is = absurd is.by_steps.leaves
+tree_finds unique law inst tree costs (found.TooManyStates index) kind sort size some even scaled same sized is = absurd is.by_steps.leaves
+
+-- its number fits 32 bits
+pub tree_numbered : (directed : Bool) (n : ℕ) (costs : ℕ → ℕ → ℤ) (scale : ℤ) (families : List (List (List ℕ))) (given : List Decision)
+    (steps : List listed.Step) (verdict : TreeVerdict) → length families < 2 ^ 32 → length steps < 2 ^ 32
+    → IsBranchVerdict directed n costs scale families given steps verdict → IsNumbered verdict
+tree_numbered directed n costs scale families given steps (found.Bound bound) few_families few_steps is = tt
+tree_numbered directed n costs scale families given steps (found.BadFamily index) few_families few_steps is = omega (arith, is.most, few_families)
+tree_numbered directed n costs scale families given steps (found.BadMemory node) few_families few_steps is = tt
+tree_numbered directed n costs scale families given steps (found.BadRow index) few_families few_steps is = absurd is.leaves
+tree_numbered directed n costs scale families given steps (found.BadBranch index) few_families few_steps is =
+    omega (arith, is.2.inside, pairs_few steps, few_steps)
+tree_numbered directed n costs scale families given steps (found.BranchTwice index) few_families few_steps is =
+    omega (arith, twice_within directed given steps index is.3, few_steps)
+tree_numbered directed n costs scale families given steps (found.BadLeaf index) few_families few_steps is =
+    omega (arith, bad_within n is.crossed steps index is.leaves, few_steps)
+tree_numbered directed n costs scale families given steps found.TooManyLoads few_families few_steps is = tt
+tree_numbered directed n costs scale families given steps (found.TooManyStates index) few_families few_steps is = absurd is.leaves

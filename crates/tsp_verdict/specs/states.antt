@@ -3,3 +3,4 @@ pub mod TourKnownBounds
 pub mod Marks
 pub mod PairSets
 pub mod MemoryReasons
+pub mod TreeFound

@@ -15,16 +15,17 @@ ghost use Rattle.tsp_verdict.specs.Solutions.{IsFirstReason};
 ghost use Rattle.tsp_verdict.specs.states.MemoryReasons.{IsMemoryReason, IsBadFamilyIfAny, family_or};
 ghost use Rattle.tsp_verdict.specs.states.PairSets.{key_of};
 ghost use Rattle.tsp_verdict.specs.states.TourKnownBounds.{AreTourCosts, IsSymmetricTsp};
+ghost use Rattle.tsp_verdict.specs.states.TreeFound.{IsNumbered, found_by_tree};
 ghost use Rattle.tsp_report.specs.declared.task.CertificateKind.TheVariants as certificates;
 
 use crate::potentials_certificate::{bound_by_duals, bound_by_nodes};
 use crate::tour::{TourCosts, is_directed};
 use std::alloc::Global;
 use std::collections::BTreeSet;
-use tsp_branch::{BranchVerdict, judge_branches};
+use tsp_branch::judge_branches;
 use tsp_cases::{
-    BranchingCertificate, Decision, JudgedFamilies, case_trees_bound_cycles, judge_families,
-    numbers_are_unique,
+    BranchingCertificate, Decision, JudgedFamilies, TreeVerdict, case_trees_bound_cycles,
+    judge_families, numbers_are_unique,
 };
 use tsp_cost::{Costs, Instance, View};
 use tsp_file::{File, TreeData};
@@ -181,21 +182,38 @@ fn judge_tour_tree<C: Costs>(
         let family = first_bad_family(alloc, cases)?;
         return Ok(BoundVerdict::No(family_or(family, reason)));
     }
-    match judge_branches(alloc, cases)? {
-        BranchVerdict::Bound(Some(bound)) => Ok(BoundVerdict::Bound(bound)),
-        BranchVerdict::Bound(None) => Ok(BoundVerdict::NoSolution),
-        BranchVerdict::BadFamily(index) => Ok(BoundVerdict::No(Reason::BadFamily {
+    let verdict = judge_branches(alloc, cases)?;
+    Ok(found_by_tree(verdict))
+}
+
+/// What a certificate gives, by the verdict on its tree of cases, for tours and for routes.
+pub(crate) fn found_by_tree(verdict: TreeVerdict) -> BoundVerdict
+    requires { IsNumbered verdict }
+    ensures { result ≡ found_by_tree verdict }
+{
+    match verdict {
+        TreeVerdict::Bound(Some(bound)) => BoundVerdict::Bound(bound),
+        TreeVerdict::Bound(None) => BoundVerdict::NoSolution,
+        TreeVerdict::BadFamily(index) => BoundVerdict::No(Reason::BadFamily {
             index: index as u32,
-        })),
-        BranchVerdict::BadBranch(index) => Ok(BoundVerdict::No(Reason::BadBranch {
+        }),
+        TreeVerdict::BadMemory(node) => BoundVerdict::No(Reason::BadMemory { node }),
+        TreeVerdict::BadRow(index) => BoundVerdict::No(Reason::BadRow {
             index: index as u32,
-        })),
-        BranchVerdict::BranchTwice(index) => Ok(BoundVerdict::No(Reason::BranchTwice {
+        }),
+        TreeVerdict::BadBranch(index) => BoundVerdict::No(Reason::BadBranch {
             index: index as u32,
-        })),
-        BranchVerdict::BadLeaf(index) => Ok(BoundVerdict::No(Reason::BadLeaf {
+        }),
+        TreeVerdict::BranchTwice(index) => BoundVerdict::No(Reason::BranchTwice {
             index: index as u32,
-        })),
+        }),
+        TreeVerdict::BadLeaf(index) => BoundVerdict::No(Reason::BadLeaf {
+            index: index as u32,
+        }),
+        TreeVerdict::TooManyLoads => BoundVerdict::No(Reason::TooManyLoads),
+        TreeVerdict::TooManyStates(index) => BoundVerdict::No(Reason::TooManyStates {
+            index: index as u32,
+        }),
     }
 }
 

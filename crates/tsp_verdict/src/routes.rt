@@ -12,14 +12,14 @@ ghost use Rattle.tsp_verdict.specs.Solutions.{IsFirstPlace, IsLarger, IsAt, IsAt
 ghost use Rattle.tsp_verdict.specs.states.Marks.{Marked, AreToursOf, nodes_in, IsSumOf};
 ghost use Rattle.tsp_report.specs.declared.task.CertificateKind.TheVariants as certificates;
 
-use crate::certificate::tree_of;
+use crate::certificate::{found_by_tree, tree_of};
 use crate::tour::{first_larger, first_of, mark, routing, solution_tours};
 use std::alloc::Global;
 use tsp_cost::{Costs, Instance};
 use tsp_file::{File, RoutingData, TreeData};
 use tsp_io::{Refused, filled};
 use tsp_report::{BoundVerdict, Reason, Verdict};
-use tsp_routing::{PlanTree, PlanVerdict, judge_plans};
+use tsp_routing::{PlanTree, judge_plans};
 
 /// The fewest nodes of an instance whose routes are judged.
 pub(crate) const FEWEST_NODES_OF_ROUTES: u32 = 2;
@@ -392,25 +392,6 @@ fn judge_plan_tree(
         rows: tree.subset_rows,
         steps: tree.steps,
     };
-    match judge_plans(alloc, &plans)? {
-        PlanVerdict::Bound(Some(bound)) => Ok(BoundVerdict::Bound(bound)),
-        PlanVerdict::Bound(None) => Ok(BoundVerdict::NoSolution),
-        PlanVerdict::BadFamily(index) => Ok(BoundVerdict::No(Reason::BadFamily {
-            index: index as u32,
-        })),
-        PlanVerdict::BadMemory(node) => Ok(BoundVerdict::No(Reason::BadMemory { node })),
-        PlanVerdict::BadRow(index) => Ok(BoundVerdict::No(Reason::BadRow {
-            index: index as u32,
-        })),
-        PlanVerdict::BadBranch(index) => Ok(BoundVerdict::No(Reason::BadBranch {
-            index: index as u32,
-        })),
-        PlanVerdict::BadLeaf(index) => Ok(BoundVerdict::No(Reason::BadLeaf {
-            index: index as u32,
-        })),
-        PlanVerdict::TooManyLoads => Ok(BoundVerdict::No(Reason::TooManyLoads)),
-        PlanVerdict::TooManyStates(index) => Ok(BoundVerdict::No(Reason::TooManyStates {
-            index: index as u32,
-        })),
-    }
+    let verdict = judge_plans(alloc, &plans)?;
+    Ok(found_by_tree(verdict))
 }

@@ -2,6 +2,8 @@
 use Rattle.tsp_routing.specs.Prelude.{Vec, All, ℕ, Bool, true, List, length, Option, ℤ, Some, None, Step, RoutingProblem, LeafNumbers, families_in, Family, family_with, listed_steps, Decision}
 use Rattle.std.specs.Prelude.{◌≡◌, ◌+◌, ◌*◌, ◌≤◌, ◌<◌}
 use Rattle.tsp_cases.specs.declared.family.Crossings.{Crossings}
+use Rattle.tsp_cases.specs.declared.judged.TreeVerdict.{TreeVerdict}
+use Rattle.tsp_cases.specs.declared.judged.TreeVerdict.TheVariants as verdict
 use Rattle.tsp_routing.specs.PlanBounds.{IsFoundByQRoutes, IsPlanTreeBound}
 use Rattle.tsp_routing.specs.PlanLinks.{capacity_in_parts, IsCutFamily}
 use Rattle.tsp_routing.specs.PlanVerdicts.{AreGoodPlanLeaves, IsFirstBadPlanLeaf, most_entries, IsGoodSet, IsFirstBadSet, AreCapacityCuts}
@@ -9,8 +11,6 @@ use Rattle.tsp_routing.specs.declared.units.Demands.{Demands}
 use Rattle.tsp_routing.specs.declared.verdict.JudgedCuts.{JudgedCuts}
 use Rattle.tsp_routing.specs.declared.verdict.JudgedCuts.TheVariants as judged
 use Rattle.tsp_routing.specs.declared.verdict.PlanScratch.{PlanScratch}
-use Rattle.tsp_routing.specs.declared.plan_tree.PlanVerdict.{PlanVerdict}
-use Rattle.tsp_routing.specs.declared.plan_tree.PlanVerdict.TheVariants as verdict
 use Rattle.tsp_routing.specs.states.Demands.{loads_problem}
 
 -- a potential for each node, a multiplier for each family, and a row of numbers by node
@@ -29,7 +29,7 @@ abbrev pub entries_in : RoutingProblem → ℕ → ℕ → ℕ
 entries_in problem unit light = problem.nodes * (capacity_in_parts problem unit light + 1)
 
 -- the verdict on the leaves, where families and branches are good
-abbrev pub IsLeafVerdict : RoutingProblem → ℤ → ℕ → ℕ → ℕ → List Family → List Step → PlanVerdict → Type 0
+abbrev pub IsLeafVerdict : RoutingProblem → ℤ → ℕ → ℕ → ℕ → List Family → List Step → TreeVerdict → Type 0
 IsLeafVerdict problem scale unit light count families steps (verdict.BadLeaf leaf) =
     IsFirstBadPlanLeaf problem.nodes count steps leaf
 IsLeafVerdict problem scale unit light count families steps verdict.TooManyLoads =

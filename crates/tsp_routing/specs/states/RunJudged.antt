@@ -1,17 +1,17 @@
 -- What is judged of the leaves of a certificate for routes that lists memories or subset rows, in code.
-use Rattle.tsp_routing.specs.Prelude.{Vec, ℕ, List, map, length, ℤ, Step, LeafNumbers, families_with, listed_steps}
+use Rattle.tsp_routing.specs.Prelude.{Vec, ℕ, List, map, length, ℤ, Step, LeafNumbers, families_with, AreGoodLeavesBy, IsFirstBadLeafBy, listed_steps}
 use Rattle.std.specs.Prelude.{◌≡◌, ◌+◌, ◌≤◌, ◌<◌}
 use Rattle.tsp_format.specs.Steps.{SubsetRow}
 use Rattle.tsp_format.specs.declared.steps.RowSets.{RowSets}
 use Rattle.tsp_format.specs.states.TreeSteps.{subset_row_of}
 use Rattle.tsp_cases.specs.declared.family.Crossings.{Crossings}
+use Rattle.tsp_cases.specs.declared.judged.TreeVerdict.{TreeVerdict}
+use Rattle.tsp_cases.specs.declared.judged.TreeVerdict.TheVariants as verdict
 use Rattle.tsp_routing.specs.PlanVerdicts.{most_entries}
 use Rattle.tsp_routing.specs.RunBounds.{leaf_rules}
-use Rattle.tsp_routing.specs.RunTrees.{near_of, placed_steps, AreGoodRunLeaves, IsFirstBadRunLeaf, RunTree, IsRunTreeBound}
+use Rattle.tsp_routing.specs.RunTrees.{near_of, placed_steps, AreGoodRunLeaves, IsFirstBadRunLeaf, RunTree, AreFewNumbers, IsRunTreeBound}
 use Rattle.tsp_routing.specs.RunVerdicts.{AreFewLeaves, IsFirstFullLeaf}
 use Rattle.tsp_routing.specs.declared.memory_key.MemoryKey.{MemoryKey}
-use Rattle.tsp_routing.specs.declared.plan_tree.PlanVerdict.{PlanVerdict}
-use Rattle.tsp_routing.specs.declared.plan_tree.PlanVerdict.TheVariants as verdict
 use Rattle.tsp_routing.specs.declared.run_judge.RunScratch.{RunScratch}
 use Rattle.tsp_routing.specs.declared.units.Demands.{Demands}
 use Rattle.tsp_routing.specs.states.Demands.{loads_problem}
@@ -45,8 +45,18 @@ AreTablesFor tree count keys places = (numbers : LeafNumbers) (rows : List (Subs
     → AreMemoriesOf (leaf_rules tree.problem tree.scale tree.unit tree.light tree.families numbers (near_of tree.lists) rows)
     count keys places
 
+-- where no leaf has more kept states than are allowed, the least bound of a leaf; else the first leaf that has. These
+-- steps have places of numbers.
+abbrev pub AreRunsJudged : RunTree → List Step → TreeVerdict → Type 0
+AreRunsJudged tree steps (verdict.TooManyStates leaf) =
+    IsFirstBadLeafBy (AreFewNumbers tree) tree.problem.nodes (tree.family_count + tree.row_count) steps leaf
+AreRunsJudged tree steps (verdict.Bound found) =
+    AreGoodLeavesBy (AreFewNumbers tree) tree.problem.nodes (tree.family_count + tree.row_count) steps
+    × IsRunTreeBound tree (listed_steps tree.problem.nodes (tree.family_count + tree.row_count) steps) found
+AreRunsJudged tree steps other = ⊥
+
 -- the verdict on the leaves, where families, memories and branches are good
-abbrev pub IsRunLeafVerdict : RunTree → List Step → PlanVerdict → Type 0
+abbrev pub IsRunLeafVerdict : RunTree → List Step → TreeVerdict → Type 0
 IsRunLeafVerdict tree steps (verdict.BadLeaf leaf) =
     IsFirstBadRunLeaf tree.problem.nodes tree.family_count tree.row_count steps leaf
 IsRunLeafVerdict tree steps verdict.TooManyLoads =

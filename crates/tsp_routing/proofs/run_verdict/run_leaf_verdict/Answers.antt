@@ -1,17 +1,17 @@
 -- The goals of `run_leaf_verdict` in src/run_verdict.rt, which judges the leaves twice: what its calls require, and what it
 -- ensures.
-use Rattle.tsp_routing.proofs.Prelude.{◌≡◌, ◌∙◌, ◌+◌, ◌*◌, ◌<◌, ◌≤◌, ℕ, ℤ, List, [], length, Option, ap, sym, subst, All, are_whole, IsStepOf, Decision, LeafNumbers, listed_steps, leaves_of, ◌∷◌, lent_in}
+use Rattle.tsp_routing.proofs.Prelude.{◌≡◌, ◌∙◌, ◌+◌, ◌*◌, ◌<◌, ◌≤◌, ℕ, ℤ, List, [], length, Option, ap, sym, subst, All, are_whole, IsStepOf, Decision, LeafNumbers, lent_in}
 use Rattle.std.proofs.Math.Logic.{∥∥₁_elim}
 use Rattle.std.proofs.Props.{props}
+use Rattle.std.proofs.lemmas.Result.{IfOk-weaker}
 use Rattle.tsp_format.specs.Steps as listed
 use Rattle.tsp_format.specs.states.TreeSteps.{steps_of}
-use Rattle.tsp_cases.specs.CaseTrees.{IsLeastFound}
-use Rattle.tsp_cases.specs.JudgedLeaves.{AreJudgedBy}
-use Rattle.tsp_cases.specs.ListedCases.{AreGoodLeavesBy, IsFirstBadLeafBy}
+use Rattle.tsp_cases.specs.ListedCases.{AreGoodLeavesBy}
 use Rattle.tsp_routing.specs.PlanVerdicts.{most_entries}
-use Rattle.tsp_routing.specs.RunTrees.{placed_steps, AreRunNumbers, AreGoodRunLeaves, AreFewNumbers, IsFoundByRuns}
-use Rattle.tsp_routing.specs.states.RunJudged.{tree_in}
+use Rattle.tsp_routing.specs.RunTrees.{placed_steps, AreRunNumbers, AreGoodRunLeaves}
+use Rattle.tsp_routing.specs.states.RunJudged.{AreRunsJudged, tree_in}
 use Rattle.tsp_routing.proofs.PlacedSteps.{whole_placed, steps_placed}
+use Rattle.tsp_routing.proofs.PlanVerdicts.{all_good, verdict_of_judged_runs}
 use Rattle.tsp_routing.proofs.run_verdict.run_leaf_verdict.Goals as goal
 
 -- plan: the steps with places are one whole tree too; the first judge finds whether numbers are good, and the second one
@@ -47,9 +47,9 @@ returns-then-entries-gt-MOST_ENTRIES-clause-verdict g c =
     let placed : steps_of c.deref.result.now ≡ placed_steps n families steps = ap steps_of c.deref.ensures.value ∙ c.in_ok-steps.ensures in
     let rows : ℕ = length tree.rows.now in
     let cost = g.C.Costs.at s.costs.now in
-    let judged = subst (AreJudgedBy (λ (leaf : List Decision × LeafNumbers) (own : Option ℤ). Unit {0}) (AreRunNumbers n families rows) n
-    (families + rows) [] (steps_of c.deref.result.now)) c.in_default.is c.in_ok-leaf.ensures in
-    let good : AreGoodRunLeaves n families rows steps = subst (AreGoodLeavesBy (AreRunNumbers n families rows) n (families + rows)) placed judged.2 in
+    let good : AreGoodRunLeaves n families rows steps = subst (AreGoodLeavesBy (AreRunNumbers n families rows) n (families + rows)) placed
+    (all_good (λ (leaf : List Decision × LeafNumbers) (own : Option ℤ). Unit {0}) (AreRunNumbers n families rows) n (families + rows) [] (steps_of c.deref.result.now) c.in_ok-numbers.numbers
+    c.in_ok-numbers.ensures c.in_default.not-BadLeaf) in
     let entries = c.entries.ensures ∙ ap (λ (room : ℕ). n * (room + 1)) (s.loads.room_is cost) in
     (good, subst (λ (k : ℕ). most_entries < k) entries c.if-entries-gt-MOST_ENTRIES.true)
 
@@ -74,29 +74,6 @@ judge_all_runs-requires-clause-whole g c =
     let placed : steps_of c.deref-2.result.now ≡ placed_steps n families steps = ap steps_of c.deref-2.ensures.value ∙ c.in_ok-steps.ensures in
     ap (are_whole 1) placed ∙ (whole_placed n families 1 steps ∙ tree.whole)
 
-pub returns-in-BadLeaf-2-clause-verdict : goal.returns-in-BadLeaf-2-clause-verdict
-returns-in-BadLeaf-2-clause-verdict g c =
-    let s = c.args.context.now in
-    let tree = c.args.tree.now in
-    let n : ℕ = s.demands.nodes in
-    let families : ℕ = length s.crossed.now in
-    let steps = steps_of tree.steps.now in
-    let placed : steps_of c.deref.result.now ≡ placed_steps n families steps = ap steps_of c.deref.ensures.value ∙ c.in_ok-steps.ensures in
-    let rows : ℕ = length tree.rows.now in
-    let cost = g.C.Costs.at s.costs.now in
-    let judged = subst (AreJudgedBy (λ (leaf : List Decision × LeafNumbers) (own : Option ℤ). Unit {0}) (AreRunNumbers n families rows) n
-    (families + rows) [] (steps_of c.deref.result.now)) c.in_default.is c.in_ok-leaf.ensures in
-    let good : AreGoodRunLeaves n families rows steps = subst (AreGoodLeavesBy (AreRunNumbers n families rows) n (families + rows)) placed judged.2 in
-    let entries = c.entries.ensures ∙ ap (λ (room : ℕ). n * (room + 1)) (s.loads.room_is cost) in
-    let all = tree_in s.demands cost s.scale s.unit s.units.now.light s.crossed.now (lent_in s.families.now) tree.near.now tree.rows.now in
-    let placed_again : steps_of c.deref-2.result.now ≡ placed_steps n families steps = ap steps_of c.deref-2.ensures.value ∙ c.in_ok-steps.ensures in
-    let full = subst (AreJudgedBy (IsFoundByRuns all) (AreFewNumbers all) n (families + rows) [] (steps_of c.deref-2.result.now))
-    c.in-BadLeaf-2.is c.in_ok-leaf-2.ensures.judged in (
-      good,
-      subst (λ (k : ℕ). k ≤ most_entries) entries c.if-entries-gt-MOST_ENTRIES.false,
-      subst (λ (xs : List listed.Step). IsFirstBadLeafBy (AreFewNumbers all) n (families + rows) xs c.in-BadLeaf-2.leaf) placed_again full,
-    )
-
 pub returns-clause-verdict : goal.returns-clause-verdict
 returns-clause-verdict g c =
     let s = c.args.context.now in
@@ -105,19 +82,15 @@ returns-clause-verdict g c =
     let families : ℕ = length s.crossed.now in
     let steps = steps_of tree.steps.now in
     let placed : steps_of c.deref.result.now ≡ placed_steps n families steps = ap steps_of c.deref.ensures.value ∙ c.in_ok-steps.ensures in
+    let placed_again : steps_of c.deref-2.result.now ≡ placed_steps n families steps = ap steps_of c.deref-2.ensures.value ∙ c.in_ok-steps.ensures in
     let rows : ℕ = length tree.rows.now in
     let cost = g.C.Costs.at s.costs.now in
-    let judged = subst (AreJudgedBy (λ (leaf : List Decision × LeafNumbers) (own : Option ℤ). Unit {0}) (AreRunNumbers n families rows) n
-    (families + rows) [] (steps_of c.deref.result.now)) c.in_default.is c.in_ok-leaf.ensures in
-    let good : AreGoodRunLeaves n families rows steps = subst (AreGoodLeavesBy (AreRunNumbers n families rows) n (families + rows)) placed judged.2 in
+    let good : AreGoodRunLeaves n families rows steps = subst (AreGoodLeavesBy (AreRunNumbers n families rows) n (families + rows)) placed
+    (all_good (λ (leaf : List Decision × LeafNumbers) (own : Option ℤ). Unit {0}) (AreRunNumbers n families rows) n (families + rows) [] (steps_of c.deref.result.now) c.in_ok-numbers.numbers
+    c.in_ok-numbers.ensures c.in_default.not-BadLeaf) in
     let entries = c.entries.ensures ∙ ap (λ (room : ℕ). n * (room + 1)) (s.loads.room_is cost) in
+    let few = subst (λ (k : ℕ). k ≤ most_entries) entries c.if-entries-gt-MOST_ENTRIES.false in
     let all = tree_in s.demands cost s.scale s.unit s.units.now.light s.crossed.now (lent_in s.families.now) tree.near.now tree.rows.now in
-    let placed_again : steps_of c.deref-2.result.now ≡ placed_steps n families steps = ap steps_of c.deref-2.ensures.value ∙ c.in_ok-steps.ensures in
-    let found = subst (AreJudgedBy (IsFoundByRuns all) (AreFewNumbers all) n (families + rows) [] (steps_of c.deref-2.result.now))
-    c.in-Bound.is c.in_ok-leaf-2.ensures.judged in (
-      good,
-      subst (λ (k : ℕ). k ≤ most_entries) entries c.if-entries-gt-MOST_ENTRIES.false,
-      subst (AreGoodLeavesBy (AreFewNumbers all) n (families + rows)) placed_again found.2,
-      subst (λ (xs : List listed.Step). IsLeastFound (IsFoundByRuns all) (leaves_of ([] ∷ []) (listed_steps n (families + rows) xs)) c.in-Bound.found)
-          placed_again found.1,
-    )
+    IfOk-weaker c.judge_all_runs.result _ _ (λ found judged.
+    verdict_of_judged_runs all steps found good few (subst (λ (xs : List listed.Step). AreRunsJudged all xs found) placed_again judged))
+    c.judge_all_runs.ensures.judged

@@ -21,7 +21,7 @@ returns-then-few-clause-verdict g c =
     let found = IsFoundByQRoutes (loads_problem s.demands cost) s.scale s.unit s.units.now.light (families_with s.crossed.now (lent_in s.families.now)) in
     let is = subst (AreJudgedBy (IsFoundOfFew (nat_le entries 10000000) (loads_problem s.demands cost) s.scale s.unit s.units.now.light
     (families_with s.crossed.now (lent_in s.families.now))) (ArePlanNumbers n families) n families [] steps)
-    c.in-Bound.is c.in_ok-leaf.ensures.judged in (
+    c.in-Bound.is c.in_ok-judged.ensures.judged in (
       is.2,
       subst (λ (k : ℕ). k ≤ most_entries) (c.entries-few.ensures ∙ ap (λ (room : ℕ). n * (room + 1)) (s.loads.room_is cost)) c.if-few.true,
       least_if (nat_le entries 10000000 ≡ true) found (le-leb entries 10000000 c.if-few.true)
@@ -37,7 +37,7 @@ returns-else-few-clause-verdict g c =
     let steps = steps_of c.args.steps.now in
     let is = subst (AreJudgedBy (IsFoundOfFew (nat_le c.entries-few.result 10000000) (loads_problem s.demands cost) s.scale s.unit s.units.now.light
     (families_with s.crossed.now (lent_in s.families.now))) (ArePlanNumbers n families) n families [] steps)
-    c.in-Bound.is c.in_ok-leaf.ensures.judged in (
+    c.in-Bound.is c.in_ok-judged.ensures.judged in (
       is.2,
       subst (λ (k : ℕ). most_entries < k) (c.entries-few.ensures ∙ ap (λ (room : ℕ). n * (room + 1)) (s.loads.room_is cost)) c.if-few.false,
     )

@@ -1,15 +1,13 @@
 -- The goals of `judge_tour_tree` in src/certificate.rt, which bounds by a tree of cases, or returns the first reason:
 -- the facts of the cases that it makes, that places fit 32 bits, and what it ensures.
-use Rattle.tsp_verdict.proofs.Prelude.{◌≡◌, ◌∙◌, ℕ, ℤ, List, map, length, ap, sym, subst, arith, rules, FitsSigned, to_z, of_z, w64, w128, Option, None, Some, unwrap_or, All, Vec, to_z-of_z, length-map, most_fixed, families_of, IsPairOf, IsScale, IsListedStep, nodes_of, memories_listed, Reason, Branches}
+use Rattle.tsp_verdict.proofs.Prelude.{◌≡◌, ◌∙◌, ℕ, List, map, ap, sym, subst, arith, rules, FitsSigned, to_z, of_z, w64, Option, Some, unwrap_or, All, Vec, to_z-of_z, length-map, most_fixed, families_of, IsPairOf, IsScale, IsListedStep, nodes_of, memories_listed, Reason, Branches}
 use Rattle.tsp_format.specs.states.TreeSteps.{step_of, steps_of, subset_rows_of}
 use Rattle.tsp_format.specs.Steps.{SubsetRow}
-use Rattle.tsp_branch.specs.declared.verdict.BranchVerdict.TheVariants as found
-use Rattle.tsp_branch.specs.BranchVerdicts.{IsBranchVerdict, IsSizedVerdict}
 use Rattle.tsp_cases.specs.Crossings.{AreFamiliesOf, lists_of}
 use Rattle.tsp_verdict.proofs.RouteFiles.{steps_hold, steps_few}
 use Rattle.tsp_verdict.proofs.GivenPairs.{given_once, given_are, given_few}
-use Rattle.tsp_verdict.proofs.TreeReasons.{families_hold, families_few, directed_is, symmetric_view, no_tour, are_of, reported, twice_within, bad_within, family_first, pairs_few, pair_first, twice_first, leaf_first, nothing_applies, certified, lists_neither, lists_some, memory_first}
-use Rattle.tsp_verdict.specs.Certified.{AppliesToCertificate}
+use Rattle.tsp_verdict.proofs.TreeReasons.{families_hold, families_few, directed_is, symmetric_view, are_of, reported, lists_neither, lists_some, memory_first, tree_finds, tree_numbered}
+use Rattle.tsp_verdict.specs.Certified.{AppliesToCertificate, FindsBound}
 use Rattle.tsp_verdict.specs.Solutions.{IsFirstReason}
 use Rattle.tsp_verdict.specs.states.MemoryReasons.{IsMemoryReason, IsBadFamilyIfAny}
 use Rattle.tsp_verdict.proofs.certificate.judge_tour_tree.Goals as goal
@@ -66,184 +64,15 @@ returns-in-Some g c =
     subst (λ (r : Reason). IsFirstReason (AppliesToCertificate Branches instance tree) r) (sym c.family_or.ensures)
     (memory_first instance tree c.in_ok-family.family c.in-Some.reason c.requires.kind c.requires.sort c.requires.count bad against)
 
-pub returns-in-Bound-Some : goal.returns-in-Bound-Some
-returns-in-Bound-Some g c =
-    let whole = c.in-Bound-Some.is ∙ ap (λ (o : Option ℤ). found.Bound o) c.in-Bound-Some.field-0-is in
-    let instance = c.args.instance.now in
-    let tree = c.args.branches.now in
-    let n : ℕ = g.C.Costs.nodes c.args.costs.now in
-    let costs = g.C.Costs.at c.args.costs.now in
-    let kept_families = c.args.tree.now.families.now in
-    let families : List (List (List ℕ)) = families_of kept_families in
-    let given = c.deref.result.now in
-    let steps = steps_of c.args.tree.now.steps.now in
-    let lists : List (List ℕ) = map (λ (list : Vec ℕ). list.items) c.args.tree.now.memories.now in
-    let rows : List SubsetRow = subset_rows_of c.args.tree.now.subset_rows.now in
-    let scaled : FitsSigned w64 c.args.tree.now.scale = search rules in
-    let are = are_of instance tree c.is_directed-directed.result n (to_z w64 (of_z w64 c.args.tree.now.scale)) kept_families
-    c.fixed.result.now given steps
-    (directed_is c.is_directed-directed.result instance c.kind.result c.is_directed-directed.ensures c.kind.ensures.value)
-    c.requires.keeps.count
-    (to_z-of_z w64 c.args.tree.now.scale scaled ∙ c.requires.held.scale_is) c.requires.held.families_kept c.fixed.ensures.value
-    (c.deref.ensures.value ∙ c.in_ok-given.ensures) c.requires.held.steps_are
-    (lists_neither c.args.branches.now lists rows c.requires.memory c.in_default.ensures) in
-    let bound = c.in-Bound-Some.bound in
-    let is = subst (IsBranchVerdict c.is_directed-directed.result n costs (to_z w64 (of_z w64 c.args.tree.now.scale)) families
-    given steps) whole c.in_ok-bound.ensures.verdict in
-    let fits : FitsSigned w128 bound = search rules in
-    let all_reported = reported instance tree c.is_directed-directed.result n costs _ families given steps (found.Bound (Some bound)) are
-    is in
-    rw (to_z-of_z w128 bound fits) (
-      nothing_applies c.numbers_are_unique.ensures instance tree costs (Some bound) c.requires.kind c.requires.sort c.requires.count all_reported,
-      certified instance tree costs bound c.case_trees_bound_cycles.ensures.cycles c.requires.kind c.requires.some c.requires.even
-          (subst IsScale c.requires.held.scale_is c.requires.held.scaled) c.requires.keeps.every
-          (subst IsSizedVerdict whole c.in_ok-bound.ensures.size) all_reported,
-    )
-
-pub returns-in-Bound-None : goal.returns-in-Bound-None
-returns-in-Bound-None g c =
-    let whole = c.in-Bound-None.is ∙ ap (λ (o : Option ℤ). found.Bound o) c.in-Bound-None.field-0-is in
-    let instance = c.args.instance.now in
-    let tree = c.args.branches.now in
-    let n : ℕ = g.C.Costs.nodes c.args.costs.now in
-    let costs = g.C.Costs.at c.args.costs.now in
-    let kept_families = c.args.tree.now.families.now in
-    let families : List (List (List ℕ)) = families_of kept_families in
-    let given = c.deref.result.now in
-    let steps = steps_of c.args.tree.now.steps.now in
-    let lists : List (List ℕ) = map (λ (list : Vec ℕ). list.items) c.args.tree.now.memories.now in
-    let rows : List SubsetRow = subset_rows_of c.args.tree.now.subset_rows.now in
-    let scaled : FitsSigned w64 c.args.tree.now.scale = search rules in
-    let are = are_of instance tree c.is_directed-directed.result n (to_z w64 (of_z w64 c.args.tree.now.scale)) kept_families
-    c.fixed.result.now given steps
-    (directed_is c.is_directed-directed.result instance c.kind.result c.is_directed-directed.ensures c.kind.ensures.value)
-    c.requires.keeps.count
-    (to_z-of_z w64 c.args.tree.now.scale scaled ∙ c.requires.held.scale_is) c.requires.held.families_kept c.fixed.ensures.value
-    (c.deref.ensures.value ∙ c.in_ok-given.ensures) c.requires.held.steps_are
-    (lists_neither c.args.branches.now lists rows c.requires.memory c.in_default.ensures) in
-    let is = subst (IsBranchVerdict c.is_directed-directed.result n costs (to_z w64 (of_z w64 c.args.tree.now.scale)) families
-    given steps) whole c.in_ok-bound.ensures.verdict in
-    let all_reported = reported instance tree c.is_directed-directed.result n costs _ families given steps (found.Bound None) are is in
-    let gone = no_tour instance tree costs c.case_trees_bound_cycles.ensures.cycles c.requires.kind c.requires.some c.requires.even
-    (subst IsScale c.requires.held.scale_is c.requires.held.scaled) c.requires.keeps.every all_reported in
-    (nothing_applies c.numbers_are_unique.ensures instance tree costs None c.requires.kind c.requires.sort c.requires.count all_reported, gone.0, gone.1)
-
-pub returns-in-BadFamily : goal.returns-in-BadFamily
-returns-in-BadFamily g c =
-    let instance = c.args.instance.now in
-    let tree = c.args.branches.now in
-    let n : ℕ = g.C.Costs.nodes c.args.costs.now in
-    let costs = g.C.Costs.at c.args.costs.now in
-    let kept_families = c.args.tree.now.families.now in
-    let families : List (List (List ℕ)) = families_of kept_families in
-    let given = c.deref.result.now in
-    let steps = steps_of c.args.tree.now.steps.now in
-    let lists : List (List ℕ) = map (λ (list : Vec ℕ). list.items) c.args.tree.now.memories.now in
-    let rows : List SubsetRow = subset_rows_of c.args.tree.now.subset_rows.now in
-    let scaled : FitsSigned w64 c.args.tree.now.scale = search rules in
-    let are = are_of instance tree c.is_directed-directed.result n (to_z w64 (of_z w64 c.args.tree.now.scale)) kept_families
-    c.fixed.result.now given steps
-    (directed_is c.is_directed-directed.result instance c.kind.result c.is_directed-directed.ensures c.kind.ensures.value)
-    c.requires.keeps.count
-    (to_z-of_z w64 c.args.tree.now.scale scaled ∙ c.requires.held.scale_is) c.requires.held.families_kept c.fixed.ensures.value
-    (c.deref.ensures.value ∙ c.in_ok-given.ensures) c.requires.held.steps_are
-    (lists_neither c.args.branches.now lists rows c.requires.memory c.in_default.ensures) in
-    let is = subst (IsBranchVerdict c.is_directed-directed.result n costs (to_z w64 (of_z w64 c.args.tree.now.scale)) families
-    given steps) c.in-BadFamily.is c.in_ok-bound.ensures.verdict in
-    family_first instance tree costs c.in-BadFamily.index c.requires.kind c.requires.sort c.requires.count
-    (reported instance tree c.is_directed-directed.result n costs _ families given steps (found.BadFamily c.in-BadFamily.index) are is)
-
-pub overflow_cast-result-in-BadBranch : goal.overflow_cast-result-in-BadBranch
-overflow_cast-result-in-BadBranch g c =
-    let n : ℕ = g.C.Costs.nodes c.args.costs.now in
-    let steps = steps_of c.args.tree.now.steps.now in
-    let is = subst (IsBranchVerdict c.is_directed-directed.result n _ _ _ _ steps) c.in-BadBranch.is
-    c.in_ok-bound.ensures.verdict in
-    omega (
-      arith,
-      is.2.inside,
-      pairs_few steps,
-      length-map c.args.tree.now.steps.now step_of,
-      steps_few c.args.branches.now c.args.tree.now.steps.now c.requires.held.each_step,
-    )
-
-pub returns-in-BadBranch : goal.returns-in-BadBranch
-returns-in-BadBranch g c =
-    let instance = c.args.instance.now in
-    let tree = c.args.branches.now in
-    let n : ℕ = g.C.Costs.nodes c.args.costs.now in
-    let costs = g.C.Costs.at c.args.costs.now in
-    let kept_families = c.args.tree.now.families.now in
-    let families : List (List (List ℕ)) = families_of kept_families in
-    let given = c.deref.result.now in
-    let steps = steps_of c.args.tree.now.steps.now in
-    let lists : List (List ℕ) = map (λ (list : Vec ℕ). list.items) c.args.tree.now.memories.now in
-    let rows : List SubsetRow = subset_rows_of c.args.tree.now.subset_rows.now in
-    let scaled : FitsSigned w64 c.args.tree.now.scale = search rules in
-    let are = are_of instance tree c.is_directed-directed.result n (to_z w64 (of_z w64 c.args.tree.now.scale)) kept_families
-    c.fixed.result.now given steps
-    (directed_is c.is_directed-directed.result instance c.kind.result c.is_directed-directed.ensures c.kind.ensures.value)
-    c.requires.keeps.count
-    (to_z-of_z w64 c.args.tree.now.scale scaled ∙ c.requires.held.scale_is) c.requires.held.families_kept c.fixed.ensures.value
-    (c.deref.ensures.value ∙ c.in_ok-given.ensures) c.requires.held.steps_are
-    (lists_neither c.args.branches.now lists rows c.requires.memory c.in_default.ensures) in
-    let is = subst (IsBranchVerdict c.is_directed-directed.result n costs (to_z w64 (of_z w64 c.args.tree.now.scale)) families
-    given steps) c.in-BadBranch.is c.in_ok-bound.ensures.verdict in
-    pair_first instance tree costs c.in-BadBranch.index c.requires.kind c.requires.sort c.requires.count
-    (reported instance tree c.is_directed-directed.result n costs _ families given steps (found.BadBranch c.in-BadBranch.index) are
-    is)
-
-pub overflow_cast-result-in-BranchTwice : goal.overflow_cast-result-in-BranchTwice
-overflow_cast-result-in-BranchTwice g c =
-    let steps = steps_of c.args.tree.now.steps.now in
-    let given = c.deref.result.now in
-    let is = subst (IsBranchVerdict c.is_directed-directed.result _ _ _ _ given steps) c.in-BranchTwice.is
-    c.in_ok-bound.ensures.verdict in
-    omega (
-      arith,
-      twice_within c.is_directed-directed.result given steps c.in-BranchTwice.index is.3,
-      length-map c.args.tree.now.steps.now step_of,
-      steps_few c.args.branches.now c.args.tree.now.steps.now c.requires.held.each_step,
-    )
-
-pub returns-in-BranchTwice : goal.returns-in-BranchTwice
-returns-in-BranchTwice g c =
-    let instance = c.args.instance.now in
-    let tree = c.args.branches.now in
-    let n : ℕ = g.C.Costs.nodes c.args.costs.now in
-    let costs = g.C.Costs.at c.args.costs.now in
-    let kept_families = c.args.tree.now.families.now in
-    let families : List (List (List ℕ)) = families_of kept_families in
-    let given = c.deref.result.now in
-    let steps = steps_of c.args.tree.now.steps.now in
-    let lists : List (List ℕ) = map (λ (list : Vec ℕ). list.items) c.args.tree.now.memories.now in
-    let rows : List SubsetRow = subset_rows_of c.args.tree.now.subset_rows.now in
-    let scaled : FitsSigned w64 c.args.tree.now.scale = search rules in
-    let are = are_of instance tree c.is_directed-directed.result n (to_z w64 (of_z w64 c.args.tree.now.scale)) kept_families
-    c.fixed.result.now given steps
-    (directed_is c.is_directed-directed.result instance c.kind.result c.is_directed-directed.ensures c.kind.ensures.value)
-    c.requires.keeps.count
-    (to_z-of_z w64 c.args.tree.now.scale scaled ∙ c.requires.held.scale_is) c.requires.held.families_kept c.fixed.ensures.value
-    (c.deref.ensures.value ∙ c.in_ok-given.ensures) c.requires.held.steps_are
-    (lists_neither c.args.branches.now lists rows c.requires.memory c.in_default.ensures) in
-    let is = subst (IsBranchVerdict c.is_directed-directed.result n costs (to_z w64 (of_z w64 c.args.tree.now.scale)) families
-    given steps) c.in-BranchTwice.is c.in_ok-bound.ensures.verdict in
-    twice_first instance tree costs c.in-BranchTwice.index c.requires.kind c.requires.sort c.requires.count
-    (reported instance tree c.is_directed-directed.result n costs _ families given steps (found.BranchTwice c.in-BranchTwice.index) are
-    is)
-
-pub overflow_cast-result-in-BadLeaf : goal.overflow_cast-result-in-BadLeaf
-overflow_cast-result-in-BadLeaf g c =
-    let n : ℕ = g.C.Costs.nodes c.args.costs.now in
-    let steps = steps_of c.args.tree.now.steps.now in
-    let is = subst (IsBranchVerdict c.is_directed-directed.result n _ _ _ _ steps) c.in-BadLeaf.is
-    c.in_ok-bound.ensures.verdict in
-    omega (
-      arith,
-      bad_within n is.crossed steps c.in-BadLeaf.index is.leaves,
-      length-map c.args.tree.now.steps.now step_of,
-      steps_few c.args.branches.now c.args.tree.now.steps.now c.requires.held.each_step,
-    )
+pub found_by_tree-requires : goal.found_by_tree-requires
+found_by_tree-requires g c =
+    let tree = c.args.tree.now in
+    let held = c.requires.held in
+    let few_families = held.each_family.few in
+    tree_numbered c.is_directed-directed.result _ _ _ (families_of tree.families.now) c.deref.result.now (steps_of tree.steps.now) c.in_ok-verdict.verdict
+    (omega (arith, few_families))
+    (omega (arith, length-map tree.steps.now step_of, steps_few c.args.branches.now tree.steps.now held.each_step))
+    c.in_ok-verdict.ensures.verdict
 
 pub returns : goal.returns
 returns g c =
@@ -252,7 +81,6 @@ returns g c =
     let n : ℕ = g.C.Costs.nodes c.args.costs.now in
     let costs = g.C.Costs.at c.args.costs.now in
     let kept_families = c.args.tree.now.families.now in
-    let families : List (List (List ℕ)) = families_of kept_families in
     let given = c.deref.result.now in
     let steps = steps_of c.args.tree.now.steps.now in
     let lists : List (List ℕ) = map (λ (list : Vec ℕ). list.items) c.args.tree.now.memories.now in
@@ -265,7 +93,9 @@ returns g c =
     (to_z-of_z w64 c.args.tree.now.scale scaled ∙ c.requires.held.scale_is) c.requires.held.families_kept c.fixed.ensures.value
     (c.deref.ensures.value ∙ c.in_ok-given.ensures) c.requires.held.steps_are
     (lists_neither c.args.branches.now lists rows c.requires.memory c.in_default.ensures) in
-    let is = subst (IsBranchVerdict c.is_directed-directed.result n costs (to_z w64 (of_z w64 c.args.tree.now.scale)) families
-    given steps) c.in-BadLeaf.is c.in_ok-bound.ensures.verdict in
-    leaf_first instance tree costs c.in-BadLeaf.index c.requires.kind c.requires.sort c.requires.count
-    (reported instance tree c.is_directed-directed.result n costs _ families given steps (found.BadLeaf c.in-BadLeaf.index) are is)
+    subst (FindsBound Branches instance tree) (sym c.found_by_tree.ensures)
+    (tree_finds c.numbers_are_unique.ensures c.case_trees_bound_cycles.ensures.cycles instance tree costs c.in_ok-verdict.verdict
+    c.requires.kind c.requires.sort c.requires.count c.requires.some c.requires.even
+    (subst IsScale c.requires.held.scale_is c.requires.held.scaled) c.requires.keeps.every c.in_ok-verdict.ensures.size
+    (reported instance tree c.is_directed-directed.result n costs _ (families_of kept_families) given steps c.in_ok-verdict.verdict are
+    c.in_ok-verdict.ensures.verdict))

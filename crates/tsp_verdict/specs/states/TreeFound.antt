@@ -1,0 +1,30 @@
+-- What a certificate gives, by the verdict on its tree of cases: one table for tours and for routes.
+use Rattle.tsp_verdict.specs.Prelude.{None, Some, BadFamily, BadMemory, BadRow, BadBranch, BranchTwice, BadLeaf, TooManyLoads, TooManyStates}
+use Rattle.std.specs.Prelude.{◌<◌, ◌^◌}
+use Rattle.tsp_cases.specs.declared.judged.TreeVerdict.{TreeVerdict}
+use Rattle.tsp_cases.specs.declared.judged.TreeVerdict.TheVariants as trees
+use Rattle.tsp_report.specs.declared.verdict.BoundVerdict.{BoundVerdict}
+use Rattle.tsp_report.specs.declared.verdict.BoundVerdict.TheVariants as bounds
+
+-- its bound, that there is no solution, or the reason against it
+abbrev pub found_by_tree : TreeVerdict → BoundVerdict
+found_by_tree (trees.Bound (Some bound)) = bounds.Bound bound
+found_by_tree (trees.Bound None) = bounds.NoSolution
+found_by_tree (trees.BadFamily index) = bounds.No (BadFamily index)
+found_by_tree (trees.BadMemory node) = bounds.No (BadMemory node)
+found_by_tree (trees.BadRow index) = bounds.No (BadRow index)
+found_by_tree (trees.BadBranch index) = bounds.No (BadBranch index)
+found_by_tree (trees.BranchTwice index) = bounds.No (BranchTwice index)
+found_by_tree (trees.BadLeaf index) = bounds.No (BadLeaf index)
+found_by_tree trees.TooManyLoads = bounds.No TooManyLoads
+found_by_tree (trees.TooManyStates index) = bounds.No (TooManyStates index)
+
+-- its number fits 32 bits
+abbrev pub IsNumbered : TreeVerdict → Type 0
+IsNumbered (trees.BadFamily index) = index < 2 ^ 32
+IsNumbered (trees.BadRow index) = index < 2 ^ 32
+IsNumbered (trees.BadBranch index) = index < 2 ^ 32
+IsNumbered (trees.BranchTwice index) = index < 2 ^ 32
+IsNumbered (trees.BadLeaf index) = index < 2 ^ 32
+IsNumbered (trees.TooManyStates index) = index < 2 ^ 32
+IsNumbered other = Unit {0}
