@@ -1,5 +1,5 @@
 -- The lists of kept states: what is added to them covers each start that goes on from a covered one.
-use Rattle.tsp_routing.proofs.Prelude.{◌≡◌, ◌≢◌, ℕ, zero, suc, ◌+◌, ◌*◌, ◌^◌, ◌≤◌, ◌<◌, List, [], ◌∷◌, ◌++◌, take, length, get_or, refl, sym, ap, ◌∙◌, subst, arith, inl, inr, ◌⊎◌, Some, None, ℤ, pos, neg_ℤ, ◌+ℤ◌, ◌≤ℤ◌, All, Contains, ints, cases_eq, take_more, take-take, All-push, All-append, All-take, All-contains, Contains-append_left, Contains-push, Contains-push_cases, All-weaker, IsFromTo, IsCustomer}
+use Rattle.tsp_routing.proofs.Prelude.{◌≡◌, ◌≢◌, ℕ, zero, suc, ◌+◌, ◌*◌, ◌^◌, ◌≤◌, ◌<◌, List, [], ◌∷◌, ◌++◌, take, length, get_or, refl, sym, ap, ◌∙◌, subst, arith, inl, inr, ◌⊎◌, Some, None, ℤ, pos, neg_ℤ, ◌+ℤ◌, ◌≤ℤ◌, All, Contains, ints, cases_eq, append-nil, get_or_default, take_more, take-take, All-push, All-append, All-take, All-contains, Contains-append_left, Contains-push, Contains-push_cases, All-weaker, IsFromTo, IsCustomer}
 use Rattle.tsp_routing.specs.Runs.{RunRules, RunState, next_state, MayServe}
 use Rattle.tsp_routing.specs.KeptStates.{IsKeptState}
 use Rattle.tsp_routing.specs.Memories.{Remembers}
@@ -115,6 +115,27 @@ adds_none rules limit load before last entries = record {
   covers = λ earlier start load_is covers. absurd (let lt = covers.there.1 in omega (arith, lt));
   keeps = λ entry there. there;
 }
+
+-- nothing goes on from entries from none of which anything goes on
+pub adds_nothing : (rules : RunRules) (limit : ℤ) (load before last left : ℕ) (befores entries : List KeptState) (count : ℕ)
+    → count ≤ length befores → load + rules.load last + left ≡ rules.room
+    → ((index : ℕ) (default : KeptState) (state : RunState) → index < length befores
+    → Remembers rules state (get_or befores index default).word → state.last ≡ before
+    → state.load + rules.load last + left ≡ rules.room
+    → IsNextEntry rules limit state (get_or befores index default).weight last None)
+    → AddsNexts rules limit load before last (take count befores) entries entries
+adds_nothing rules limit load before last left befores entries zero le full none = adds_none rules limit load before last entries
+adds_nothing rules limit load before last left befores entries (suc count) le full none =
+    let one : count + 1 ≡ suc count = omega arith in
+    subst (λ (k : ℕ). AddsNexts rules limit load before last (take k befores) entries entries) one
+    (adds_more rules limit load before last left befores entries entries entries [] count
+    (get_or befores count (record { word = 0; weight = pos 0 })) (omega (arith, le))
+    (get_or_default befores count (record { word = 0; weight = pos 0 }) (get_or befores count (record { word = 0; weight = pos 0 }))
+    (omega (arith, le)))
+    full
+    (λ state remembers at full. inl (refl, none count (record { word = 0; weight = pos 0 }) state (omega (arith, le)) remembers at full))
+    (sym (append-nil entries))
+    (adds_nothing rules limit load before last left befores entries count (omega (arith, le)) full none))
 
 -- ---- how large weights are
 

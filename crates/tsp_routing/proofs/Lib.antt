@@ -14,8 +14,10 @@ pub mod KeptStarts
 pub mod WaysHome
 pub mod Words
 pub mod MemoryWords
+pub mod MemorySteps
 pub mod Starts
 pub mod NextEntries
+pub mod LeafEntries
 pub mod GivenKeys
 pub mod GivenTables
 pub mod KeptLists

@@ -3,7 +3,7 @@ use Rattle.tsp_routing.proofs.Prelude.{◌≡◌, ◌≢◌, ℕ, zero, suc, ◌
 use Rattle.tsp_routing.specs.Runs.{keeps, RunRules, RunState, first_state, next_state, is_charged, charged}
 use Rattle.tsp_format.specs.Steps.{SubsetRow}
 use Rattle.tsp_routing.specs.declared.memory_key.MemoryKey.{MemoryKey}
-use Rattle.tsp_routing.specs.states.MemoryTables.{IsKeyPlace, next_bit, pays_for}
+use Rattle.tsp_routing.specs.states.MemoryTables.{IsKeyPlace}
 use Rattle.tsp_routing.specs.Memories.{row_keys, keys_of, odd_at, told, in_row, is_member_of, memory_word, memory_of, Remembers}
 
 -- ---- lists of keys
@@ -321,36 +321,3 @@ pub first_bits : (rules : RunRules) (customer : ℕ) (keys : List MemoryKey)
 first_bits rules customer [] all = refl
 first_bits rules customer (key ∷ keys) all =
     ap₂ (λ (bit : Bool) (bits : List Bool). bit ∷ bits) (all.0 ∙ sym (first_told rules customer key.key)) (first_bits rules customer keys all.1)
-
--- a key of the next customer: its bit
-pub bit_goes_on : (rules : RunRules) (state : RunState) (nodes last next : ℕ) (key : MemoryKey) (is_told : Bool)
-    → rules.nodes ≡ nodes → state.last ≡ last → All (IsNode rules.nodes) (rules.near next)
-    → has (keys_of rules.nodes rules.near rules.rows next) key.key ≡ true
-    → key.is_member ≡ is_member_of rules.nodes rules.rows next key.key → is_told ≡ told rules.nodes rules.rows state key.key
-    → next_bit nodes last key is_told ≡ told rules.nodes rules.rows (next_state rules state next) key.key
-bit_goes_on rules state nodes last next key is_told same at near there member tells =
-    let place : ℕ = key.key in
-    let now : Bool = told rules.nodes rules.rows state place in
-    sym (ap (λ (n : ℕ). next_bit n last key is_told) same)
-    ∙ (sym (ap (λ (v : ℕ). next_bit rules.nodes v key is_told) at)
-    ∙ (ap₂ (λ (t m : Bool). if nat_le place rules.nodes then (t || (place == state.last)) else (if m then not t else t)) tells member
-    ∙ sym (next_told rules state next place near there)))
-
--- and what a step pays for it
-pub key_pays : (rules : RunRules) (charges : List ℤ) (state : RunState) (nodes next : ℕ) (key : MemoryKey) (is_told : Bool)
-    → rules.nodes ≡ nodes → key.is_member ≡ is_member_of rules.nodes rules.rows next key.key
-    → is_told ≡ told rules.nodes rules.rows state key.key
-    → pays_for nodes charges key is_told ≡ pays rules.nodes rules.rows charges state next key.key
-key_pays rules charges state nodes next key is_told same member tells =
-    sym (ap (λ (n : ℕ). pays_for n charges key is_told) same)
-    ∙ ap₂ (λ (t m : Bool). if t && m then get_or charges (key.key - (rules.nodes + 1)) (pos 0) else pos 0) tells member
-
--- a key of a list is there
-pub key_there : (keys : List MemoryKey) (place : ℕ) (key : MemoryKey) → place < length keys → key ≡ get_or keys place key
-    → has (map (λ (it : MemoryKey). it.key) keys) key.key ≡ true
-key_there keys place key lt is =
-    let list : List ℕ = map (λ (it : MemoryKey). it.key) keys in
-    let long = length-map keys (λ (it : MemoryKey). it.key) in
-    let same : get_or list place 0 ≡ key.key =
-    get_or-map (λ (it : MemoryKey). it.key) keys place key 0 lt ∙ sym (ap (λ (it : MemoryKey). it.key) is) in
-    subst (λ (k : ℕ). has list k ≡ true) same (has_at list place (omega (arith, lt, long)))

@@ -4,6 +4,7 @@ pub mod Demands
 pub mod Judged
 pub mod RunTables
 pub mod MemoryTables
+pub mod MemorySteps
 pub mod KeptLists
 pub mod KeptCounts
 pub mod GivenMemories

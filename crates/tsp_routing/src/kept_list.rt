@@ -13,6 +13,7 @@ use crate::kept_state::KeptState;
 use crate::next_entries::{add_nexts, entry_at};
 use crate::next_entry::Serving;
 use crate::run_leaf::RunLeaf;
+use crate::ways_home::home_at;
 use std::alloc::Global;
 use tsp_io::{Refused, push, sort};
 use tsp_theory::weight_in;
@@ -70,7 +71,7 @@ fn all_entries(
 {
     let mut entries = first_entries(alloc, leaf, last, table.len())?;
     'befores: for index in 0..leaf.nodes.nodes {
-        add_from(leaf, table, index + 1, last, &mut entries)?;
+        add_from(alloc, leaf, table, index + 1, last, &mut entries)?;
     }
     Ok(entries)
 }
@@ -109,6 +110,7 @@ fn first_entries(
 ///
 /// Out of memory.
 fn add_from(
+    alloc: Global,
     leaf: &RunLeaf,
     table: &[Vec<Vec<KeptState>>],
     before: u32,
@@ -133,14 +135,16 @@ fn add_from(
     if before == last {
         return Ok(());
     }
+    let left = leaf.nodes.room - table.len();
     let serving = Serving {
         before,
         last,
         link: weight_in(leaf.nodes.row(before), last),
-        left: leaf.nodes.room - table.len(),
+        left,
+        home: home_at(leaf.homes, left, last),
     };
     let befores = list_at(table, table.len() - leaf.nodes.load(last) as usize, before);
-    add_nexts(leaf, serving, befores, entries)?;
+    add_nexts(alloc, leaf, serving, befores, entries)?;
     Ok(())
 }
 

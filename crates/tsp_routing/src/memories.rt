@@ -2,10 +2,13 @@
 
 ghost use Rattle.std.specs.Prelude.{◌≡◌, ◌≤◌, ◌<◌, ◌+◌, ◌-◌, ◌*◌, ◌^◌, ℕ, ℤ, List, Bool, length, slice_index_or, true, false, pos, neg_ℤ, ◌+ℤ◌, ◌-ℤ◌, if◌then◌else◌};
 ghost use Rattle.tsp_format.specs.Steps.{IsFromTo};
-ghost use Rattle.tsp_routing.specs.Memories.{memory_word};
-ghost use Rattle.tsp_routing.specs.states.MemoryTables.{AreMemoryTables, IsKeyIn, next_bit, pays_for};
+ghost use Rattle.tsp_routing.specs.Memories.{memory_word, charge_of};
+ghost use Rattle.tsp_routing.specs.states.MemoryTables.{AreMemoryTables, IsKeyIn};
+ghost use Rattle.tsp_routing.specs.states.MemorySteps.{step_key_of, bit_after, word_after, charge_after};
 
-use crate::memory_key::MemoryKey;
+use crate::memory_key::{MemoryKey, StepKey};
+use std::alloc::Global;
+use tsp_io::{Refused, push, with_capacity};
 
 /// What each of the nodes 1 to `nodes` keeps, of the nodes and of `count` rows, and for each node
 /// the bits of all keys; 64 for a key that it doesn't keep. The lists have a place 0 that isn't
@@ -27,12 +30,12 @@ pub(crate) struct MemoryStep {
 }
 
 impl Memories {
-    ghost use Rattle.tsp_routing.specs.Prelude.{pos, neg_ℤ, map, length, ℤ, IsNode, IsFromTo};
-    ghost use Rattle.std.specs.Prelude.{◌≡◌, ◌≤◌, ◌+◌, ◌^◌};
-    ghost use Rattle.tsp_routing.specs.Runs.{RunRules, RunState, first_state, next_state, charged};
-    ghost use Rattle.tsp_format.specs.Steps.{SubsetRow};
+    ghost use Rattle.tsp_routing.specs.Prelude.{map, length, IfOk, IsNode};
+    ghost use Rattle.std.specs.Prelude.{◌≡◌, ◌≤◌, ◌+◌};
+    ghost use Rattle.tsp_routing.specs.Runs.{RunRules, RunState, first_state};
     ghost use Rattle.tsp_routing.specs.Memories.{told, Remembers};
     ghost use Rattle.tsp_routing.specs.states.MemoryTables.{keys_in, key_places_in, key_place_in, AreMemoriesOf};
+    ghost use Rattle.tsp_routing.specs.states.MemorySteps.{step_key_of};
 
     /// What a customer keeps.
     fn keys(&self, customer: u32) -> &[MemoryKey]
@@ -88,29 +91,97 @@ impl Memories {
         word
     }
 
-    /// The memory after one more customer, and what the step pays.
-    pub(crate) fn step(&self, charges: &[i64], last: u32, word: u64, next: u32) -> MemoryStep
+    /// What a step from one customer to another makes of each key.
+    ///
+    /// # Errors
+    ///
+    /// Out of memory.
+    pub(crate) fn steps(
+        &self,
+        alloc: Global,
+        charges: &[i64],
+        last: u32,
+        next: u32,
+    ) -> Result<Vec<StepKey>, Refused>
         requires charges { length charges.now ≡ self.now.count }
         requires last { IsNode self.now.nodes last }
         requires next { IsNode self.now.nodes next }
-        ensures word { (rules : RunRules) (state : RunState) → rules.nodes ≡ self.now.nodes
-            → AreMemoriesOf rules self.now.count self.now.keys.items self.now.places.items
-            → Remembers rules state word → state.last ≡ last → Remembers rules (next_state rules state next) result.word }
-        ensures charge { (rules : RunRules) (state : RunState) → rules.nodes ≡ self.now.nodes
-            → AreMemoriesOf rules self.now.count self.now.keys.items self.now.places.items
-            → map (λ (row : SubsetRow × ℤ). row.1) rules.rows ≡ charges.now
-            → Remembers rules state word → state.last ≡ last → result.charge ≡ charged rules state next }
-        ensures size { IsFromTo (neg_ℤ (pos (2 ^ 70))) (pos (2 ^ 70)) result.charge }
+        ensures { IfOk result (λ steps. steps.items ≡ map (step_key_of self.now.nodes charges.now
+            (key_places_in self.now.places.items last) last) (keys_in self.now.keys.items next)) }
     {
         let keys = self.keys(next);
-        let mut step = MemoryStep { word: 0, charge: 0 };
-        'bits: for index in 0..keys.len() {
-            let key = key_from_last(keys, index);
-            let is_told = self.tells(last, word, key.key);
-            step = with_key(step, self.nodes, charges, last, key, is_told);
+        let places = self.places(last);
+        let mut steps = with_capacity(alloc, keys.len())?;
+        'keys: for index in 0..keys.len() {
+            let key = step_key(self.nodes, charges, places, last, key_at(keys, index));
+            push(&mut steps, key)?;
         }
-        step
+        Ok(steps)
     }
+}
+
+/// A key of a list.
+#[inline]
+fn key_at(keys: &[MemoryKey], index: usize) -> MemoryKey
+    requires { index < length keys.now }
+    ensures { (default : MemoryKey) → result ≡ slice_index_or keys.now index default }
+{
+    keys[index]
+}
+
+/// What a step makes of a key.
+#[inline]
+fn step_key(nodes: u32, charges: &[i64], places: &[u8], last: u32, key: MemoryKey) -> StepKey
+    requires key { IsKeyIn nodes (length charges.now) key }
+    requires places { length places.now ≡ nodes + length charges.now + 1 }
+    ensures { result ≡ step_key_of nodes charges.now places.now last key }
+{
+    let is_last = key.key == last;
+    StepKey {
+        place: if is_last {
+            64
+        } else {
+            places[key.key as usize]
+        },
+        flips: is_last || key.is_member,
+        charge: charge_in(nodes, charges, key),
+    }
+}
+
+/// What a step pays for a key that is told.
+#[inline]
+fn charge_in(nodes: u32, charges: &[i64], key: MemoryKey) -> i64
+    requires { IsKeyIn nodes (length charges.now) key }
+    ensures { result ≡ (if key.is_member then charge_of nodes charges.now key.key else pos 0) }
+{
+    if key.is_member {
+        return charges[(key.key - nodes) as usize - 1];
+    }
+    0
+}
+
+/// The memory after a step, and what the step pays.
+pub(crate) fn step(steps: &[StepKey], word: u64) -> MemoryStep
+    requires { length steps.now ≤ 64 }
+    ensures word { (bits : List Bool) → length bits ≤ 64 → word ≡ memory_word bits → result.word ≡ word_after steps.now bits }
+    ensures charge { (bits : List Bool) → length bits ≤ 64 → word ≡ memory_word bits → result.charge ≡ charge_after steps.now bits }
+    ensures size { IsFromTo (neg_ℤ (pos (2 ^ 70))) (pos (2 ^ 70)) result.charge }
+{
+    let mut step = MemoryStep { word: 0, charge: 0 };
+    'bits: for index in 0..steps.len() {
+        let key = step_from_last(steps, index);
+        step = with_key(step, key, has_bit(word, key.place));
+    }
+    step
+}
+
+/// The key so many places before the last one.
+#[inline]
+fn step_from_last(steps: &[StepKey], back: usize) -> StepKey
+    requires { back < length steps.now }
+    ensures { (default : StepKey) → result ≡ slice_index_or steps.now (length steps.now - 1 - back) default }
+{
+    steps[steps.len() - 1 - back]
 }
 
 /// The key so many places before the last one.
@@ -144,41 +215,15 @@ fn with_bit(word: u64, bit: bool) -> u64
 
 /// A step with one key more.
 #[inline]
-fn with_key(
-    step: MemoryStep,
-    nodes: u32,
-    charges: &[i64],
-    last: u32,
-    key: MemoryKey,
-    is_told: bool,
-) -> MemoryStep
+fn with_key(step: MemoryStep, key: StepKey, is_told: bool) -> MemoryStep
     requires word { step.word < 2 ^ 63 }
     requires charge { IsFromTo (neg_ℤ (pos (2 ^ 70))) (pos (2 ^ 70)) step.charge }
-    requires key { IsKeyIn nodes (length charges.now) key }
-    ensures word { result.word ≡ (if next_bit nodes last key is_told then 1 else 0) + 2 * step.word }
-    ensures charge { result.charge ≡ step.charge +ℤ pays_for nodes charges.now key is_told }
+    ensures word { result.word ≡ (if bit_after key is_told then 1 else 0) + 2 * step.word }
+    ensures charge { result.charge ≡ step.charge +ℤ (if is_told then key.charge else pos 0) }
     ensures size { IsFromTo (step.charge -ℤ pos (2 ^ 63)) (step.charge +ℤ pos (2 ^ 63)) result.charge }
 {
-    let bit = if key.key <= nodes {
-        is_told || key.key == last
-    } else {
-        is_told != key.is_member
-    };
     MemoryStep {
-        word: with_bit(step.word, bit),
-        charge: step.charge + paid(nodes, charges, key, is_told),
+        word: with_bit(step.word, is_told != key.flips),
+        charge: step.charge + if is_told { i128::from(key.charge) } else { 0 },
     }
-}
-
-/// What a step pays for a key.
-#[inline]
-fn paid(nodes: u32, charges: &[i64], key: MemoryKey, is_told: bool) -> i128
-    requires { IsKeyIn nodes (length charges.now) key }
-    ensures value { result ≡ pays_for nodes charges.now key is_told }
-    ensures size { IsFromTo (neg_ℤ (pos (2 ^ 63))) (pos (2 ^ 63)) result }
-{
-    if is_told && key.is_member {
-        return i128::from(charges[(key.key - nodes) as usize - 1]);
-    }
-    0
 }

@@ -7,31 +7,40 @@ ghost use Rattle.tsp_routing.specs.Runs.{RunState};
 ghost use Rattle.tsp_format.specs.Steps.{SubsetRow};
 ghost use Rattle.tsp_routing.specs.Memories.{Remembers};
 ghost use Rattle.tsp_routing.specs.states.Demands.{load_at};
-ghost use Rattle.tsp_routing.specs.states.RunTables.{link_in};
-ghost use Rattle.tsp_routing.specs.states.KeptLists.{rules_of, IsLeafOf, IsNextEntry};
+ghost use Rattle.tsp_routing.specs.states.RunTables.{link_in, home_in};
+ghost use Rattle.tsp_routing.specs.states.KeptLists.{rules_of, steps_in, IsLeafOf, IsNextEntry};
 
 use crate::kept_state::KeptState;
+use crate::memories::step;
+use crate::memory_key::StepKey;
 use crate::run_leaf::RunLeaf;
-use crate::ways_home::home_at;
 
-/// A customer that is served after another, the weight of the link between them, and what the route
-/// can carry then.
+/// A customer that is served after another, the weight of the link between them, what the route
+/// can carry then, and what the cheapest way home weighs from there.
 #[derive(Clone, Copy)]
 pub(crate) struct Serving {
     pub(crate) before: u32,
     pub(crate) last: u32,
     pub(crate) link: i64,
     pub(crate) left: usize,
+    pub(crate) home: i128,
 }
 
 /// The entry of the next state; `None` if the run remembers the customer, or if no way home
-/// ends below the limit. Most steps end at the first test, which forgets what the step pays.
-pub(crate) fn next_entry(leaf: &RunLeaf, serving: Serving, entry: KeptState) -> Option<KeptState>
+/// ends below the limit.
+pub(crate) fn next_entry(
+    leaf: &RunLeaf,
+    serving: Serving,
+    steps: &[StepKey],
+    entry: KeptState,
+) -> Option<KeptState>
     requires before { IsCustomer leaf.now.nodes.now.nodes leaf.now.nodes.now.depot serving.before }
     requires last { IsCustomer leaf.now.nodes.now.nodes leaf.now.nodes.now.depot serving.last }
     requires other { serving.before ≢ serving.last }
     requires link { serving.link ≡ link_in leaf.now.nodes.now.rows.now serving.before serving.last }
     requires left { serving.left ≤ leaf.now.nodes.now.room }
+    requires home { serving.home ≡ home_in leaf.now.homes.now serving.left serving.last }
+    requires steps { steps.now ≡ steps_in leaf.now serving.before serving.last }
     requires size { IsFromTo (neg_ℤ (pos (2 ^ 96))) (pos (2 ^ 96)) entry.weight }
     ensures exact { (near : ℕ → List ℕ) (rows : List (SubsetRow × ℤ)) (state : RunState) → IsLeafOf leaf.now near rows
         → Remembers (rules_of leaf.now near rows) state entry.word → state.last ≡ serving.before
@@ -39,26 +48,19 @@ pub(crate) fn next_entry(leaf: &RunLeaf, serving: Serving, entry: KeptState) -> 
         → IsNextEntry (rules_of leaf.now near rows) leaf.now.limit state entry.weight serving.last result }
     ensures size { IfSome result (λ next. IsFromTo (entry.weight +ℤ neg_ℤ (pos (2 ^ 72))) (entry.weight +ℤ pos (2 ^ 72)) next.weight) }
 {
-    let home = home_at(leaf.homes, serving.left, serving.last);
-    let least = weight_after(entry.weight, serving.link, 0);
-    if !is_below(leaf.limit, least, home) {
-        return None;
-    }
     if leaf
         .memories
         .tells(serving.before, entry.word, serving.last)
     {
         return None;
     }
-    let step = leaf
-        .memories
-        .step(leaf.charges, serving.before, entry.word, serving.last);
-    let weight = weight_after(entry.weight, serving.link, step.charge);
-    if !is_below(leaf.limit, weight, home) {
+    let after = step(steps, entry.word);
+    let weight = weight_after(entry.weight, serving.link, after.charge);
+    if !is_below(leaf.limit, weight, serving.home) {
         return None;
     }
     Some(KeptState {
-        word: step.word,
+        word: after.word,
         weight,
     })
 }

@@ -8,7 +8,9 @@ use Rattle.tsp_routing.specs.Memories.{Remembers}
 use Rattle.tsp_routing.specs.Starts.{start_state, step_weight, start_weight, IsStart}
 use Rattle.tsp_routing.specs.declared.kept_state.KeptState.{KeptState}
 use Rattle.tsp_routing.specs.declared.run_leaf.RunLeaf.{RunLeaf}
-use Rattle.tsp_routing.specs.states.MemoryTables.{AreMemoriesOf}
+use Rattle.tsp_routing.specs.states.MemoryTables.{keys_in, key_places_in, AreMemoriesOf}
+use Rattle.tsp_routing.specs.declared.memory_key.StepKey.{StepKey}
+use Rattle.tsp_routing.specs.states.MemorySteps.{step_key_of}
 use Rattle.tsp_routing.specs.states.RunTables.{item_lists, rules_by, AreHomeRows}
 
 -- the rules of a leaf with these memories and priced rows
@@ -24,6 +26,12 @@ pub record IsLeafOf (leaf : RunLeaf) (near : ℕ → List ℕ) (rows : List (Sub
   pub homes : AreHomeRows (rules_of leaf near rows) leaf.homes.now
 
 -- ---- one step
+
+-- what becomes of each key of the customer `last`, by a step from the customer `before`
+abbrev pub steps_in : RunLeaf → ℕ → ℕ → List StepKey
+steps_in leaf before last =
+    map (step_key_of leaf.memories.now.nodes leaf.charges.now (key_places_in leaf.memories.now.places.items before) before)
+    (keys_in leaf.memories.now.keys.items last)
 
 -- what is made of an entry by going on to a customer: the entry of the next state; or nothing, where the run may not
 -- serve that customer or isn't kept

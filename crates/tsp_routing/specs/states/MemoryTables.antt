@@ -2,7 +2,7 @@
 use Rattle.tsp_routing.specs.Prelude.{Vec, All, ℕ, nat_le, Bool, true, false, not, List, [], map, length, slice_index_or, ℤ, pos, most_nodes, IsNode, has}
 use Rattle.std.specs.Prelude.{◌≡◌, ◌⊎◌, ◌+◌, ◌-◌, ◌*◌, ◌≤◌, ◌<◌, ◌==◌, ◌||◌, ◌&&◌, if◌then◌else◌}
 use Rattle.tsp_routing.specs.Runs.{RunRules}
-use Rattle.tsp_routing.specs.Memories.{keys_of, is_member_of, charge_of}
+use Rattle.tsp_routing.specs.Memories.{keys_of, is_member_of}
 use Rattle.tsp_routing.specs.declared.memory_key.MemoryKey.{MemoryKey}
 use Rattle.tsp_routing.specs.states.RunTables.{item_lists}
 
@@ -47,12 +47,3 @@ pub record AreMemoriesOf (rules : RunRules) (count : ℕ) (keys : List (Vec Memo
       → All (λ (key : MemoryKey). key.is_member ≡ is_member_of rules.nodes rules.rows node key.key) (keys_in keys node)
   pub places_are : (node key : ℕ) → IsNode rules.nodes node → key ≤ rules.nodes + count
       → IsKeyPlace (keys_of rules.nodes rules.near rules.rows node) (key_place_in places node key) key
-
--- the next bit of a key, where it was `is_told` after the customer `from`
-abbrev pub next_bit : ℕ → ℕ → MemoryKey → Bool → Bool
-next_bit nodes from key is_told =
-    if nat_le key.key nodes then (is_told || (key.key == from)) else (if key.is_member then not is_told else is_told)
-
--- what a step pays for a key
-abbrev pub pays_for : ℕ → List ℤ → MemoryKey → Bool → ℤ
-pays_for nodes charges key is_told = if is_told && key.is_member then charge_of nodes charges key.key else pos 0

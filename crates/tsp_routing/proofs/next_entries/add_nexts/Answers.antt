@@ -1,12 +1,69 @@
 -- The goals of `add_nexts` in src/next_entries.rt, which adds the entries that go on from those of a list: its loop, what
 -- its call requires and what it ensures.
-use Rattle.tsp_routing.proofs.Prelude.{◌≡◌, ◌<◌, ◌+◌, ◌*◌, ◌^◌, ℕ, ℤ, List, pos, neg_ℤ, take, length, get_or, sym, subst, arith, ints, take_all, All-get_or, IsFromTo}
+use Rattle.tsp_routing.proofs.Prelude.{◌≡◌, ◌<◌, ◌+◌, ◌*◌, ◌^◌, ℕ, ℤ, List, false, ◌-ℤ◌, pos, neg_ℤ, take, length, rules, get_or, sym, subst, arith, ints, take_all, All-get_or, IsFromTo}
 use Rattle.tsp_routing.specs.declared.kept_state.KeptState.{KeptState}
 use Rattle.tsp_routing.specs.states.KeptLists.{rules_of, AddsNexts}
-use Rattle.tsp_routing.proofs.KeptLists.{adds_more, adds_none, sizes_go_on}
+use Rattle.tsp_routing.proofs.KeptLists.{adds_more, adds_none, adds_nothing, sizes_go_on}
+use Rattle.tsp_routing.proofs.LeafEntries.{none_beyond}
 use Rattle.tsp_routing.proofs.next_entries.add_nexts.Goals as goal
 
--- plan: one more entry goes on, and what was added stays
+-- plan: no entry goes on if each weighs too much; else one more entry goes on, and what was added stays
+pub most_before-most-requires-clause-home : goal.most_before-most-requires-clause-home
+most_before-most-requires-clause-home c =
+    let leaf = c.args.leaf.now in
+    let serving = c.args.serving in
+    let sizes = (leaf.sizes serving.left (omega (arith, leaf.long, c.requires.left))).sizes serving.last c.requires.last.0 in
+    let home_low = sizes.0 in
+    let home_high = sizes.1 in
+    let home_is = c.requires.home in
+    let few = leaf.nodes.now.fits in
+    (omega (arith, ints, home_low, home_high, home_is, few, c.requires.left), omega (arith, ints, home_low, home_high, home_is, few, c.requires.left))
+
+pub returns-then-not-is_any_below-clause-adds : goal.returns-then-not-is_any_below-clause-adds
+returns-then-not-is_any_below-clause-adds c = λ near rows load leaf_of full.
+    let leaf = c.args.leaf.now in
+    let serving = c.args.serving in
+    let befores : List KeptState = c.args.befores.now in
+    let off : c.is_any_below.result ≡ false = search rules in
+    let sizes = (leaf.sizes serving.left (omega (arith, leaf.long, c.requires.left))).sizes serving.last c.requires.last.0 in
+    let home_low = sizes.0 in
+    let home_high = sizes.1 in
+    let home_is = c.requires.home in
+    let few = leaf.nodes.now.fits in
+    let link = leaf.nodes.now.links.sizes serving.before serving.last c.requires.before.0 c.requires.last.0 in
+    let link_low = link.0 in
+    let link_high = link.1 in
+    let link_is = c.requires.link in
+    let limit_low = leaf.small.0 in
+    let limit_high = leaf.small.1 in
+    let ends = c.most_before-most.ensures in
+    let most_is : c.most_before-most.result ≡ (leaf.limit -ℤ serving.link) -ℤ serving.home =
+    omega (arith, ints, ends, limit_low, limit_high) in
+    subst (λ (xs : List KeptState). AddsNexts (rules_of leaf near rows) leaf.limit load serving.before serving.last xs
+    c.args.entries.now.items c.args.entries.now.items) (take_all (length befores) befores (omega arith))
+    (adds_nothing (rules_of leaf near rows) leaf.limit load serving.before serving.last serving.left befores c.args.entries.now.items
+    (length befores) (omega arith) full
+    (λ index default state lt remembers at full.
+    none_beyond leaf near rows state (get_or befores index default).weight c.most_before-most.result serving.link serving.home serving.before
+    serving.last serving.left leaf_of at full c.requires.last c.requires.left c.requires.link c.requires.home most_is
+    (let beyond = c.is_any_below.ensures off index default lt in
+    omega (
+      arith,
+      ints,
+      beyond,
+      most_is,
+      limit_low,
+      limit_high,
+      link_low,
+      link_high,
+      link_is,
+      home_low,
+      home_high,
+      home_is,
+      few,
+      c.requires.left,
+    ))))
+
 pub befores-init : goal.befores-init
 befores-init c = record {
   adds = λ near rows load leaf_of full.
