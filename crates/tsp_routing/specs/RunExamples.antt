@@ -20,6 +20,10 @@ of_three_kept = record { set = 2 ∷ 3 ∷ 4 ∷ []; further = 5 ∷ [] }
 abbrev pub of_four : SubsetRow
 of_four = record { set = 2 ∷ 3 ∷ 4 ∷ 5 ∷ []; further = [] }
 
+-- the row with this set, whose parity these further customers keep
+abbrev pub given_row : List ℕ → List ℕ → SubsetRow
+given_row set further = record { set = set; further = further }
+
 -- Five nodes with the depot 1: each customer loads 1 and a route carries 4, each link weighs 10, customer 3 remembers
 -- customer 2, and the row charges 7.
 abbrev pub five_nodes : SubsetRow → RunRules

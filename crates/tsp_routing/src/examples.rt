@@ -3,13 +3,14 @@
 //! certificates.
 
 ghost use Rattle.tsp_routing.specs.Prelude.{[], true, false, None, Some, pos, negsuc, Branch, Leaf, has};
-ghost use Rattle.std.specs.Prelude.{◌≡◌, ◌+◌, ◌-◌, ◌*◌, ◌^◌, ◌∷◌};
+ghost use Rattle.std.specs.Prelude.{◌≡◌, ◌+◌, ◌-◌, ◌*◌, ◌^◌, ◌∷◌, replicate};
 ghost use Rattle.tsp_routing.specs.Examples.{rectangle_with, lone_cut, at_most, above, IsQRouteByDemand, IsQRouteInFives, AreGoodMultipliers, LeafHas, three_potentials, CertificateHas, branch_on_two};
 ghost use Rattle.tsp_routing.specs.PlanBounds.{least_product, least_times, low_of, high_of};
 ghost use Rattle.tsp_routing.specs.PlanLinks.{IsFewest, IsCapacityCut, IsCutFamily, IsWithinLimit, AreUnits, load_in, capacity_in_parts};
-ghost use Rattle.tsp_routing.specs.PlanVerdicts.{AreGoodBranches, IsFirstBadPlanBranch, most_of_multipliers, most_entries, HasTooManyLoads};
-ghost use Rattle.tsp_routing.specs.RunExamples.{of_three, of_four, AreRun, AreNoRun, RunWeighs, KeptRunWeighs, KeepsKeys, HasMember, HasWord, StartWeighs, RectangleHas};
-ghost use Rattle.tsp_routing.specs.RunTrees.{number_place};
+ghost use Rattle.tsp_routing.specs.PlanVerdicts.{AreGoodBranches, IsGoodSet, IsFirstBadPlanBranch, most_of_multipliers, most_entries, HasTooManyLoads};
+ghost use Rattle.tsp_routing.specs.RunExamples.{of_three, of_four, given_row, AreRun, AreNoRun, RunWeighs, KeptRunWeighs, KeepsKeys, HasMember, HasWord, StartWeighs, RectangleHas};
+ghost use Rattle.tsp_routing.specs.RunTrees.{IsGoodList, IsGoodRow, FitsMemory, number_place};
+ghost use Rattle.tsp_routing.specs.KeptStates.{most_states};
 ghost use Rattle.tsp_routing.specs.RunVerdicts.{is_by_runs};
 ghost use Rattle.tsp_routing.specs.Runs.{half};
 
@@ -182,6 +183,37 @@ pub fn examples_of_starts()
     ensures lone { StartWeighs 2 [] (pos 10) }
     ensures charged { StartWeighs 3 (2 ∷ []) (pos 27) }
     ensures forgotten { StartWeighs 3 (5 ∷ 2 ∷ []) (pos 30) }
+{}
+
+/// Which families, rows and lists of the customers 2 to 5 are good, with the depot 1. A family is
+/// one set. A row has two customers or more in its set. The first customer of a list remembers the
+/// others, and has no earlier list.
+pub fn examples_of_good_lists()
+    ensures set { IsGoodSet 5 1 ((2 ∷ 3 ∷ []) ∷ []) }
+    ensures no_set { ¬ IsGoodSet 5 1 [] }
+    ensures empty_set { ¬ IsGoodSet 5 1 ([] ∷ []) }
+    ensures two_sets { ¬ IsGoodSet 5 1 ((2 ∷ []) ∷ (3 ∷ []) ∷ []) }
+    ensures depot_in_a_set { ¬ IsGoodSet 5 1 ((2 ∷ 1 ∷ []) ∷ []) }
+    ensures customer_twice { ¬ IsGoodSet 5 1 ((2 ∷ 2 ∷ []) ∷ []) }
+    ensures row { IsGoodRow 5 1 (given_row (2 ∷ 3 ∷ []) (4 ∷ [])) }
+    ensures lone { ¬ IsGoodRow 5 1 (given_row (2 ∷ []) (3 ∷ 4 ∷ [])) }
+    ensures further_depot { ¬ IsGoodRow 5 1 (given_row (2 ∷ 3 ∷ []) (1 ∷ [])) }
+    ensures further_of_the_set { ¬ IsGoodRow 5 1 (given_row (2 ∷ 3 ∷ []) (2 ∷ [])) }
+    ensures list { IsGoodList 5 1 ((2 ∷ 3 ∷ []) ∷ []) 0 }
+    ensures list_of_another { IsGoodList 5 1 ((2 ∷ 3 ∷ []) ∷ (3 ∷ 2 ∷ []) ∷ []) 1 }
+    ensures second_list { ¬ IsGoodList 5 1 ((2 ∷ 3 ∷ []) ∷ (2 ∷ 4 ∷ []) ∷ []) 1 }
+    ensures depot_in_a_list { ¬ IsGoodList 5 1 ((2 ∷ 1 ∷ []) ∷ []) 0 }
+    ensures owner_again { ¬ IsGoodList 5 1 ((2 ∷ 2 ∷ []) ∷ []) 0 }
+{}
+
+/// A customer keeps 64 customers and rows at most, and a leaf 10,000,000 states.
+pub fn examples_of_full_memories()
+    ensures most { FitsMemory ((2 ∷ replicate 64 3) ∷ []) [] 2 }
+    ensures more { ¬ FitsMemory ((2 ∷ replicate 65 3) ∷ []) [] 2 }
+    ensures most_with_a_row { FitsMemory ((2 ∷ replicate 63 3) ∷ []) (of_three ∷ []) 2 }
+    ensures more_with_a_row { ¬ FitsMemory ((2 ∷ replicate 64 3) ∷ []) (of_three ∷ []) 2 }
+    ensures row_of_others { FitsMemory ((5 ∷ replicate 64 3) ∷ []) (of_three ∷ []) 5 }
+    ensures states { most_states ≡ 10 ^ 7 }
 {}
 
 /// How often the routes of a plan are charged for a row at most.

@@ -50,10 +50,11 @@ mod verdict;
 mod ways_home;
 
 pub use examples::{
-    examples_of_bounds, examples_of_branches, examples_of_halves, examples_of_leaves,
-    examples_of_limits, examples_of_loads, examples_of_memories, examples_of_most,
-    examples_of_needs, examples_of_places, examples_of_products, examples_of_q_routes,
-    examples_of_run_bounds, examples_of_run_weights, examples_of_runs, examples_of_starts,
+    examples_of_bounds, examples_of_branches, examples_of_full_memories, examples_of_good_lists,
+    examples_of_halves, examples_of_leaves, examples_of_limits, examples_of_loads,
+    examples_of_memories, examples_of_most, examples_of_needs, examples_of_places,
+    examples_of_products, examples_of_q_routes, examples_of_run_bounds, examples_of_run_weights,
+    examples_of_runs, examples_of_starts,
 };
 pub use laws::{
     equal_states_go_on_alike, kept_starts_give_least_runs, plan_bounds_are_unique,
