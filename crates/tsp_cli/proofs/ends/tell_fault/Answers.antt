@@ -13,5 +13,5 @@ returns-in-Ok g c =
     contents_after_writes _ (λ s. s.bytes) (λ w l v t. t) _ line _ c.in-Ok.ensures.writes in
     let same : c.as_bytes.result.now ≡ line =
     c.as_bytes.ensures.value ∙ c.as_str.ensures.value ∙ written ∙ ap (λ (front : List ℕ). front ++ line) c.new-text.ensures in
-    subst (λ (bytes : List ℕ). OnOk c.write_all.result (Appends (g.W.Takes.contents c.args.errors.now) (g.W.Takes.contents c.write_all.new.self) bytes)) same
+    subst (λ (bytes : List ℕ). OnOk c.write_all.result (Appends (g.W.Write.contents c.args.errors.now) (g.W.Write.contents c.write_all.new.self) bytes)) same
     c.write_all.ensures.bytes
