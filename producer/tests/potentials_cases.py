@@ -1,10 +1,5 @@
 #!/usr/bin/env python3
-"""Runs one case of the tests of tsp-potentials: potentials_cases.py CASE TSP_POTENTIALS TSP
-
-The proved program TSP judges each file. A wrong answer ends the case with status 1.
-CMakeLists.txt lists the cases, each as the test potentials_CASE of ctest: a new case has to be named there too.
-tests/libraries/producer runs them all, as the suite `producer` of ./check. What they share is in cases.py.
-"""
+"""Tests of tsp-potentials. potentials_cases.py CASE TSP_POTENTIALS TSP; support.py says more."""
 
 import json
 import os
@@ -13,13 +8,12 @@ import re
 import signal
 import subprocess
 import sys
-import tempfile
 import time
 from itertools import permutations
 from pathlib import Path
 
-from cases import CERTIFY as PROGRAM
-from cases import PATIENCE, POINTS, SPACE, TSP, certify, need, write_arcs, write_matrix, write_points
+from support import CERTIFY as PROGRAM
+from support import PATIENCE, POINTS, SPACE, TSP, certify, need, run, write_arcs, write_matrix, write_points
 
 OUT = ["-o", "out.potentials"]
 BOTH = [*OUT, "--tour-out", "out.tour"]
@@ -274,6 +268,4 @@ CASES = [
 ]  # fmt: skip
 
 if __name__ == "__main__":
-    with tempfile.TemporaryDirectory() as folder:
-        os.chdir(folder)
-        {case.__name__: case for case in CASES}[sys.argv[1]]()
+    run(CASES)

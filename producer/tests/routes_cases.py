@@ -1,47 +1,26 @@
 #!/usr/bin/env python3
-"""Runs one case of the tests of tsp-certify for routes: routes_cases.py CASE TSP_CERTIFY TSP
+"""Tests of tsp-certify for routes. routes_cases.py CASE TSP_CERTIFY TSP; support.py says more.
 
-The program TSP judges what tsp-certify makes; examples/recheck.py, which shares no code with either, judges worked cases
-too. A wrong answer ends the case with status 1. CMakeLists.txt lists the cases, each as the test routes_CASE of ctest: a new case has to be named there too.
-tests/libraries/producer runs them all, as the suite `producer` of ./check. What they share is in cases.py.
+examples/recheck.py, which shares no code with the program TSP or the producer, judges some of what is made too.
 """
 
 import json
-import os
 import random
 import re
 import signal
 import subprocess
 import sys
-import tempfile
 import time
 from functools import cache
 from itertools import combinations, permutations
 from pathlib import Path
 
-from cases import CERTIFY, PATIENCE, TSP, certify, need, write_points
+from support import CERTIFY, PATIENCE, TSP, certify, need, run, write_points
 
 RECHECK = Path(__file__).resolve().parents[2] / "examples/recheck.py"
 BOTH = ["-o", "out.branches", "--tour-out", "out.routes"]
 
 RECTANGLE = {"points": [(0, 0), (3, 0), (3, 4), (0, 4)], "demands": [0, 4, 4, 4], "capacity": 8}
-# Families, the tree, more keywords, routes, and what the report has to end with. Worked out by hand: the plans of the
-# rectangle have the lengths 18, 20, 22 and 24.
-WORKED = [
-    ("", "0 -1", "", "2 -1 3 4 -1", "length 18 / bound 12 / gap 6 / yes"),
-    ("", "0 2 -3 3 -3 4 -3 -1", "", "2 -1 3 4 -1", "length 18 / bound 18 / optimal / yes"),
-    ("", "0 2 -3 3 -3 4 -3 -1", "", "2 3 -1 4 -1", "length 20 / bound 18 / gap 2 / yes"),
-    ("", "0 2 -3 3 -3 4 -3 -1", "LOAD_UNIT : 4", "2 -1 3 4 -1", "length 18 / bound 18 / optimal / yes"),
-    ("", "0 2 -3 3 -3 4 -3 -1", "LOAD_UNIT : 5", "2 -1 3 4 -1", "length 18 / bound -18 / gap 36 / yes"),
-    ("3 4 -1 -1 -1", "0 2 -3 3 -3 4 -3 5 1 -1", "", "2 -1 3 4 -1", "length 18 / bound 14 / gap 4 / yes"),
-    ("2 3 4 -1 -1 -1", "0 2 -2 3 -2 4 -2 5 1 -1", "", "2 -1 3 4 -1", "length 18 / bound 16 / gap 2 / yes"),
-    ("3 4 -1 -1 -1", "5 1 0 2 -3 3 -3 4 -3 -1 0 -1", "", "2 -1 3 4 -1", "length 18 / bound 18 / optimal / yes"),
-    ("3 4 -1 -1 -1", "0 5 -1 -1", "", "2 -1 3 4 -1", "length 18 / bound 6 / gap 12 / yes"),
-    ("3 4 -1 -1 -1", "0 6 1 -1", "", "2 -1 3 4 -1", "no BadLeaf 1"),
-    ("3 4 -1 -1 -1", "5 1 0 5 -1 -1 0 5 3 -1", "", "2 -1 3 4 -1", "length 18 / bound 10 / gap 8 / yes"),
-    ("3 4 -1 -1 -1", "2 3 0 -1 0 -1", "", "2 -1 3 4 -1", "no BadBranch 1"),
-    ("1 2 -1 -1 -1", "0 -1", "", "2 -1 3 4 -1", "no BadComb 1"),
-]
 
 
 def write_vrp(name, demands, capacity, points=None, costs=None, depot=1):
@@ -95,30 +74,6 @@ def need_optimal(instance, *words, judge=lines_by_program):
     need("optimal" in report, f"{instance}: not optimal: {report} {said}")
     need(f"bound {report['bound']} as reckoned" in said, f"{instance}: another bound was reckoned: {said}")
     return int(report["length"])
-
-
-def judge():
-    """Both judges give what was worked out by hand."""
-    write_vrp("a.vrp", **RECTANGLE)
-    judges = [lines_by_recheck, lines_by_program]
-    for families, tree, more, routes, expected in WORKED:
-        write_routes(routes)
-        write_certificate(4, families, tree, more)
-        for judge_of in judges:
-            lines = judge_of("a.vrp", "out.routes", "out.branches")
-            need(" / ".join(lines).endswith(expected), f"{families}, {tree}, {more}: {lines} and not {expected}")
-    write_vrp("a.vrp", RECTANGLE["demands"], 7, RECTANGLE["points"])
-    write_routes("2 -1 3 -1 4 -1")
-    write_certificate(4, "", "0 2 -3 3 -5 4 -4 -1")
-    for judge_of in judges:
-        lines = judge_of("a.vrp", "out.routes", "out.branches")
-        need(" / ".join(lines).endswith("length 24 / bound 24 / optimal / yes"), f"capacity 7: {lines}")
-    write_vrp("a.vrp", [0, 4, 0, 4], 8, RECTANGLE["points"])
-    write_routes("2 3 4 -1")
-    write_certificate(4, "", "0 -1")
-    for judge_of in judges:
-        lines = judge_of("a.vrp", "out.routes", "out.branches")
-        need(" / ".join(lines).endswith("routes 1 / least 1 / length 14 / bound 6 / gap 8 / yes"), f"demand 0: {lines}")
 
 
 def least_plan(costs, demands, capacity, depot):
@@ -350,15 +305,7 @@ def bad_input():
         need(part in said, f"{words}: the fault doesn't tell of {part}: {said}")
 
 
-CASES = [judge, small, memory, memory_limits, optimal, large_numbers, plan, threads, time_limit, interrupt, split, limits, log, bad_input]
-
-
-def main():
-    cases = {case.__name__: case for case in CASES}
-    with tempfile.TemporaryDirectory() as folder:
-        os.chdir(folder)
-        cases[sys.argv[1]]()
-
+CASES = [small, memory, memory_limits, optimal, large_numbers, plan, threads, time_limit, interrupt, split, limits, log, bad_input]
 
 if __name__ == "__main__":
-    main()
+    run(CASES)

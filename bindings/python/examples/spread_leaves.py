@@ -11,7 +11,7 @@ here, so that no worker writes to a folder of others.
 A leaf whose worker is lost, or whose program fails, is tried again twice. One that fails then is left out: it keeps
 its bound, the certificate has a gap, and the exit status is 1. `tsp check` decides what a certificate is worth.
 
-Its test is a case of producer/tests/cases.py, which the suite `producer` of ./check runs.
+Its test is a case of producer/tests/tree_cases.py, which the suite `producer` of ./check runs.
 
 It needs distributed. On Debian and Ubuntu this one command installs it, for /usr/bin/python3:
 

@@ -46,6 +46,8 @@ Points random_points(int nodes, int axes, Metric metric, Random& random, int sid
   return points;
 }
 
+Points points_in_plane(int nodes, Random& random) { return random_points(nodes, 2, Metric::kEuclid, random); }
+
 Tour in_order(int nodes) {
   Tour tour(nodes);
   std::iota(tour.begin(), tour.end(), 0);

@@ -20,6 +20,7 @@ certify::Weight shortest(const certify::Matrix& weights);
 // Points with whole coordinates from 0 on, below the side.
 potentials::Points random_points(int nodes, int axes, potentials::Metric metric, certify::Random& random,
                                  int side = 1000);
+potentials::Points points_in_plane(int nodes, certify::Random& random);
 // The nodes in the order of their numbers.
 certify::Tour in_order(int nodes);
 // The least weight of a 1-tree under cost(i, j) + p(i) + p(j) + the surcharge, with all fixed edges in it, by

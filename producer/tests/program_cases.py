@@ -1,0 +1,230 @@
+#!/usr/bin/env python3
+"""Tests of tsp-certify as a program: limits of time, signals, files, faults and its installation. program_cases.py CASE
+TSP_CERTIFY TSP; support.py says more.
+"""
+
+import json
+import os
+import random
+import re
+import shutil
+import signal
+import subprocess
+import sys
+import time
+from pathlib import Path
+
+from support import CERTIFY, PATIENCE, TSP, certify, judged, need, need_bounded, need_optimal, run, write_points
+
+
+def time_limit():
+    """Two seconds are too short, by any number of threads, and the file has a bound all the same."""
+    write_points("a.tsp", "EUC_2D", 1200, random.Random(10), side=10**6)
+    for count in ("1", "4"):
+        words = ["--seconds", "2", "--threads", count]
+        begun = time.monotonic()
+        said = certify("a.tsp", "-o", "out.branches", "--tour-out", "out.tour", *words)
+        need(time.monotonic() - begun < 60 * PATIENCE, f"{count} threads: the limit isn't kept")
+        report = judged("a.tsp")
+        need("a gap of" in said and report.get("gap", "0") in said, f"the gap isn't told: {said}")
+        need(int(report["bound"]) > 0.7 * int(report["length"]), f"a poor bound: {report}")
+
+
+def large():
+    """More than 5,000 points: the time limit, signals, and what isn't taken."""
+    write_points("a.tsp", "EUC_2D", 5200, random.Random(15), side=10**6)
+    begun = time.monotonic()
+    need_bounded("a.tsp", 0.7, "--seconds", "25")  # a loaded machine has time for potentials alone
+    need(time.monotonic() - begun < 100 * PATIENCE, "the limit isn't kept")
+    for wait in (3, 20):
+        found = signalled("4", (wait, signal.SIGINT))
+        need(found == 130 and "bound" in judged("a.tsp"), f"status {found} after {wait} seconds")
+    said = certify("a.tsp", "-o", "out.branches", "--tour-out", "out.tour", "--split", "4", status=2)
+    need("one leaf" in said, f"another refusal: {said}")
+    text = Path("a.tsp").read_text().replace(": TSP", ": ATSP")
+    Path("a.atsp").write_text(text)
+    said = certify("a.atsp", "-o", "out.branches", "--tour-out", "out.tour", status=2)
+    need("more than 5000 nodes" in said, f"another refusal: {said}")
+
+
+def signalled(threads, *signals):
+    """The status of a run that gets these signals, each as many seconds after the one before."""
+    words = [CERTIFY, "a.tsp", "-o", "out.branches", "--tour-out", "out.tour", "--seconds", "0", "--tsp", TSP]
+    words += ["--threads", threads]
+    Path("out.branches").unlink(missing_ok=True)
+    with subprocess.Popen(words, stderr=subprocess.PIPE) as process:
+        for wait, number in signals:
+            time.sleep(wait)
+            process.send_signal(number)
+        process.communicate(timeout=120 * PATIENCE)
+    return process.returncode
+
+
+def interrupt():
+    write_points("a.tsp", "EUC_2D", 1500, random.Random(12), side=10**6)
+    for threads, signals, status in (
+        ("4", [(3, signal.SIGINT)], 130),
+        ("1", [(3, signal.SIGTERM)], 143),
+        ("4", [(6, signal.SIGINT), (0.1, signal.SIGINT)], 130),  # as `timeout -s INT` does
+        ("2", [(3, signal.SIGTERM), (0, signal.SIGINT)], None),  # either may come first
+    ):
+        found = signalled(threads, *signals)
+        need(found in ((status,) if status else (130, 143)), f"status {found} after {signals}")
+        need("bound" in judged("a.tsp"), f"no bound after {signals}")
+
+
+def overwriting():
+    """No file that is read is written, whatever its name, and no file is written twice."""
+    write_points("a.tsp", "EUC_2D", 12, random.Random(24))
+    need_optimal("a.tsp")
+    kept = Path("a.tsp").read_bytes(), Path("out.tour").read_bytes()
+    os.symlink("a.tsp", "soft")
+    os.link("a.tsp", "hard")
+    os.mkdir("here")
+    read, twice = "this file is read, and would be overwritten", "this file is written already, and would be overwritten"
+    for words, said in (
+        (["a.tsp", "-o", "a.tsp", "--tour-out", "b.tour"], f"a.tsp: {read}: choose another name"),
+        (["a.tsp", "-o", "./here/../a.tsp", "--tour-out", "b.tour"], f"{read} (it is a.tsp): choose another name"),
+        (["a.tsp", "-o", "soft", "--tour-out", "b.tour"], read),
+        (["soft", "-o", "hard", "--tour-out", "b.tour"], read),
+        (["a.tsp", "-o", "b.branches", "--tour-out", "hard"], read),
+        (["a.tsp", "out.tour", "-o", "out.tour"], read),
+        (["a.tsp", "-o", "same", "--tour-out", "./same"], twice),
+        (["a.tsp", "-o", "b.branches", "--tour-out", "b.tour", "--log", "soft"], read),
+    ):
+        need(said in certify(*words, status=2), f"{words}: a file would be overwritten")
+        need(kept == (Path("a.tsp").read_bytes(), Path("out.tour").read_bytes()), f"{words}: a file is changed")
+    certify("a.tsp", "out.tour", "-o", "again.branches", "--tour-out", "again.tour")
+    certify("a.tsp", "out.tour", "-o", "again.branches", "--tour-out", "again.tour")  # these may be written anew
+
+
+def log():
+    """Each line is of JSON, and no bound is above its length."""
+    write_points("a.tsp", "EUC_2D", 120, random.Random(5), side=10**6)  # more than one leaf
+    certify("a.tsp", "-o", "out.branches", "--tour-out", "out.tour", "--log", "out.log")
+    events = [json.loads(line) for line in Path("out.log").read_text().splitlines()]
+    last = events[-1]
+    need(last["event"] == "end" and last["gap"] == 0, f"the last event: {last}")
+    need(last["length"] == int(judged("a.tsp")["length"]), f"another length: {last}")
+    need(all(0 <= event["bound"] <= event["length"] for event in events), "a bound is above, or none")
+    need(all(event["cuts"]["combs"] >= 0 for event in events), "no cuts are told")
+    for clock in ("seconds", "processor"):
+        need([event[clock] for event in events] == sorted(event[clock] for event in events), f"{clock}: not in order")
+    certify("a.tsp", "-o", "out.branches", "--tour-out", "out.tour", "--log", "no/folder/log", status=2)
+
+
+def bad_input():
+    chance = random.Random(13)
+    write_points("a.tsp", "EUC_2D", 12, chance)
+    text = Path("a.tsp").read_text()
+    rows = (
+        "TYPE:ATSP\nDIMENSION:3\nEDGE_WEIGHT_TYPE:EXPLICIT\nEDGE_WEIGHT_FORMAT:FULL_MATRIX\n"
+        "EDGE_WEIGHT_SECTION\n0 1 2 3 0 4 5 6 0\n"
+    )
+    Path("odd.tsp").write_text(rows.replace("ATSP", "TSP") + "EOF\n")
+    Path("back.atsp").write_text(rows + "FIXED_EDGES_SECTION\n1 2\n2 1\n-1\nEOF\n")
+    Path("one.atsp").write_text("TYPE:ATSP\nDIMENSION:1\n" + rows.partition("3\n")[2].replace("0 1 2 3 0 4 5 6 0", "0"))
+    Path("cut.tsp").write_text(text[: len(text) // 2])
+    Path("star.tsp").write_text(text.replace("EOF", "FIXED_EDGES_SECTION\n1 2\n1 3\n1 4\n-1\nEOF"))
+    Path("ring.tsp").write_text(text.replace("EOF", "FIXED_EDGES_SECTION\n1 2\n2 3\n3 1\n-1\nEOF"))
+    Path("two.tsp").write_text("TYPE:TSP\nDIMENSION:2\nEDGE_WEIGHT_TYPE:EUC_2D\nNODE_COORD_SECTION\n1 0 0\n2 1 1\nEOF\n")
+    Path("short.tour").write_text("TYPE : TOUR\nTOUR_SECTION\n1 2 3 -1\nEOF\n")
+    Path("long.tour").write_text("TYPE : TOUR\nTOUR_SECTION\n1 2 3 4 5 6 7 8 9 10 11 12 13 -1\nEOF\n")
+    Path("geo.tsp").write_text(text.replace("EUC_2D", "GEO"))
+    out = ["-o", "out.branches"]
+    both = [*out, "--tour-out", "out.tour"]
+    faults = [
+        (["short.tour", *both], "TYPE TOUR"),
+        (["geo.tsp", *both], "the script examples/geo.py converts GEO"),
+        (["back.atsp", *both], "no tour uses all fixed edges"),
+        (["one.atsp", *both], "three nodes"),
+        (["odd.tsp", *both], "symmetric"),
+        (["cut.tsp", *both], "convert"),
+        (["none.tsp", *both], "none.tsp: No such file or directory"),
+        (["a.tsp", "none.tour", *out], "none.tour: No such file or directory"),
+        (["star.tsp", *both], "no tour uses all fixed edges"),
+        (["ring.tsp", *both], "no tour uses all fixed edges"),
+        (["two.tsp", *both], "three nodes"),
+        (["a.tsp", "short.tour", *out], "no tour of the instance, since node 4 isn't in it"),
+        (["a.tsp", "long.tour", *out], "no tour of the instance, since the instance has no node 13"),
+        (["a.tsp", "a.tsp", *out], "TYPE TOUR"),
+        (["a.tsp", *out], "--tour-out"),
+        (["a.tsp"], "-o"),
+        ([], "INSTANCE"),
+        (["a.tsp", *both, "--seconds", "x"], "--seconds"),
+        (["a.tsp", *both, "--seconds", "-1"], "--seconds"),
+        (["a.tsp", *both, "--seed", "1.5"], "--seed"),
+        (["a.tsp", *both, "--threads", "-1"], "--threads"),
+        (["a.tsp", *both, "--window", "0"], "--window"),
+        (["a.tsp", *both, "--split", "0"], "--split"),
+        (["a.tsp", "out.tour", "more", *out], "more"),
+        (["a.tsp", *both, "--wrong"], "--wrong"),
+        (["a.tsp", *both, "--cpu-seconds", "1", "--seconds", "1"], "--seconds excludes --cpu-seconds"),
+        (["none.tsp", "-o", "no/folder/out", "--tour-out", "out.tour"], "no/folder/out: No such file or directory"),
+        (["none.tsp", "-o", ".", "--tour-out", "out.tour"], ".: Is a directory"),
+    ]
+    for words, part in faults:
+        need(part in certify(*words, status=2), f"{words}: the fault doesn't tell of {part}")
+
+
+def finding_tsp():
+    """tsp is looked for beside the program, on PATH, and in the folders above. The script of a checkout needs PATH itself."""
+    if Path(TSP).read_bytes()[:2] == b"#!":
+        sys.exit(77)
+    write_points("a.tsp", "EUC_2D", 12, random.Random(14))
+    os.makedirs("above/here")
+    shutil.copy(CERTIFY, "above/here")
+    words = [os.path.abspath("above/here/tsp-certify"), "a.tsp", "-o", "out.branches", "--tour-out", "out.tour"]
+    def find(path, *more):
+        return subprocess.run([*words, *more], capture_output=True, text=True, timeout=100 * PATIENCE,
+                              env={**os.environ, "PATH": path})
+
+    for place, path in ((None, "/nowhere"), ("above", "/nowhere"), ("on-path", os.path.abspath("on-path"))):
+        if place:
+            os.makedirs(place, exist_ok=True)
+            os.symlink(TSP, f"{place}/tsp")
+        done = find(path)
+        need(done.returncode == (0 if place else 2), f"tsp in {place}: {done.stderr}")
+        need(place or "--tsp" in done.stderr, f"no word of a missing tsp: {done.stderr}")
+        if place:
+            os.remove(f"{place}/tsp")
+    os.makedirs("other")
+    Path("other/tsp").write_text("#!/bin/sh\necho Task Spooler v1.0\n")
+    os.chmod("other/tsp", 0o755)
+    os.symlink(TSP, "above/here/tsp")
+    need(find(os.path.abspath("other")).returncode == 0, "tsp beside the program isn't found before that on PATH")
+    os.remove("above/here/tsp")
+    os.makedirs("above/share/yokecairn")
+    Path("above/share/yokecairn/PROGRAM").write_text("../../here/yokecairn\n")
+    need(find("/nowhere").returncode == 2, "a program that isn't there is found")
+    os.symlink(TSP, "above/here/yokecairn")
+    need(find(os.path.abspath("other")).returncode == 0, "a program that is installed under another name isn't found")
+    shutil.rmtree("above/share")
+    os.symlink(TSP, "on-path/tsp")
+    os.symlink(TSP, "on-path/yokecairn")
+    os.symlink(TSP, "tsp")
+    for name in ("tsp", "yokecairn", "./tsp", os.path.abspath("tsp")):
+        need(find(os.path.abspath("on-path"), "--tsp", name).returncode == 0, f"--tsp {name} isn't found")
+    for name in ("tsp", "./none", "on-path"):  # without a slash a name is looked for on PATH alone
+        need(find("/nowhere", "--tsp", name).returncode == 2, f"--tsp {name} is found")
+    Path("on-path/tsp").unlink()
+    Path("on-path/tsp").write_text("#!/bin/sh\necho Task Spooler v1.0\n")
+    os.chmod("on-path/tsp", 0o755)
+    said = find(os.path.abspath("on-path")).stderr
+    need("task-spooler" in said, f"another program of this name is taken: {said}")
+
+
+def installing():
+    """The installed program runs, and its page names each option of its help."""
+    cmake, build = sys.argv[4:6]
+    subprocess.run([cmake, "--install", build, "--prefix", os.path.abspath("here")], check=True, capture_output=True)
+    helped = subprocess.run(["here/bin/tsp-certify", "--help"], capture_output=True, text=True, check=True).stdout
+    page = Path("here/share/man/man1/tsp-certify.1").read_text().replace("\\", "")
+    options = set(re.findall(r"(?<![-\w])--?[a-z][-a-z]*", helped))
+    need(len(options) >= 8 and all(option in page for option in options), f"not all on the page: {options}")
+
+
+CASES = [time_limit, large, interrupt, overwriting, log, bad_input, finding_tsp, installing]
+
+if __name__ == "__main__":
+    run(CASES)
