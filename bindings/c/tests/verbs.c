@@ -1,4 +1,4 @@
-/* The program's verbs over the library, so that tests/program/run-tables can run it on its rows: the report or the
+/* The program's verbs over the library, so that tests/program/run-tables and tests/program/solutions can run it: the report or the
  * text goes to standard output, the line of a fault to standard error, and the status is the exit status.
  * bindings/c/test builds it, in the suite `bindings` of ./check. */
 #include "../tsp.h"
@@ -10,10 +10,18 @@
 static const char *const LAYOUTS[] = {"FULL_MATRIX",    "UPPER_ROW", "LOWER_ROW", "UPPER_DIAG_ROW", "LOWER_DIAG_ROW",
                                       "UPPER_COL",      "LOWER_COL", "UPPER_DIAG_COL", "LOWER_DIAG_COL"};
 
+/* The forms of tsp_solution, in the order of their numbers from 1 on. */
+static const char *const FORMS[] = {"tour", "json", "ortools", "cvrplib", "lkh", "r", "concorde-edges", "concorde", "table", "list"};
+
+/* A verb that tsp_explain has no number for. */
+enum { OF_SOLUTION = 4 };
+
 struct call {
-    uint32_t verb;        /* a number of tsp_explain */
-    const char *paths[3]; /* the instance, the solution and the certificate; NULL for none */
-    uint32_t number;      /* the kind of certificate, or the layout */
+    uint32_t verb;        /* a number of tsp_explain, or OF_SOLUTION */
+    const char *paths[3]; /* the instance, the solution and the certificate, or the solution and its instance; NULL for none */
+    uint32_t number;      /* the kind of certificate, the layout, or the form */
+    uint32_t first;
+    uint32_t depot;
     int64_t claimed;
     uint32_t flags;
     int explains;
@@ -24,6 +32,8 @@ static uint32_t verb_of(const char *word) {
         return TSP_OF_CONVERT;
     if (strcmp(word, "check") == 0)
         return TSP_OF_CHECK;
+    if (strcmp(word, "solution") == 0)
+        return OF_SOLUTION;
     return strcmp(word, "bound") == 0 ? TSP_OF_BOUND : TSP_OF_SHOW;
 }
 
@@ -33,6 +43,15 @@ static uint32_t layout_of(const char *word) {
         if (strcmp(word, LAYOUTS[k]) == 0)
             return k + 1;
     fputs("unknown layout\n", stderr);
+    exit(TSP_REFUSED);
+}
+
+/* The form's number; exits where there is none. */
+static uint32_t form_of(const char *word) {
+    for (uint32_t k = 0; k < 10; k++)
+        if (strcmp(word, FORMS[k]) == 0)
+            return k + 1;
+    fputs("unknown form\n", stderr);
     exit(TSP_REFUSED);
 }
 
@@ -84,7 +103,7 @@ static int64_t length_of(const char *word) {
 }
 
 static struct call call_of(int count, char **words) {
-    struct call call = {count > 1 ? verb_of(words[1]) : TSP_OF_SHOW, {NULL, NULL, NULL}, 0, 0, 0, 0};
+    struct call call = {count > 1 ? verb_of(words[1]) : TSP_OF_SHOW, {NULL, NULL, NULL}, 0, 0, 0, 0, 0, 0};
     int paths = 0;
     for (int k = 2; k < count; k++) {
         if (strcmp(words[k], "--layout") == 0 && k + 1 < count) {
@@ -98,6 +117,14 @@ static struct call call_of(int count, char **words) {
         } else if (strncmp(words[k], "--length=", 9) == 0) {
             call.claimed = length_of(words[k] + 9);
             call.flags |= TSP_CLAIMED;
+        } else if (strcmp(words[k], "--of") == 0 && k + 1 < count) {
+            call.paths[1] = words[++k];
+        } else if (strcmp(words[k], "--form") == 0 && k + 1 < count) {
+            call.number = form_of(words[++k]);
+        } else if (strcmp(words[k], "--first") == 0 && k + 1 < count) {
+            call.first = words[++k][0] == '0' ? TSP_FIRST_0 : TSP_FIRST_1;
+        } else if (strcmp(words[k], "--depot") == 0 && k + 1 < count) {
+            call.depot = (uint32_t)strtoul(words[++k], NULL, 10);
         } else if (strcmp(words[k], "--strict") == 0) {
             call.flags |= TSP_STRICT;
         } else if (strcmp(words[k], "--explain") == 0) {
@@ -123,6 +150,9 @@ static uint32_t run(const struct call *call, const struct text *texts, uint8_t *
                          call->number, call->claimed, call->flags, out, room, written);
     case TSP_OF_BOUND:
         return tsp_bound(texts[0].bytes, texts[0].len, texts[2].bytes, texts[2].len, number_of(call), out, room, written);
+    case OF_SOLUTION:
+        return tsp_solution(texts[0].bytes, texts[0].len, texts[1].bytes, texts[1].len, call->number, call->first,
+                            call->depot, out, room, written);
     case TSP_OF_CONVERT:
         return tsp_convert(texts[0].bytes, texts[0].len, call->number, out, room, written);
     default:

@@ -41,6 +41,20 @@ DISTANCE_ATT = 5
 DISTANCE_EUC_3D = 6
 DISTANCE_MAN_3D = 7
 DISTANCE_MAX_3D = 8
+FORM_FOUND = 0
+FORM_TOUR = 1
+FORM_JSON = 2
+FORM_OR_TOOLS = 3
+FORM_CVRPLIB = 4
+FORM_LKH = 5
+FORM_R = 6
+FORM_CONCORDE_EDGES = 7
+FORM_CONCORDE = 8
+FORM_TABLE = 9
+FORM_LIST = 10
+FIRST_FOUND = 0
+FIRST_0 = 1
+FIRST_1 = 2
 TYPE_TSP = 1
 TYPE_ATSP = 2
 TYPE_CVRP = 3
@@ -179,6 +193,8 @@ CALLS: Dict[str, Tuple[Any, List[Any]]] = {
     "tsp_bound": (c_uint32, [c_char_p, c_size_t, c_char_p, c_size_t, c_uint32, c_void_p, c_size_t, POINTER(c_size_t)]),
     "tsp_show": (c_uint32, [c_char_p, c_size_t, c_void_p, c_size_t, POINTER(c_size_t)]),
     "tsp_convert": (c_uint32, [c_char_p, c_size_t, c_uint32, c_void_p, c_size_t, POINTER(c_size_t)]),
+    "tsp_solution": (c_uint32, [c_char_p, c_size_t, c_char_p, c_size_t, c_uint32, c_uint32, c_uint32, c_void_p, c_size_t,
+        POINTER(c_size_t)]),
     "tsp_explain": (c_uint32, [c_uint32, c_char_p, c_size_t, c_char_p, c_size_t, c_char_p, c_size_t, c_char_p, c_size_t, c_uint32, c_int64,
         c_uint32, c_void_p, c_size_t, POINTER(c_size_t)]),
     "tsp_count": (c_uint32, [c_char_p, c_size_t, POINTER(c_uint32)]),

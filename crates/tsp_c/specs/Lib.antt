@@ -3,4 +3,5 @@ pub mod Prelude
 pub mod NumberCalls
 pub mod Opened
 pub mod Texts
+pub mod Solutions
 pub mod CallResult

@@ -6,14 +6,17 @@ ghost use Rattle.std.specs.Prelude.{◌≡◌, ◌≢◌, IsErr, MatchResult, []
 ghost use Rattle.tsp_io.specs.states.Output.{writer_of};
 ghost use Rattle.tsp_c.specs.CallResult.{blank_result};
 ghost use Rattle.tsp_c.specs.NumberCalls.{EndsOnTexts, IsPlaced, IsPrinted, without_devices, fault_line};
+ghost use Rattle.tsp_c.specs.Solutions.{EndsSolving, solving_line};
 ghost use Rattle.tsp_c.specs.Texts.{IsRefusedNumber};
 
 use crate::call_end::TOO_SMALL;
 use crate::call_result::CallResult;
+use crate::solution_call::status_of_solving;
 use std::alloc::Global;
 use std::io::{self, Write};
 use std::marker::Model;
 use tsp_judge::{Output, ReadFault, RunError, RunFault, Status, WriteFault, status_of};
+use tsp_solution::SolutionRunFault;
 
 /// The status of a call on texts, and its text. Contracts see a pair.
 ///
@@ -40,6 +43,33 @@ impl Answer {
         Answer {
             status: Status::Refused as u8,
             text: Vec::new(alloc),
+        }
+    }
+
+    /// A text that a call gives, with the status 0.
+    pub(crate) fn done(text: Vec<u8>) -> Answer
+        ensures { (result.0 ≡ 0) × (result.1 ≡ text.items) }
+    {
+        Answer {
+            status: Status::Yes as u8,
+            text,
+        }
+    }
+
+    /// The status and the line of a fault by which no solution is written. If there is no memory for
+    /// the line, the status is that of no memory, and the text is empty.
+    pub(crate) fn unsolved(alloc: Global, fault: SolutionRunFault) -> Answer
+        ensures { EndsSolving fault result.0 result.1 }
+    {
+        match line_of_solving(alloc, fault) {
+            Ok(text) => Answer {
+                status: status_of_solving(fault),
+                text,
+            },
+            Err(no_line) => Answer {
+                status: Status::OutOfMemory as u8,
+                text: no_line.into_text(),
+            },
         }
     }
 
@@ -134,7 +164,8 @@ pub(crate) fn place(text: &[u8], status: u8, out: &mut [u8], written: &mut usize
 
 // ---- the line of a fault, as the program writes it on standard error, in memory
 
-/// There was no memory for a line. Only `line_of` makes one, if a write to memory failed.
+/// There was no memory for a line. Only `line_of` and `line_of_solving` make one, if a write to memory
+/// failed.
 #[derive(Drop)]
 pub(crate) struct NoLine {
     text: Vec<u8>,
@@ -163,6 +194,22 @@ fn line_of(mut text: Vec<u8>, fault: RunFault) -> Result<Vec<u8>, NoLine>
 {
     text.clear();
     match writeln!(text, "{fault}") {
+        Ok(()) => Ok(text),
+        Err(error) => Err(NoLine { text, error }),
+    }
+}
+
+/// The line of a fault by which no solution is written.
+///
+/// # Errors
+///
+/// Out of memory.
+fn line_of_solving(alloc: Global, fault: SolutionRunFault) -> Result<Vec<u8>, NoLine>
+    ensures { IfOk result (λ line. line.items ≡ solving_line fault) }
+{
+    let mut text = Vec::new(alloc);
+    let told = writeln!(text, "{fault}");
+    match told {
         Ok(()) => Ok(text),
         Err(error) => Err(NoLine { text, error }),
     }

@@ -21,9 +21,16 @@ ghost use Rattle.tsp_report.specs.declared.verdict.BoundVerdict.TheVariants as b
 ghost use Rattle.tsp_report.specs.declared.verdict.Reason.TheVariants as reasons;
 ghost use Rattle.tsp_report.specs.declared.verdict.Verdict.TheVariants as verdicts;
 ghost use Rattle.tsp_judge.specs.declared.run_status.RunFault.TheVariants as run_faults;
+ghost use Rattle.tsp_solution.specs.Forms.{all_forms};
+ghost use Rattle.tsp_solution.specs.declared.fault.FormFault.TheVariants as form_faults;
+ghost use Rattle.tsp_solution.specs.declared.fault.SolutionFault.TheVariants as solution_faults;
+ghost use Rattle.tsp_solution.specs.declared.form.Form.TheVariants as forms;
+ghost use Rattle.tsp_solution.specs.declared.hints.Numbering.TheVariants as numbering;
+ghost use Rattle.tsp_solution.specs.declared.run.SolutionRunFault.TheVariants as solution_ends;
 ghost use Rattle.tsp_c.specs.CallResult.{blank_result, high_half, low_half, result_of_bound, result_of_fault, result_of_verdict, field_number, first_number, kind_number, line_fault_number, number_fault_number, read_fault_number, second_number, field_of_fault, number_of_fault, result_of_instance};
 ghost use Rattle.tsp_c.specs.NumberCalls.{IsPlaced, fault_line, nth, without_devices, EndsBuffer, distance_kinds, lists_in, pair_cost, row_cost, row_count, EndsPoints, coordinate, section_points};
 ghost use Rattle.tsp_c.specs.Opened.{EndsSection};
+ghost use Rattle.tsp_c.specs.Solutions.{depot_by, known_instance, numberings, solving_line, status_of_solving};
 ghost use Rattle.tsp_c.specs.Texts.{IsExplained, bounds_asked, certificates, claim_of, strict_of};
 ghost use Rattle.tsp_c.specs.declared.call_result.CallResult.{CallResult};
 
@@ -42,6 +49,21 @@ pub fn examples_of_explained_calls()
     ensures strict_bound { IsExplained 3 4 0 }
     ensures no_bound { ¬ IsExplained 3 5 0 }
     ensures no_call { ¬ IsExplained 4 1 0 }
+{}
+
+/// What the numbers say of a solution, and how faults of solutions end a call.
+pub fn examples_of_solution_numbers()
+    ensures first_form { nth 1 all_forms ≡ Some forms.Tour }
+    ensures last_form { nth 10 all_forms ≡ Some forms.List }
+    ensures no_form { nth 0 all_forms ≡ None }
+    ensures from_zero { nth 1 numberings ≡ Some numbering.FromZero }
+    ensures from_one { nth 2 numberings ≡ Some numbering.FromOne }
+    ensures depot { depot_by 7 ≡ Some 7 }
+    ensures no_depot { depot_by 0 ≡ None }
+    ensures no_instance { known_instance [] ≡ None }
+    ensures fault { status_of_solving (solution_ends.File 1 (solution_faults.Place 1 2 form_faults.NotANode)) ≡ 2 }
+    ensures memory { status_of_solving (solution_ends.File 2 solution_faults.OutOfMemory) ≡ 3 }
+    ensures line { solving_line (solution_ends.Write write_faults.OutOfMemory) ≡ codes "output: out of memory\n" }
 {}
 
 /// A buffer of one place, of which two are asked, and sections that files don't have.

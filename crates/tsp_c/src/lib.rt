@@ -14,6 +14,7 @@ ghost use Rattle.tsp_number.specs.declared.decimal.Point.{Point};
 ghost use Rattle.tsp_c.specs.CallResult.{TellsBoundBy, TellsBy};
 ghost use Rattle.tsp_c.specs.NumberCalls.{PlacesText, nth, EndsCount, EndsLengths, EndsMatrix, EndsWeights, FillsCount, FillsLengths, FillsMatrix, FillsPoints, FillsWeights, GivesDistance};
 ghost use Rattle.tsp_c.specs.Opened.{BindsText, ChecksHeld, EndsSection, OfHeld, OpensText};
+ghost use Rattle.tsp_c.specs.Solutions.{SolvesBy};
 ghost use Rattle.tsp_c.specs.Texts.{BoundsBy, ChecksBy, ConvertsBy, ExplainsTexts, ShowsText, bounds_asked, certificates};
 
 mod call_end;
@@ -27,6 +28,7 @@ mod handle_calls;
 mod pair_costs;
 mod picked_runs;
 mod point_calls;
+mod solution_call;
 mod text_instance;
 
 use crate::call_result::CallResult;
@@ -41,6 +43,7 @@ use crate::handle_calls::{
 use crate::pair_costs::{fill_matrix, fill_weights};
 use crate::picked_runs::{Claim, bound_by, check_by, convert_by, shown};
 use crate::point_calls::{fill_lengths, fill_points};
+use crate::solution_call::{HintNumbers, solution_by};
 use crate::text_instance::fill_count;
 use std::alloc::Global;
 
@@ -162,6 +165,30 @@ pub extern "C" fn tsp_convert(
     ensures { PlacesText (ConvertsBy layout file.now) out.old out.new written.new result }
 {
     let answer = convert_by(alloc, file, layout);
+    let status = answer.place(out, written);
+    drop(answer);
+    status
+}
+
+/// Reads a solution in any form, and writes it as `tsp solution` does. `form` is 0 to find it, or 1 to
+/// 10 for that of `Form::ALL`. `first` is 0 to go by the form and the numbers, 1 if nodes count from 0,
+/// 2 if they count from 1. `depot` is a node, or 0 for that of the instance. An instance without bytes
+/// is none.
+#[unsafe(no_mangle)]
+pub extern "C" fn tsp_solution(
+    alloc: Global,
+    solution: &[u8],
+    instance: &[u8],
+    form: u32,
+    first: u32,
+    depot: u32,
+    out: &mut [u8],
+    written: &mut usize,
+) -> u32
+    ensures { PlacesText (SolvesBy form first depot solution.now instance.now) out.old out.new written.new result }
+{
+    let numbers = HintNumbers { form, first, depot };
+    let answer = solution_by(alloc, solution, instance, numbers);
     let status = answer.place(out, written);
     drop(answer);
     status

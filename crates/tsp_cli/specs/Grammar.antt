@@ -71,9 +71,13 @@ check_files = with_rule (with_rule (new_app (codes "check")) (path (codes "F")))
 abbrev pub check_certified : App
 check_certified = with_rule (with_rule check_files of_potentials) of_branches
 
--- check F T [--potentials P] [--branches B] [--length N] [--strict] [--explain]
+-- check F T [--potentials P] [--branches B] [--length N] [--form NAME]
+abbrev pub check_claimed : App
+check_claimed = with_rule (with_rule check_certified (option (codes "N") (codes "length"))) (option (codes "NAME") (codes "form"))
+
+-- check F T [--potentials P] [--branches B] [--length N] [--form NAME] [--strict] [--explain]
 abbrev pub check : App
-check = with_rule (with_rule (with_rule check_certified (option (codes "N") (codes "length"))) strict) explain
+check = with_rule (with_rule check_claimed strict) explain
 
 -- compare F S..
 abbrev pub compare_files : App

@@ -3,6 +3,7 @@ pub mod Examples
 pub mod Grammar
 pub mod Tasks
 pub mod Solutions
+pub mod FormCheck
 pub mod states
 pub mod RunEnd
 pub mod ProgramRun

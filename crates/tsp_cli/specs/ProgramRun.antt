@@ -12,7 +12,9 @@ use Rattle.tsp_io.specs.states.Watched.{watched, has_failed}
 use Rattle.tsp_report.specs.Tasks.{IsMappedComparison, IsMapped}
 use Rattle.tsp_report.specs.declared.task.Comparison.{Comparison}
 use Rattle.tsp_report.specs.declared.task.FileTask.{FileTask}
+use Rattle.tsp_report.specs.declared.task.Task.{Task}
 use Rattle.tsp_report.specs.declared.task.Task.TheVariants as tasks
+use Rattle.tsp_solution.specs.declared.run.SolutionRunFault.{SolutionRunFault}
 use Rattle.tsp_judge.specs.TaskRun.{AreComparedOn, IsCompared, AreReadOn, IsDone}
 use Rattle.tsp_judge.specs.declared.Watched.{Watched}
 use Rattle.tsp_judge.specs.declared.compared.Compared.{Compared}
@@ -24,7 +26,9 @@ use Rattle.clap.specs.declared.error.kind.ErrorKind.TheVariants as kinds
 use Rattle.tsp_cli.specs.Grammar.{GivesJob, IsOtherRefusal}
 use Rattle.tsp_cli.specs.RunEnd.{status_of_run_end, TellsAll, Prints, PrintsSome, version_text}
 use Rattle.tsp_cli.specs.Tasks.{IsInputPathAt, GivesTask}
-use Rattle.tsp_cli.specs.Solutions.{GivesSolution, IsSolved}
+use Rattle.tsp_cli.specs.FormCheck.{GivesFormCheck, IsCheckedByForm, LacksTexts, asks_form}
+use Rattle.tsp_cli.specs.Solutions.{GivesForm, GivesSolution, IsSolved}
+use Rattle.tsp_cli.specs.declared.form_check.FormCheck.{FormCheck}
 use Rattle.tsp_cli.specs.declared.job.TaskFault.{TaskFault}
 use Rattle.tsp_cli.specs.declared.job.Verb.TheVariants as verbs
 use Rattle.tsp_cli.specs.declared.ends.RunEnd.{RunEnd}
@@ -72,21 +76,44 @@ abbrev pub IsDoneAs : {F : Type 0} → (F → Option (List ℕ)) → (F → List
 IsDoneAs {F = F} remaining gives opens task sink answer = (old new : FileTask (Watched F)) × AreFresh opens task old
     × IsDone remaining old new sink answer × AreReadOn gives old new
 
--- the job asks for no task, and for no solution that is to be written anew
+-- the job asks for no task, or names a form that there isn't, or asks for no solution that is to be written anew
 abbrev pub GivesNone : Job → TaskFault → Type 0
 GivesNone job fault = ((job.verb ≢ Some verbs.Solution) × GivesTask job (Err fault))
+    ⊎ ((job.verb ≢ Some verbs.Solution) × ((task : Task InputPath) × GivesTask job (Ok task)) × GivesForm job.form (Err fault))
     ⊎ ((job.verb ≡ Some verbs.Solution) × GivesSolution job (Err fault))
 
+-- the files of a task ended so: the task was done on them, or it is a check of a solution in some form
+abbrev pub EndsTask : {F : Type 0} → (F → Option (List ℕ)) → (F → List ℕ → Result ℕ Error → List ℕ → F → Type 0)
+    → (InputPath → F → Type 0) → Job → Sink → Result Outcome RunFault → Type 0
+EndsTask remaining gives opens job sink answer =
+    ((task : FileTask InputPath) × GivesTask job (Ok (tasks.Files task)) × (asks_form job task ≡ false)
+    × IsDoneAs remaining gives opens task sink answer)
+    ⊎ ((check : FormCheck) × GivesFormCheck job check × IsCheckedByForm remaining gives (IsFresh opens) check sink answer)
+
+-- there is no text that a check of a solution in some form could judge, and nothing is written
+abbrev pub StopsByForm : {F : Type 0} → (F → Option (List ℕ)) → (F → List ℕ → Result ℕ Error → List ℕ → F → Type 0)
+    → (InputPath → F → Type 0) → Job → Sink → Result (Unit {0}) SolutionRunFault → Type 0
+StopsByForm remaining gives opens job sink answer = (check : FormCheck) × GivesFormCheck job check
+    × ((fault : SolutionRunFault) × (answer ≡ Err fault) × LacksTexts remaining gives (IsFresh opens) check fault) × IsUnwritten sink
+
+-- how a run with a check of a solution in some form ends: the text of its solution was checked, or there is none
+abbrev pub EndsFormCheck : {F : Type 0} → (F → Option (List ℕ)) → (F → List ℕ → Result ℕ Error → List ℕ → F → Type 0)
+    → (InputPath → F → Type 0) → FormCheck → Sink → RunEnd → Type 0
+EndsFormCheck remaining gives opens check sink (Ended answer) = IsCheckedByForm remaining gives (IsFresh opens) check sink answer
+EndsFormCheck remaining gives opens check sink (Solved answer) = ((fault : SolutionRunFault) × (answer ≡ Err fault)
+    × LacksTexts remaining gives (IsFresh opens) check fault) × IsUnwritten sink
+EndsFormCheck remaining gives opens check sink other = ⊥
+
 -- How a run with this job ends: it asks for no task, and then nothing is written; or the task was done on its opened
--- files; or the solutions were compared; or a solution was written anew.
+-- files; or the solutions were compared; or a solution was written anew, or had a fault before it could be checked.
 abbrev pub EndsWith : {F : Type 0} → (F → Option (List ℕ)) → (F → List ℕ → Result ℕ Error → List ℕ → F → Type 0)
     → (InputPath → F → Type 0) → Job → Sink → RunEnd → Type 0
 EndsWith remaining gives opens job sink (NoJob fault) = ⊥
 EndsWith remaining gives opens job sink (Printed printed) = ⊥
 EndsWith remaining gives opens job sink (NoTask fault) = GivesNone job fault × IsUnwritten sink
-EndsWith remaining gives opens job sink (Solved answer) = IsSolved job sink answer
-EndsWith remaining gives opens job sink (Ended answer) = (task : FileTask InputPath) × GivesTask job (Ok (tasks.Files task))
-    × IsDoneAs remaining gives opens task sink answer
+EndsWith remaining gives opens job sink (Solved answer) = IsSolved remaining gives (IsFresh opens) job sink answer
+    ⊎ StopsByForm remaining gives opens job sink answer
+EndsWith remaining gives opens job sink (Ended answer) = EndsTask remaining gives opens job sink answer
 EndsWith remaining gives opens job sink (run_ends.Compared answer) = (comparison : Comparison InputPath) × GivesTask job
     (Ok (tasks.Compare comparison))
     × IsComparedAs remaining gives opens comparison sink answer

@@ -2,12 +2,16 @@
 use Rattle.std.specs.Prelude.{◌≡◌, ◌≢◌, ◌⊎◌, ℕ, List, Option, None, Some, Result, Ok, Err, String, codes, pos, true}
 use Rattle.clap.specs.Words.{Text}
 use Rattle.tsp_format.specs.Limits.{most_nodes}
-use Rattle.tsp_io.specs.Streams.{Sink, IsUnwritten, HasWritten, HasStopped}
+use Rattle.std.specs.declared.io.Error.{Error}
+use Rattle.tsp_io.specs.Streams.{Sink, IsUnwritten, HasWritten, HasStopped, TakesAtMost}
 use Rattle.tsp_io.specs.declared.piece.WriteFault.TheVariants as write_faults
 use Rattle.tsp_number.specs.NumberWord.{ReadsWhole}
 use Rattle.tsp_number.specs.declared.word.NumberFault.{NumberFault}
-use Rattle.tsp_solution.specs.Forms.{form_word}
-use Rattle.tsp_solution.specs.SolutionRun.{IsSolutionRun}
+use Rattle.tsp_io.specs.states.Watched.{read_trace_of}
+use Rattle.tsp_judge.specs.declared.Watched.{Watched}
+use Rattle.tsp_read.specs.Reads.{IsReadOn, most_taken}
+use Rattle.tsp_solution.specs.Forms.{form_word, forms_table}
+use Rattle.tsp_solution.specs.SolutionRun.{IsInstanceReadOn, IsSolutionRun, TakesInstance}
 use Rattle.tsp_solution.specs.declared.form.Form.{Form}
 use Rattle.tsp_solution.specs.declared.hints.Numbering.{Numbering}
 use Rattle.tsp_solution.specs.declared.hints.Numbering.TheVariants.{FromZero, FromOne}
@@ -23,11 +27,12 @@ use Rattle.tsp_cli.specs.declared.job.TaskFault.{TaskFault}
 use Rattle.tsp_cli.specs.declared.job.TaskFault.TheVariants.{MissingPath, InputTwice, UnknownForm, NotAFirst, NotADepot}
 use Rattle.tsp_cli.specs.declared.solution_run.SolutionTask.{SolutionTask}
 
--- the form with a name, or that no form has it; none where there is no name
+-- the form with a name, or that no form has it; none where there is no name, or it is `auto`
 abbrev pub GivesForm : {Z : Type 0} → Option (String Z) → Result (Option Form) TaskFault → Type 0
-GivesForm word (Ok None) = word ≡ None
+GivesForm word (Ok None) = (word ≡ None) ⊎ (text_in word ≡ Some (codes "auto"))
 GivesForm word (Ok (Some form)) = text_in word ≡ Some (form_word form)
-GivesForm word (Err fault) = (fault ≡ UnknownForm) × ((text : Text) × (text_in word ≡ Some text) × ((form : Form) → text ≢ form_word form))
+GivesForm word (Err fault) = (fault ≡ UnknownForm) × ((text : Text) × (text_in word ≡ Some text) × (text ≢ codes "auto")
+    × ((form : Form) → text ≢ form_word form))
 
 -- the word of the number with which nodes begin to count
 abbrev pub numbering_word : Numbering → Text
@@ -76,14 +81,32 @@ GivesSolution job (Err NotADepot) = (job.solution ≢ None) × ((form : Option F
 GivesSolution job (Err InputTwice) = (task : SolutionTask) × IsSolutionTask job task × AreBothInput task
 GivesSolution job (Err other) = ⊥
 
--- the result of listing the forms: some text was written, or a prefix of it; where memory is lacking nothing is
+-- the result of listing the forms: their table was written, or a prefix of it; where memory is lacking nothing is
 abbrev pub Lists : Sink → Result (Unit {0}) SolutionRunFault → Type 0
-Lists sink (Ok done) = (text : List ℕ) × HasWritten sink text
-Lists sink (Err (solution_ends.Write write_faults.Device)) = (text : List ℕ) × HasStopped sink text
+Lists sink (Ok done) = HasWritten sink forms_table
+Lists sink (Err (solution_ends.Write write_faults.Device)) = HasStopped sink forms_table
 Lists sink (Err (solution_ends.Write write_faults.OutOfMemory)) = IsUnwritten sink
 Lists sink (Err (solution_ends.File file fault)) = ⊥
 
+-- the reader of the instance is that of its opened file, if one is named; `begins` says which readers a file may have
+-- when it is opened
+abbrev pub IsInstanceOpened : {F : Type 0} → (InputPath → Watched F → Type 0) → Option InputPath → Option (Watched F) → Type 0
+IsInstanceOpened begins None None = Unit {0}
+IsInstanceOpened begins (Some place) (Some reader) = begins place reader
+IsInstanceOpened begins _ _ = ⊥
+
+-- the solution is read from its opened file, and written anew by that of its instance, if one is named
+abbrev pub IsWrittenAnew : {F : Type 0} → (F → Option (List ℕ)) → (F → List ℕ → Result ℕ Error → List ℕ → F → Type 0)
+    → (InputPath → Watched F → Type 0) → SolutionTask → Sink → Result (Unit {0}) SolutionRunFault → Type 0
+IsWrittenAnew {F = F} remaining gives begins task sink answer =
+    (old new : Watched F) × (instance left : Option (Watched F)) × begins task.solution old
+    × IsInstanceOpened begins task.instance instance
+    × TakesAtMost most_taken (read_trace_of remaining old new) (λ first.
+    TakesInstance remaining instance left (λ second. IsSolutionRun task.hints first second sink answer))
+    × IsReadOn gives old new × IsInstanceReadOn gives instance left
+
 -- how a job of the verb `solution` ends: the forms are listed, or the solution is written anew
-abbrev pub IsSolved : Job → Sink → Result (Unit {0}) SolutionRunFault → Type 0
-IsSolved job sink answer = (job.verb ≡ Some verbs.Solution) × (((job.forms ≡ true) × Lists sink answer)
-    ⊎ (((task : SolutionTask) × GivesSolution job (Ok task)) × IsSolutionRun sink answer))
+abbrev pub IsSolved : {F : Type 0} → (F → Option (List ℕ)) → (F → List ℕ → Result ℕ Error → List ℕ → F → Type 0)
+    → (InputPath → Watched F → Type 0) → Job → Sink → Result (Unit {0}) SolutionRunFault → Type 0
+IsSolved remaining gives begins job sink answer = (job.verb ≡ Some verbs.Solution) × (((job.forms ≡ true) × Lists sink answer)
+    ⊎ ((task : SolutionTask) × GivesSolution job (Ok task) × IsWrittenAnew remaining gives begins task sink answer))

@@ -27,6 +27,7 @@ ghost use Rattle.tsp_solution.specs.declared.run.SolutionRunFault.TheVariants as
 ghost use Rattle.clap.specs.Words.{fault_of};
 ghost use Rattle.clap.specs.declared.error.Error.{Error};
 ghost use Rattle.clap.specs.declared.error.kind.ErrorKind.TheVariants as kinds;
+ghost use Rattle.tsp_cli.specs.FormCheck.{by_check_number};
 ghost use Rattle.tsp_cli.specs.Grammar.{word_of, tsp};
 ghost use Rattle.tsp_cli.specs.ProgramRun.{IsOpenedAt, paths_of, AreFresh, begins_with_help};
 ghost use Rattle.tsp_cli.specs.Examples.{IsWholeLine, found_value, all_values};
@@ -222,6 +223,10 @@ pub fn examples_of_statuses()
     ensures missing_solution { status_of_run_end (run_ends.Solved (Err (solution_ends.File 1
         (solution_faults.File read_faults.Device)))) ≡ 5 }
     ensures unknown_form { status_of_run_end (run_ends.NoTask task_faults.UnknownForm) ≡ 4 }
+    ensures solution_of_a_check { by_check_number (solution_ends.File 1 solution_faults.OutOfMemory)
+        ≡ solution_ends.File 2 solution_faults.OutOfMemory }
+    ensures instance_of_a_check { by_check_number (solution_ends.File 2 solution_faults.OutOfMemory)
+        ≡ solution_ends.File 1 solution_faults.OutOfMemory }
     ensures line { ended (codes "missing path") ≡ Some (codes "missing path\n") }
 {}
 

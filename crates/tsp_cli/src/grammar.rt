@@ -3,7 +3,7 @@
 
 ghost use Rattle.std.specs.Prelude.{◌≡◌, IfOk, false};
 ghost use Rattle.clap.specs.Words.{App, Rule, new_app, rule_of, with_rule, with_subcommand};
-ghost use Rattle.tsp_cli.specs.Grammar.{IsCommandOf, has_globals, path, several_paths, optional_path, option, flag, explain, strict, show, convert, check_files, check_certified, check, compare_files, compare_certified, compare, bound_files, bound_certified, bound, solution_files, solution_hints, solution_verb, start, tsp};
+ghost use Rattle.tsp_cli.specs.Grammar.{IsCommandOf, has_globals, path, several_paths, optional_path, option, flag, explain, strict, show, convert, check_files, check_certified, check_claimed, check, compare_files, compare_certified, compare, bound_files, bound_certified, bound, solution_files, solution_hints, solution_verb, start, tsp};
 
 use clap::{Arg, ArgAction, Command};
 use std::alloc::{AllocError, Global};
@@ -74,17 +74,19 @@ Prints yes with the length, or no with the first reason. With --potentials or
 --branches it also prints a bound: no tour is shorter. Write a length below 0
 with an equals sign: --length=-34. With --strict, an instance with an unknown
 keyword, or with a field that it doesn't use, is rejected if no other reason
-applies.
+applies. With --form auto, the solution is read as tsp solution --of F reads it.
 
 Exit status: 0 yes, 1 no, 2 a fault in a file or the wrong kind,
-3 out of memory, 4 two certificates or not a length, 5 a failed read or write.
+3 out of memory, 4 two certificates, not a length or no such form, 5 a failed
+read or write.
 
 Examples:
   tsp check a.tsp a.tour
   tsp check a.tsp a.tour --potentials a.potentials
   tsp check a.tsp a.tour --branches a.branches
   tsp check a.tsp a.tour --length 426
-  tsp check a.tsp a.tour --strict";
+  tsp check a.tsp a.tour --strict
+  tsp check a.vrp a.sol --form auto";
 
 /// The end of the help of `compare`.
 const COMPARE_NOTES: &str = "\
@@ -179,15 +181,22 @@ fn convert<'a>(alloc: Global) -> Result<Command<'a>, AllocError>
     then(two, explain(alloc))
 }
 
-/// `check F T [--potentials P] [--branches B] [--length N] [--strict] [--explain]`.
+/// `check F T [--potentials P] [--branches B] [--length N] [--form NAME] [--strict] [--explain]`.
 fn check<'a>(alloc: Global) -> Result<Command<'a>, AllocError>
     ensures { IfOk result (IsCommandOf check) }
 {
-    let one = check_certified(alloc);
+    let one = then(check_claimed(alloc), strict(alloc));
+    then(one, explain(alloc))
+}
+
+/// `check F T [--potentials P] [--branches B] [--length N] [--form NAME]`.
+fn check_claimed<'a>(alloc: Global) -> Result<Command<'a>, AllocError>
+    ensures { IfOk result (IsCommandOf check_claimed) }
+{
     let length = option(alloc, "N", "length", "Reject a solution of another length");
-    let two = then(one, length);
-    let three = then(two, strict(alloc));
-    then(three, explain(alloc))
+    let one = then(check_certified(alloc), length);
+    let about = "Read the solution in this form, or with auto in any";
+    then(one, option(alloc, "NAME", "form", about))
 }
 
 /// `check F T [--potentials P] [--branches B]`.
@@ -283,7 +292,7 @@ fn solution<'a>(alloc: Global) -> Result<Command<'a>, AllocError>
 fn solution_hints<'a>(alloc: Global) -> Result<Command<'a>, AllocError>
     ensures { IfOk result (IsCommandOf solution_hints) }
 {
-    let form = option(alloc, "NAME", "form", "The name of the form");
+    let form = option(alloc, "NAME", "form", "The name of the form, or auto to find it");
     let one = then(solution_files(alloc), form);
     let about = "0 if nodes count from 0 or routes list customers, 1 if nodes count from 1";
     let two = then(one, option(alloc, "0|1", "first", about));

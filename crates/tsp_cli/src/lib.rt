@@ -15,6 +15,7 @@
 mod ends;
 mod examples;
 mod explained;
+mod form_check;
 mod grammar;
 mod input;
 mod job;

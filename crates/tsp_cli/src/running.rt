@@ -6,16 +6,18 @@ ghost use Rattle.std.specs.IoError.{error_kind};
 ghost use Rattle.std.specs.Prelude.{◌≡◌, ◌≢◌, ◌||◌, IfOk, OnOk, Some, drop, map, ◌≤◌, ◌<◌, true, false, length};
 ghost use Rattle.std.specs.String.{string_bytes};
 ghost use Rattle.tsp_io.specs.states.Output.{FailsByWrite, sink_of};
-ghost use Rattle.tsp_cli.specs.ProgramRun.{IsComparedAs, AreOpened, IsFresh, EndsProgram, EndsRefused, EndsWith, HasNoWords, IsDoneAs, Runs, RunsComparison, RunsJob, RunsFileTask, begins_with_help, AreFresh};
+ghost use Rattle.tsp_judge.specs.TaskRun.{outcome_of_check};
+ghost use Rattle.tsp_cli.specs.ProgramRun.{EndsFormCheck, IsComparedAs, AreOpened, IsFresh, EndsProgram, EndsRefused, EndsWith, HasNoWords, IsDoneAs, Runs, RunsComparison, RunsJob, RunsFileTask, begins_with_help, AreFresh};
 ghost use Rattle.tsp_cli.specs.declared.job.Verb.TheVariants as verbs;
 ghost use Rattle.tsp_cli.specs.RunEnd.{Prints, PrintsSome, version_text, status_of_run_end, Tells, TellsAfter, TellsAll, waiting_line};
 
 use crate::ends::{RunEnd, status_of_run_end, tell};
 use crate::explained::{Followed, TaskRun, end_count, explanation, fault_explanation};
+use crate::form_check::{FormCheck, check_texts, form_check_of, texts_of};
 use crate::grammar::VERSION;
 use crate::input::Open;
 use crate::job::{InputPath, Job, JobFault, TaskFault, Verb, job_of, task_of, unread};
-use crate::solution_run::run_solution;
+use crate::solution_run::{form_of, run_solution, tell_solved};
 use clap::Error as Refusal;
 use clap::error::ErrorKind;
 use std::alloc::{AllocError, Global};
@@ -23,7 +25,7 @@ use std::fmt::{self, Display, Formatter};
 use std::io::{self, Read, Write};
 use std::marker::PhantomData;
 use tsp_io::{Gives, Output, Takes, write_text};
-use tsp_judge::{Watched, WriteFault, compare, perform};
+use tsp_judge::{Judged, Outcome, RunError, Watched, WriteFault, compare, perform};
 use tsp_report::{Comparison, FileTask, Task};
 
 /// What a run knows of its surroundings.
@@ -148,6 +150,13 @@ fn run_job<F: Gives + Drop, O: Open<F>, W: Takes, E: Write>(
             return (status_of_run_end(&RunEnd::NoTask(fault)), reported);
         }
     };
+    let form = match form_of(&job.form) {
+        Ok(form) => form,
+        Err(fault) => {
+            let reported = tell_fault_of_job(alloc, fault, errors, explain);
+            return (status_of_run_end(&RunEnd::NoTask(fault)), reported);
+        }
+    };
     let task_run = TaskRun {
         alloc,
         task: &task,
@@ -157,7 +166,10 @@ fn run_job<F: Gives + Drop, O: Open<F>, W: Takes, E: Write>(
         file: PhantomData,
     };
     match &task {
-        Task::Files(files) => run_file_task(&task_run, files, out, errors),
+        Task::Files(files) => match form_check_of(job, form, files) {
+            Some(check) => run_form_check(&task_run, check, out, errors),
+            None => run_file_task(&task_run, files, out, errors),
+        },
         Task::Compare(comparison) => run_comparison(&task_run, comparison, out, errors),
     }
 }
@@ -210,6 +222,35 @@ fn run_file_task<F: Gives + Drop, O: Open<F>, W: Takes, E: Write>(
     let run_end = RunEnd::Ended(perform(task_run.alloc, &mut readers, out));
     let reported = tell_end(task_run, &run_end, out.error(), errors);
     (status_of_run_end(&run_end), reported)
+}
+
+/// Checks a solution in some form, and tells how that ended.
+fn run_form_check<F: Gives + Drop, O: Open<F>, W: Takes, E: Write>(
+    task_run: &TaskRun<'_, F, O>,
+    check: FormCheck<'_>,
+    out: &mut Output<W>,
+    errors: &mut E,
+) -> (u8, io::Result<()>)
+    ensures { RunsJob (EndsFormCheck F.remaining F.gives (O.opens task_run.now.files.now) check.entry
+        (sink_of W.contents out.old out.new)) task_run.now.explain (E.contents errors.old) (E.contents errors.new) result }
+{
+    let alloc = task_run.alloc;
+    let texts = match texts_of(alloc, check, task_run.files) {
+        Ok(texts) => texts,
+        Err(fault) => return tell_solved(alloc, Err(fault), errors, task_run.explain),
+    };
+    let judged = check_texts(alloc, check, &texts, task_run.files, out);
+    drop(texts);
+    let run_end = RunEnd::Ended(outcome_of(judged));
+    let reported = tell_end(task_run, &run_end, out.error(), errors);
+    (status_of_run_end(&run_end), reported)
+}
+
+/// The outcome of a check.
+fn outcome_of(judged: Result<Judged, RunError>) -> Result<Outcome, RunError>
+    ensures { result ≡ outcome_of_check judged }
+{
+    Ok(Outcome::Judged(judged?))
 }
 
 /// Compares solutions, and tells how that ended. The instance is opened in its place, and the

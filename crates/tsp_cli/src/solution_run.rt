@@ -3,10 +3,9 @@
 ghost use Rattle.std.specs.Prelude.{◌≡◌, ◌↔◌, IsTrue, OnOk, Some};
 ghost use Rattle.tsp_cli.specs.Grammar.{text_in};
 ghost use Rattle.tsp_io.specs.states.Output.{sink_of};
-ghost use Rattle.tsp_solution.specs.SolutionRun.{IsSolutionRun};
-ghost use Rattle.tsp_cli.specs.ProgramRun.{EndsWith, RunsJob};
+ghost use Rattle.tsp_cli.specs.ProgramRun.{EndsWith, IsFresh, RunsJob};
 ghost use Rattle.tsp_cli.specs.RunEnd.{TellsAll, status_of_solved};
-ghost use Rattle.tsp_cli.specs.Solutions.{AreBothInput, GivesDepot, GivesForm, GivesNumbering, GivesSolution, IsInstanceAt, Lists};
+ghost use Rattle.tsp_cli.specs.Solutions.{AreBothInput, GivesDepot, GivesForm, GivesNumbering, GivesSolution, IsInstanceAt, IsInstanceOpened, IsWrittenAnew, Lists};
 ghost use Rattle.tsp_cli.specs.declared.ends.RunEnd.TheVariants.{Solved};
 ghost use Rattle.tsp_cli.specs.declared.job.Verb.TheVariants as verbs;
 
@@ -18,7 +17,7 @@ use std::alloc::Global;
 use std::io::{self, Write};
 use tsp_explain::push_lines;
 use tsp_format::MOST_NODES;
-use tsp_io::{Gives, Output, Takes, WriteFault, write_text};
+use tsp_io::{Gives, Output, Takes, Watched, WriteFault, write_text};
 use tsp_number::parse_whole;
 use tsp_solution::{
     Form, Hints, Numbering, SolutionFault, SolutionRunFault, table_of_forms, write_solution,
@@ -84,16 +83,19 @@ fn instance_of(path: &Option<String>) -> Option<InputPath<'_>>
     }
 }
 
-/// The form with a name, if there is a name.
-fn form_of(word: &Option<String>) -> Result<Option<Form>, TaskFault>
+/// The form with a name, if there is a name other than `auto`.
+pub(crate) fn form_of(word: &Option<String>) -> Result<Option<Form>, TaskFault>
     ensures { GivesForm word.now result }
 {
     let Some(word) = word else {
         return Ok(None);
     };
-    match Form::of_word(word) {
-        Some(form) => Ok(Some(form)),
-        None => Err(TaskFault::UnknownForm),
+    match word.as_str() {
+        "auto" => Ok(None),
+        name => match Form::of_word(name) {
+            Some(form) => Ok(Some(form)),
+            None => Err(TaskFault::UnknownForm),
+        },
     }
 }
 
@@ -139,10 +141,10 @@ pub(crate) fn run_solution<F: Gives + Drop, O: Open<F>, W: Takes, E: Write>(
         explain (E.contents errors.old) (E.contents errors.new) result }
 {
     if job.forms {
-        return end(alloc, list_forms(alloc, out), errors, explain);
+        return tell_solved(alloc, list_forms(alloc, out), errors, explain);
     }
     match solution_task_of(job) {
-        Ok(task) => end(alloc, solve(alloc, task, files, out), errors, explain),
+        Ok(task) => tell_solved(alloc, solve(alloc, task, files, out), errors, explain),
         Err(fault) => {
             let reported = tell_fault_of_job(alloc, fault, errors, explain);
             (status_of_run_end(&RunEnd::NoTask(fault)), reported)
@@ -157,14 +159,25 @@ fn solve<F: Gives + Drop, O: Open<F>, W: Takes>(
     files: &O,
     out: &mut Output<W>,
 ) -> Result<(), SolutionRunFault>
-    ensures { IsSolutionRun (sink_of W.contents out.old out.new) result }
+    ensures { IsWrittenAnew F.remaining F.gives (IsFresh (O.opens files.now)) task.entry
+        (sink_of W.contents out.old out.new) result }
 {
     let mut solution = fresh(task.solution, files);
-    let mut instance = match task.instance {
+    let mut instance = opened_instance(task.instance, files);
+    write_solution(alloc, &mut solution, &mut instance, task.hints, out)
+}
+
+/// The file of the instance, opened, if one is named.
+fn opened_instance<F: Gives + Drop, O: Open<F>>(
+    instance: Option<InputPath<'_>>,
+    files: &O,
+) -> Option<Watched<F>>
+    ensures { IsInstanceOpened (IsFresh (O.opens files.now)) instance.entry result }
+{
+    match instance {
         Some(place) => Some(fresh(place, files)),
         None => None,
-    };
-    write_solution(alloc, &mut solution, &mut instance, task.hints, out)
+    }
 }
 
 /// Prints the table of the forms.
@@ -181,7 +194,7 @@ fn list_forms<W: Takes>(alloc: Global, out: &mut Output<W>) -> Result<(), Soluti
 }
 
 /// Tells how a run ended, and explains a fault if that is wanted.
-fn end<E: Write>(
+pub(crate) fn tell_solved<E: Write>(
     alloc: Global,
     solved: Result<(), SolutionRunFault>,
     errors: &mut E,

@@ -172,7 +172,7 @@ const NOT_SYMMETRIC: &str = "In a TSP, the cost between two nodes is the same in
 
 const DIMENSION: &str =
     "The solution's DIMENSION isn't the instance's. In LKH-3's tour for a CVRP, the additional\n\
-    nodes are copies of the depot: the recipe lkh-routes.awk turns such a tour into routes.";
+    nodes are copies of the depot: with --form auto, tsp check reads such a tour as routes.";
 
 const TOUR_COUNT: &str = "The second file has to contain exactly one tour, with -1 at its end.";
 

@@ -2,3 +2,4 @@
 pub mod FaultTexts
 pub mod Forms
 pub mod SolutionRun
+pub mod SolutionText

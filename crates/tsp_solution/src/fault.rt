@@ -1,7 +1,7 @@
 //! Why a text isn't read as a solution.
 
 ghost use Rattle.std.specs.Prelude.{◌≡◌};
-ghost use Rattle.tsp_solution.specs.FaultTexts.{form_fault_text};
+ghost use Rattle.tsp_solution.specs.FaultTexts.{form_fault_sentence, form_fault_text};
 
 use std::fmt;
 use thiserror::Error;
@@ -85,7 +85,9 @@ impl FormFault {
 
 impl FormFault {
     /// What the fault means, in a sentence or two.
-    pub fn sentence(self) -> &'static str {
+    pub fn sentence(self) -> &'static str
+        ensures { result.now ≡ form_fault_sentence self }
+    {
         match self {
             FormFault::NoForm => {
                 "The text has none of the forms that tsp solution --forms prints."
@@ -106,7 +108,7 @@ impl FormFault {
             }
             FormFault::NoNodes => "There are no nodes.",
             FormFault::UnknownLine => {
-                "The line is no route. Beside routes, a file has a cost, comments with #, and lines NAME: VALUE."
+                "The line is no route. Besides routes, a file may have a cost, comments with #, and lines NAME: VALUE."
             }
             FormFault::NotClosed =>
                 "A walk begins and ends at the depot, and all walks at the same one.",

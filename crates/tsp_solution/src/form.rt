@@ -1,10 +1,10 @@
 //! The forms in which programs write solutions, in the order in which they are told apart.
 
-ghost use Rattle.std.specs.Prelude.{◌≡◌};
-ghost use Rattle.tsp_solution.specs.Forms.{form_word, IsFormOf};
+ghost use Rattle.std.specs.List.{flat_map};
+ghost use Rattle.std.specs.Prelude.{◌≡◌, ◌≤◌, ◌++◌, IfOk, OnOk, length};
+ghost use Rattle.tsp_solution.specs.Forms.{form_word, form_mark, form_content, forms_table, form_row, rows_of_form, IsFormOf};
 
-use std::alloc::Global;
-use tsp_io::{Refused, push};
+use std::alloc::{AllocError, Global};
 
 /// A form in which a program writes a solution.
 #[derive(Clone, Copy, Debug, PartialEq, Eq)]
@@ -48,7 +48,8 @@ impl Form {
 
     /// The name of the form.
     pub fn word(self) -> &'static str
-        ensures { result.now ≡ form_word self }
+        ensures word { result.now ≡ form_word self }
+        ensures short { length result.now ≤ 16 }
     {
         match self {
             Form::Tour => "tour",
@@ -65,7 +66,9 @@ impl Form {
     }
 
     /// What tells the form from those after it.
-    pub fn mark(self) -> &'static str {
+    pub fn mark(self) -> &'static str
+        ensures { result.now ≡ form_mark self }
+    {
         match self {
             Form::Tour => "a line TYPE or TOUR_SECTION",
             Form::Json => "begins with { or [, and is JSON",
@@ -81,7 +84,9 @@ impl Form {
     }
 
     /// What is read of the form.
-    pub fn content(self) -> &'static str {
+    pub fn content(self) -> &'static str
+        ensures { result.now ≡ form_content self }
+    {
         match self {
             Form::Tour => "a file of TYPE TOUR; with --of, LKH-3's copies of the depot too",
             Form::Json => "a list of nodes or routes, alone or in an object, such as VRPLIB's",
@@ -116,38 +121,43 @@ impl Form {
     }
 }
 
-/// The width of the column of names.
-const WIDTH: usize = 16;
-
 /// The table of the forms: for each a line with its name and what tells it, and one with what is
 /// read of it.
 ///
 /// # Errors
 ///
 /// Out of memory.
-pub fn table_of_forms(alloc: Global) -> Result<Vec<u8>, Refused> {
+pub fn table_of_forms(alloc: Global) -> Result<Vec<u8>, AllocError>
+    ensures { IfOk result (λ text. text.items ≡ forms_table) }
+{
     let mut text = Vec::new(alloc);
-    'forms: for form in &Form::ALL {
-        push_row(&mut text, form.word(), form.mark())?;
-        push_row(&mut text, "", form.content())?;
+    match push_forms(&mut text, &Form::ALL) {
+        Ok(()) => Ok(text),
+        Err(refused) => Err(refused),
     }
-    Ok(text)
 }
 
-/// Adds a line of two columns.
-fn push_row(text: &mut Vec<u8>, name: &str, words: &str) -> Result<(), Refused> {
-    push_words(text, name)?;
-    'blanks: for _ in name.len()..WIDTH {
-        push(text, b' ')?;
-    }
-    push_words(text, words)?;
-    push(text, b'\n')
-}
-
-/// Adds words.
-fn push_words(text: &mut Vec<u8>, words: &str) -> Result<(), Refused> {
-    'bytes: for byte in words.as_bytes() {
-        push(text, *byte)?;
+/// Adds the lines of forms.
+fn push_forms(text: &mut Vec<u8>, forms: &[Form]) -> Result<(), AllocError>
+    ensures { OnOk result (text.new.items ≡ text.old.items ++ flat_map rows_of_form forms.now) }
+{
+    'forms: for form in forms {
+        push_row(text, form.word(), form.mark())?;
+        push_row(text, "", form.content())?;
     }
     Ok(())
+}
+
+/// As many blanks as the column of names is wide.
+const BLANKS: &str = "                ";
+
+/// Adds a line of two columns.
+fn push_row(text: &mut Vec<u8>, name: &str, words: &str) -> Result<(), AllocError>
+    requires { length name.now ≤ 16 }
+    ensures { OnOk result (text.new.items ≡ text.old.items ++ form_row name.now words.now) }
+{
+    text.extend_from_slice(name.as_bytes())?;
+    text.extend_from_slice(&BLANKS.as_bytes()[name.len()..])?;
+    text.extend_from_slice(words.as_bytes())?;
+    text.extend_from_slice(b"\n")
 }

@@ -1,5 +1,8 @@
 //! Lines and words of a text, and where they stand.
 
+ghost use Rattle.std.specs.Prelude.{◌≡◌};
+ghost use Rattle.tsp_solution.specs.declared.fault.SolutionFault.TheVariants.{Place as PlaceFault};
+
 use crate::fault::{FormFault, SolutionFault};
 use tsp_format::is_blank;
 use tsp_number::{NumberFault, parse_whole};
@@ -17,12 +20,16 @@ pub(crate) struct Place {
 
 impl Place {
     /// The first word of a text.
-    pub(crate) fn first() -> Place {
+    pub(crate) fn first() -> Place
+        ensures { (result.line ≡ 1) × (result.word ≡ 1) }
+    {
         Place::of_line(1)
     }
 
     /// The first word of a line.
-    pub(crate) fn of_line(line: u32) -> Place {
+    pub(crate) fn of_line(line: u32) -> Place
+        ensures { (result.line ≡ line) × (result.word ≡ 1) }
+    {
         Place { line, word: 1 }
     }
 
@@ -35,7 +42,9 @@ impl Place {
     }
 
     /// A fault at this place.
-    pub(crate) fn fault(self, fault: FormFault) -> SolutionFault {
+    pub(crate) fn fault(self, fault: FormFault) -> SolutionFault
+        ensures { result ≡ PlaceFault self.line self.word fault }
+    {
         SolutionFault::Place {
             line: self.line,
             word: self.word,
