@@ -292,7 +292,12 @@ fn solution<'a>(alloc: Global) -> Result<Command<'a>, AllocError>
 fn solution_hints<'a>(alloc: Global) -> Result<Command<'a>, AllocError>
     ensures { IfOk result (IsCommandOf solution_hints) }
 {
-    let form = option(alloc, "NAME", "form", "The name of the form, or auto to find it");
+    let form = option(
+        alloc,
+        "NAME",
+        "form",
+        "The name of the form, or auto to find it",
+    );
     let one = then(solution_files(alloc), form);
     let about = "0 if nodes count from 0 or routes list customers, 1 if nodes count from 1";
     let two = then(one, option(alloc, "0|1", "first", about));

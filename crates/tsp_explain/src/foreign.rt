@@ -312,12 +312,8 @@ fn is_of_solutions(form: Form) -> bool {
         | Form::OrTools
         | Form::LkhRoutes
         | Form::Routes => true,
-        Form::Html
-        | Form::Xml
-        | Form::Hash
-        | Form::Points
-        | Form::Numbers
-        | Form::LkhPotentials => false,
+        Form::Html | Form::Xml | Form::Hash | Form::Points | Form::Numbers | Form::LkhPotentials =>
+            false,
     }
 }
 

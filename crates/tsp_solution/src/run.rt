@@ -142,10 +142,7 @@ fn hints_for<I: Gives>(
 /// # Errors
 ///
 /// `Device` if a read fails, or had failed before; `TooLong`; `OutOfMemory`.
-pub fn read_text<R: Gives>(
-    alloc: Global,
-    reader: &mut Watched<R>,
-) -> Result<Vec<u8>, SolutionFault>
+pub fn read_text<R: Gives>(alloc: Global, reader: &mut Watched<R>) -> Result<Vec<u8>, SolutionFault>
     ensures answer { TakesAtMost most_taken (read_trace_of R.remaining reader.old reader.new) (λ read_trace.
         MatchResult result (λ text. IsReadWhole read_trace × (text.items ≡ read_trace.given)) (λ fault. StopsText fault read_trace)) }
     ensures asked { IsReadOn R.gives reader.old reader.new }
@@ -161,10 +158,7 @@ pub fn read_text<R: Gives>(
 /// # Errors
 ///
 /// Those of `read_text`.
-fn read_pieces<R: Gives>(
-    alloc: Global,
-    reader: &mut Watched<R>,
-) -> Result<Vec<u8>, SolutionFault>
+fn read_pieces<R: Gives>(alloc: Global, reader: &mut Watched<R>) -> Result<Vec<u8>, SolutionFault>
     requires sound { has_failed reader.old ≡ false }
     ensures answer { TakesAtMost most_taken (read_trace_of R.remaining reader.old reader.new) (λ read_trace.
         MatchResult result (λ text. IsReadWhole read_trace × (text.items ≡ read_trace.given)) (λ fault. StopsText fault read_trace)) }
