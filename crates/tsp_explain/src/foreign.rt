@@ -209,7 +209,7 @@ pub(crate) fn push_foreign(
     given: Option<Role>,
 ) -> Result<(), AllocError> {
     push_lines(text, looks_like(form))?;
-    if let Some(remedy) = remedy(form, given) {
+    if let Some(remedy) = remedy_for(form, given) {
         push_remedy(text, remedy, name)?;
     }
     push_lines(text, begins(given))
@@ -288,7 +288,7 @@ fn looks_like(form: Form) -> &'static str {
 }
 
 /// The command that reads a file of this form, if there is one for what the file is given for.
-fn remedy(form: Form, given: Option<Role>) -> Option<Remedy> {
+fn remedy_for(form: Form, given: Option<Role>) -> Option<Remedy> {
     match (given, form) {
         (Some(Role::Potentials) | None, Form::LkhPotentials) => Some(Remedy::Recipe),
         (Some(Role::Solution), _) if is_of_solutions(form) => Some(Remedy::Check),
