@@ -76,7 +76,8 @@ export function bound(instance, options) {
  * @param {SolutionOptions} [options] without the instance
  * @returns {Uint8Array}
  */
-export function tourIn(solution, instance, { form, first, depot } = {}) {
+export function tourIn(solution, instance, options = {}) {
+    const { form, first, depot } = options;
     const number = form === undefined ? 0 : FORMS.indexOf(form) + 1;
     if (form !== undefined && number === 0) {
         throw new RangeError(`there is no form ${String(form)}`);

@@ -87,8 +87,8 @@ class Forms(unittest.TestCase):
         self.assertEqual(str(caught.exception), "file 2: line 2 word 1: UnknownLine: 2 4")
         # a text without a form has the fault that it has as a file of TYPE TOUR
         with self.assertRaises(yokecairn.LineFault) as caught:
-            check(RECTANGLE.encode(), b"no tour here\n")
-        self.assertEqual(caught.exception.told, "file 2: line 1 word 0: UnknownLine")
+            check(RECTANGLE.encode(), b"<!DOCTYPE html>\n")
+        self.assertEqual(caught.exception.told, "file 2: line 1 word 1: StrayNumber")
         with self.assertRaises(yokecairn.Fault) as caught:
             read_solution(b"1 2", of=b"TYPE : HCP\n")
         self.assertEqual(caught.exception.told, "file 2: line 1 word 0: Outside")
