@@ -8,7 +8,7 @@ import unittest
 from pathlib import Path
 
 from support import EXAMPLES, PACKAGE, RECTANGLE
-from yokecairn.__main__ import length_of
+from yokecairn.solution import length_of
 
 try:
     import resource
