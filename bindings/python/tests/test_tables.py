@@ -13,7 +13,8 @@ import unittest
 
 import yokecairn
 from support import ROOT
-from yokecairn.__main__ import Run, length_of
+from yokecairn.__main__ import Run
+from yokecairn.solution import length_of
 from yokecairn.compare import line_of
 
 sys.path.append(str(ROOT / "tests/support"))

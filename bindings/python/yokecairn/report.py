@@ -11,7 +11,7 @@ from typing import Any, Callable, Dict, Iterable, List, Mapping, NamedTuple, Opt
 
 from . import _library
 from ._declared import REASONS
-from .faults import SolutionError, error_of, explained, text_of
+from .faults import error_of, explained, text_of
 from .problem import Problem, Source, text_and_path
 from .solution import Shape, shape_of, told_by, tour_text, tours_of
 
@@ -224,13 +224,13 @@ def check(
     `strict`, an instance with an unknown keyword (one of `Report.not_judged`) is rejected with `NotJudged`, and one with a
     field that it doesn't use with `NotUsed`, after all other reasons.
 
-    A solution in the form of CVRPLIB (`.sol`), OR-Tools or JSON is read as `read_solution` reads it. With `foreign=True`
-    every form is read, and with `foreign=False` only TYPE TOUR. If such a solution claims a length, this is used as
-    `length`, unless you pass `length` or `claims=False`.
+    A solution in another program's form is read as `read_solution` reads it, and with `foreign=False` only TYPE TOUR. If such
+    a solution claims a length, this is used as `length`, unless you pass `length` or `claims=False`. With `foreign=True`, this
+    also holds for a file of TYPE TOUR, in which LKH-3's copies of the depot are then read too.
 
     Raises:
-        Fault: a text isn't a valid file, or the first file is of the wrong kind.
-        SolutionError: the other program's solution can't be read.
+        Fault: a text isn't a valid file, or the first file is of the wrong kind. It is a `SolutionError` if the solution has
+            another program's form, or none that is known.
         OSError: a path can't be read.
         MemoryError: out of memory.
     """
@@ -254,10 +254,7 @@ def solution_of(
     path = path or own_path
     if isinstance(solution, Problem):
         return text, path, solution.claimed_length if claims else None
-    try:
-        told, claim = told_by(text, shape, foreign=foreign, claims=claims)
-    except SolutionError as fault:
-        raise SolutionError(fault.told, fault.line, path) from None
+    told, claim = told_by(text, shape, path, foreign=foreign, claims=claims)
     return told, path, claim
 
 
