@@ -171,7 +171,7 @@ pub extern "C" fn tsp_convert(
 }
 
 /// Reads a solution in any form, and writes it as `tsp solution` does. `form` is 0 to find it, or 1 to
-/// 10 for that of `Form::ALL`. `first` is 0 to go by the form and the numbers, 1 if nodes count from 0,
+/// 10 for that of `Form`. `first` is 0 to go by the form and the numbers, 1 if nodes count from 0,
 /// 2 if they count from 1. `depot` is a node, or 0 for that of the instance. An instance without bytes
 /// is none.
 #[unsafe(no_mangle)]

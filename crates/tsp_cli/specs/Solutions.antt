@@ -3,7 +3,7 @@ use Rattle.std.specs.Prelude.{◌≡◌, ◌≢◌, ◌⊎◌, ℕ, List, Option
 use Rattle.clap.specs.Words.{Text}
 use Rattle.tsp_format.specs.Limits.{most_nodes}
 use Rattle.std.specs.declared.io.Error.{Error}
-use Rattle.tsp_io.specs.Streams.{Sink, IsUnwritten, HasWritten, HasStopped, TakesAtMost}
+use Rattle.tsp_io.specs.Streams.{Sink, HasWritten, HasStopped, TakesAtMost}
 use Rattle.tsp_io.specs.declared.piece.WriteFault.TheVariants as write_faults
 use Rattle.tsp_number.specs.NumberWord.{ReadsWhole}
 use Rattle.tsp_number.specs.declared.word.NumberFault.{NumberFault}
@@ -81,12 +81,11 @@ GivesSolution job (Err NotADepot) = (job.solution ≢ None) × ((form : Option F
 GivesSolution job (Err InputTwice) = (task : SolutionTask) × IsSolutionTask job task × AreBothInput task
 GivesSolution job (Err other) = ⊥
 
--- the result of listing the forms: their table was written, or a prefix of it; where memory is lacking nothing is
+-- the result of listing the forms: their table was written, or a prefix of it
 abbrev pub Lists : Sink → Result (Unit {0}) SolutionRunFault → Type 0
 Lists sink (Ok done) = HasWritten sink forms_table
 Lists sink (Err (solution_ends.Write write_faults.Device)) = HasStopped sink forms_table
-Lists sink (Err (solution_ends.Write write_faults.OutOfMemory)) = IsUnwritten sink
-Lists sink (Err (solution_ends.File file fault)) = ⊥
+Lists sink (Err other) = ⊥
 
 -- the reader of the instance is that of its opened file, if one is named; `begins` says which readers a file may have
 -- when it is opened

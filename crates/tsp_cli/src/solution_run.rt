@@ -17,7 +17,7 @@ use std::alloc::Global;
 use std::io::{self, Write};
 use tsp_explain::push_lines;
 use tsp_format::MOST_NODES;
-use tsp_io::{Gives, Output, Takes, Watched, WriteFault, write_text};
+use tsp_io::{Gives, Output, Takes, Watched, write_text};
 use tsp_number::parse_whole;
 use tsp_solution::{
     Form, Hints, Numbering, SolutionFault, SolutionRunFault, table_of_forms, write_solution,
@@ -141,7 +141,7 @@ pub(crate) fn run_solution<F: Gives + Drop, O: Open<F>, W: Takes, E: Write>(
         explain (E.contents errors.old) (E.contents errors.new) result }
 {
     if job.forms {
-        return tell_solved(alloc, list_forms(alloc, out), errors, explain);
+        return tell_solved(alloc, list_forms(out), errors, explain);
     }
     match solution_task_of(job) {
         Ok(task) => tell_solved(alloc, solve(alloc, task, files, out), errors, explain),
@@ -181,13 +181,10 @@ fn opened_instance<F: Gives + Drop, O: Open<F>>(
 }
 
 /// Prints the table of the forms.
-fn list_forms<W: Takes>(alloc: Global, out: &mut Output<W>) -> Result<(), SolutionRunFault>
+fn list_forms<W: Takes>(out: &mut Output<W>) -> Result<(), SolutionRunFault>
     ensures { Lists (sink_of W.contents out.old out.new) result }
 {
-    let Ok(text) = table_of_forms(alloc) else {
-        return Err(SolutionRunFault::Write(WriteFault::OutOfMemory));
-    };
-    match write_text(out, &text) {
+    match write_text(out, table_of_forms().as_bytes()) {
         Ok(()) => Ok(()),
         Err(fault) => Err(SolutionRunFault::Write(fault)),
     }

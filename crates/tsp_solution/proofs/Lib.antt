@@ -1,1 +1,2 @@
--- This crate has no files of lemmas.
+-- The files of lemmas of this crate.
+mod Instances

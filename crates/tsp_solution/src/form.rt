@@ -1,10 +1,7 @@
 //! The forms in which programs write solutions, in the order in which they are told apart.
 
-ghost use Rattle.std.specs.List.{flat_map};
-ghost use Rattle.std.specs.Prelude.{◌≡◌, ◌≤◌, ◌++◌, IfOk, OnOk, length};
-ghost use Rattle.tsp_solution.specs.Forms.{form_word, form_mark, form_content, forms_table, form_row, rows_of_form, IsFormOf};
-
-use std::alloc::{AllocError, Global};
+ghost use Rattle.std.specs.Prelude.{◌≡◌};
+ghost use Rattle.tsp_solution.specs.Forms.{form_word, forms_table, IsFormOf};
 
 /// A form in which a program writes a solution.
 #[derive(Clone, Copy, Debug, PartialEq, Eq)]
@@ -32,24 +29,9 @@ pub enum Form {
 }
 
 impl Form {
-    /// Each form, in the order in which they are told apart.
-    pub const ALL: [Form; 10] = [
-        Form::Tour,
-        Form::Json,
-        Form::OrTools,
-        Form::Cvrplib,
-        Form::LkhRoutes,
-        Form::RTour,
-        Form::ConcordeEdges,
-        Form::ConcordeTour,
-        Form::Table,
-        Form::List,
-    ];
-
     /// The name of the form.
     pub fn word(self) -> &'static str
-        ensures word { result.now ≡ form_word self }
-        ensures short { length result.now ≤ 16 }
+        ensures { result.now ≡ form_word self }
     {
         match self {
             Form::Tour => "tour",
@@ -62,42 +44,6 @@ impl Form {
             Form::ConcordeTour => "concorde",
             Form::Table => "table",
             Form::List => "list",
-        }
-    }
-
-    /// What tells the form from those after it.
-    pub fn mark(self) -> &'static str
-        ensures { result.now ≡ form_mark self }
-    {
-        match self {
-            Form::Tour => "a line TYPE or TOUR_SECTION",
-            Form::Json => "begins with { or [, and is JSON",
-            Form::OrTools => "a line of nodes with -> between them",
-            Form::Cvrplib => "a line that begins with Route and has a colon",
-            Form::LkhRoutes => "a line with (#",
-            Form::RTour => "begins with [1]",
-            Form::ConcordeEdges => "a first line of two equal numbers",
-            Form::ConcordeTour => "a first line with the number of nodes",
-            Form::Table => "lines of two numbers, one of them the position",
-            Form::List => "other numbers",
-        }
-    }
-
-    /// What is read of the form.
-    pub fn content(self) -> &'static str
-        ensures { result.now ≡ form_content self }
-    {
-        match self {
-            Form::Tour => "a file of TYPE TOUR; with --of, LKH-3's copies of the depot too",
-            Form::Json => "a list of nodes or routes, alone or in an object, such as VRPLIB's",
-            Form::OrTools => "what OR-Tools' examples print; nodes count from 0",
-            Form::Cvrplib => "routes of CVRPLIB and PyVRP; customers count from 1",
-            Form::LkhRoutes => "LKH-3's MTSP_SOLUTION_FILE; needs --of",
-            Form::RTour => "a tour that R printed; nodes count from 1",
-            Form::ConcordeEdges => "the edges of Concorde's tour; nodes count from 0",
-            Form::ConcordeTour => "Concorde's tour; nodes count from 0",
-            Form::Table => "nodes by position, below a line of names or without one",
-            Form::List => "a list of nodes, such as Concorde's cycles and numpy's",
         }
     }
 
@@ -123,41 +69,31 @@ impl Form {
 
 /// The table of the forms: for each a line with its name and what tells it, and one with what is
 /// read of it.
-///
-/// # Errors
-///
-/// Out of memory.
-pub fn table_of_forms(alloc: Global) -> Result<Vec<u8>, AllocError>
-    ensures { IfOk result (λ text. text.items ≡ forms_table) }
+pub fn table_of_forms() -> &'static str
+    ensures { result.now ≡ forms_table }
 {
-    let mut text = Vec::new(alloc);
-    match push_forms(&mut text, &Form::ALL) {
-        Ok(()) => Ok(text),
-        Err(refused) => Err(refused),
-    }
+    TABLE
 }
 
-/// Adds the lines of forms.
-fn push_forms(text: &mut Vec<u8>, forms: &[Form]) -> Result<(), AllocError>
-    ensures { OnOk result (text.new.items ≡ text.old.items ++ flat_map rows_of_form forms.now) }
-{
-    'forms: for form in forms {
-        push_row(text, form.word(), form.mark())?;
-        push_row(text, "", form.content())?;
-    }
-    Ok(())
-}
-
-/// As many blanks as the column of names is wide.
-const BLANKS: &str = "                ";
-
-/// Adds a line of two columns.
-fn push_row(text: &mut Vec<u8>, name: &str, words: &str) -> Result<(), AllocError>
-    requires { length name.now ≤ 16 }
-    ensures { OnOk result (text.new.items ≡ text.old.items ++ form_row name.now words.now) }
-{
-    text.extend_from_slice(name.as_bytes())?;
-    text.extend_from_slice(&BLANKS.as_bytes()[name.len()..])?;
-    text.extend_from_slice(words.as_bytes())?;
-    text.extend_from_slice(b"\n")
-}
+const TABLE: &str = "\
+tour            a line TYPE or TOUR_SECTION
+                a file of TYPE TOUR; with --of, LKH-3's copies of the depot too
+json            begins with { or [, and is JSON
+                a list of nodes or routes, alone or in an object, such as VRPLIB's
+ortools         a line of nodes with -> between them
+                what OR-Tools' examples print; nodes count from 0
+cvrplib         a line that begins with Route and has a colon
+                routes of CVRPLIB and PyVRP; customers count from 1
+lkh             a line with (#
+                LKH-3's MTSP_SOLUTION_FILE; needs --of
+r               begins with [1]
+                a tour that R printed; nodes count from 1
+concorde-edges  a first line of two equal numbers
+                the edges of Concorde's tour; nodes count from 0
+concorde        a first line with the number of nodes
+                Concorde's tour; nodes count from 0
+table           lines of two numbers, one of them the position
+                nodes by position, below a line of names or without one
+list            other numbers
+                a list of nodes, such as Concorde's cycles and numpy's
+";

@@ -25,7 +25,7 @@ pub fn solution_text(
     instance: Option<&[u8]>,
     hints: Hints,
 ) -> Result<Vec<u8>, SolutionRunFault>
-    ensures { IsSolutionText hints solution.now (option_map (λ text. text.now) instance) result }
+    ensures { IsSolutionText hints solution.now (option_map (λ text. text.now) instance.entry) result }
 {
     if solution.len() > MOST_FILE_BYTES {
         return Err(SolutionRunFault::File {
@@ -61,7 +61,7 @@ pub fn solution_text(
 /// `File` with the fault of the instance; `NotAnInstance` at its first word if it is a file of
 /// another TYPE.
 fn hints_by(alloc: Global, instance: Option<&[u8]>, hints: Hints) -> Result<Hints, SolutionFault>
-    ensures { GivesHintsOf hints (option_map (λ text. text.now) instance) result }
+    ensures { GivesHintsOf hints (option_map (λ text. text.now) instance.entry) result }
 {
     let Some(text) = instance else {
         return Ok(hints);
