@@ -62,8 +62,8 @@ pub(crate) fn form_check_of<'a>(
 /// The text of an instance, and the text that `tsp solution` writes for its solution.
 #[derive(Drop)]
 pub(crate) struct CheckedTexts {
-    instance: Vec<u8>,
-    written: Vec<u8>,
+    pub(crate) instance: Vec<u8>,
+    pub(crate) written: Vec<u8>,
 }
 
 /// Reads the files of a check whole, the instance first.
@@ -165,15 +165,16 @@ fn text_at<F: Gives + Drop, O: Open<F>>(
 pub(crate) fn check_texts<F: Gives + Drop, O: Open<F>, W: Takes>(
     alloc: Global,
     check: FormCheck<'_>,
-    texts: &CheckedTexts,
+    instance: &[u8],
+    written: &[u8],
     files: &O,
     out: &mut Output<W>,
 ) -> Result<Judged, RunError>
     ensures { ChecksTextsOf F.remaining F.gives (IsFresh (O.opens files.now)) check.entry
-        texts.now.instance.items texts.now.written.items (sink_of W.contents out.old out.new) result }
+        instance.now written.now (sink_of W.contents out.old out.new) result }
 {
-    let mut first = Watched::new(texts.instance.as_slice());
-    let mut second = Watched::new(texts.written.as_slice());
+    let mut first = Watched::new(instance);
+    let mut second = Watched::new(written);
     let mut certificate = opened_certificate(check.certificate, files);
     run(
         alloc,

@@ -13,7 +13,7 @@ ghost use Rattle.tsp_cli.specs.RunEnd.{Prints, PrintsSome, version_text, status_
 
 use crate::ends::{RunEnd, status_of_run_end, tell};
 use crate::explained::{Followed, TaskRun, end_count, explanation, fault_explanation};
-use crate::form_check::{FormCheck, check_texts, form_check_of, texts_of};
+use crate::form_check::{CheckedTexts, FormCheck, check_texts, form_check_of, texts_of};
 use crate::grammar::VERSION;
 use crate::input::Open;
 use crate::job::{InputPath, Job, JobFault, TaskFault, Verb, job_of, task_of, unread};
@@ -239,8 +239,10 @@ fn run_form_check<F: Gives + Drop, O: Open<F>, W: Takes, E: Write>(
         Ok(texts) => texts,
         Err(fault) => return tell_solved(alloc, Err(fault), errors, task_run.explain),
     };
-    let judged = check_texts(alloc, check, &texts, task_run.files, out);
-    drop(texts);
+    let CheckedTexts { instance, written } = texts;
+    let judged = check_texts(alloc, check, &instance, &written, task_run.files, out);
+    drop(instance);
+    drop(written);
     let run_end = RunEnd::Ended(outcome_of(judged));
     let reported = tell_end(task_run, &run_end, out.error(), errors);
     (status_of_run_end(&run_end), reported)

@@ -34,8 +34,8 @@ asked_none gives (Some reader) = read_none gives reader
 -- the result for the text of the solution is that of the run
 pub run_of : (hints known : Hints) (first : ReadTrace) (second : Option ReadTrace) (sink : Sink) (answer : Result (Unit {0}) SolutionRunFault)
     → IsReadWhole first → GivesHints hints second (Ok known) → WritesRead known first.given sink answer → IsSolutionRun hints first second sink answer
-run_of hints known first second sink (Ok done) whole given written = (written.0, (whole, known, given, written.1), written.2)
+run_of hints known first second sink (Ok done) whole given written = (written.0, (whole, (known, given, written.1)), written.2)
 run_of hints known first second sink (Err (File place fault)) whole given stopped =
-    (stopped.2, inr (inr (stopped.0, whole, known, given, stopped.1)))
-run_of hints known first second sink (Err (Write write_faults.Device)) whole given stopped = (stopped.0, (whole, known, given, stopped.1), stopped.2)
+    (stopped.2, inr (inr (stopped.0, whole, (known, given, stopped.1))))
+run_of hints known first second sink (Err (Write write_faults.Device)) whole given stopped = (stopped.0, (whole, (known, given, stopped.1)), stopped.2)
 run_of hints known first second sink (Err (Write write_faults.OutOfMemory)) whole given stopped = absurd stopped
