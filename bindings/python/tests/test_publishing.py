@@ -88,7 +88,7 @@ class Published(unittest.TestCase):
 
     def test_routes_of_another_program(self):
         yokecairn.publish(self.folder, EXAMPLES / "dairy.vrp", EXAMPLES / "solvers/dairy.cvrplib.sol")
-        self.assertTrue((self.folder / "dairy.cvrplib.sol.tour").read_text().startswith("COMMENT : Cost 231\n"))
+        self.assertTrue((self.folder / "dairy.cvrplib.sol.tour").read_text().startswith("TYPE : TOUR\nCOMMENT : Cost 231\n"))
         self.assertEqual(self.steps(), [*WHOLE[:2], ("dairy.cvrplib.sol.tour", True), *WHOLE[2:]])
         self.assertTrue(yokecairn.verify(self.folder).yes)
         shutil.rmtree(self.folder)

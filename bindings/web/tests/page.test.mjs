@@ -158,7 +158,7 @@ test("what the page makes of a solution", async () => {
     assert.match(new TextDecoder().decode(made.given.bytes), /^COMMENT : Cost 5$[^]*^TOUR_SECTION\n2\n3\n-1\nEOF\n$/m);
     const copies = "TYPE : TOUR\nTOUR_SECTION\n1 5 6 4 7 9 2 8 3 -1\nEOF\n";
     assert.match(read(copies, example("dairy.vrp")).made.form, /^a tour of LKH-3/);
-    for (const words of [copies, "", " \n", "no tour here\n", "TYPE : TOUR\nTOUR_SECTION\n1 x\n"]) {
+    for (const words of [copies, "", " \n", "<!DOCTYPE html>\n", "TYPE : TOUR\nTOUR_SECTION\n1 x\n"]) {
         assert.deepEqual(read(words), { made: null, caution: "" }, words);
     }
     assert.match(read("Route #1: 1 2\n3\n").caution, /^a\.sol isn't read as another program's solution: line 2 word 1: UnknownLine\.$/);
