@@ -11,7 +11,7 @@ AreCounted nodes = (k : ℕ) → k < length nodes → slice_index nodes k ≡ k 
 
 -- ---- a pass over the list
 
--- the place with the least weight of those before this one, where there are any
+-- the place with the least weight of those before this one, if there are any
 abbrev pub FindsLeast : ℕ → List ℤ → ℤ → ℕ → Type 0
 FindsLeast place least best nearest = ((place ≡ 0) × (best ≡ most_64))
     ⊎ ((nearest < place) × (best ≡ least_at least nearest) × ((k : ℕ) → k < place → best ≤ℤ least_at least k))
@@ -50,7 +50,7 @@ pub nearer_small : (weight : ℤ) (next old_near : ℕ) (old : ℤ) (near : ℕ)
 nearer_small weight next old_near old near new small (inl kept) = omega (arith, ints, small, kept.1, kept.2)
 nearer_small weight next old_near old near new small (inr taken) = omega (arith, ints, small, taken.1)
 
--- where the own weight is lower than the best so far
+-- if the own weight is lower than the best so far
 pub found_lower : (place : ℕ) (least : List ℤ) (best own : ℤ) (nearest : ℕ) → FindsLeast place least best nearest
     → place < length least → own <ℤ best
     → FindsLeast (place + 1) (set least place own) own place
@@ -72,7 +72,7 @@ found_lower place least best own nearest found inside less = inr (
     before (inl none) k below = absurd (omega (arith, none.0, below))
     before (inr some) k below = some.2 k below
 
--- where the own weight isn't lower than the best so far
+-- if the own weight isn't lower than the best so far
 pub found_higher : (place : ℕ) (least : List ℤ) (best own : ℤ) (nearest : ℕ) → FindsLeast place least best nearest
     → place < length least → own <ℤ most_64 → best ≤ℤ own
     → FindsLeast (place + 1) (set least place own) best nearest

@@ -1,4 +1,5 @@
--- Names from std and other crates that proofs here use often, re-exported so that a file needs one import.
+-- Names of other crates, passed on to the files of this crate alone. It defines nothing: add or remove names freely;
+-- `tests/repository/names` sees that each is imported from here.
 pub use Rattle.std.proofs.Common.{Bool, Err, FitsSigned, IfOk, IfSome, List, MatchOption, None, Ok, Option, Result, SFits, Some, add-one, ap, ap₂, arith, below_more, cond, drop, drop-cons, false, get_or, inl, inr, length, length-append, map, negsuc, not, of_z, refl, replicate, rules, set, slice_index, subst, suc, sym, take, to_z, true, w64, zero, ℕ, ℤ, [], ◌&&◌, ◌*◌, ◌++◌, ◌+◌, ◌-◌, ◌/◌, ◌<◌, ◌==◌, ◌^◌, ◌||◌, ◌∙◌, ◌∷◌, ◌≡◌, ◌≢◌, ◌≤ℤ◌, ◌≤◌, ◌⊎◌}
 pub use Rattle.std.proofs.Math.ListN.{get_or-map, length-set}
 pub use Rattle.std.proofs.lemmas.Bool.{and_from, both_ways, cases_Bool, cases_eq, cases_lt, eq-eqb, eqb-false, eqb-true, false≢true, ne_eqb, or_cases, or_left, or_parts, or_right}

@@ -213,7 +213,7 @@ kept_set n w label known x link x_in h own = record {
 
 -- ---- the best link of one component
 
--- the place that the best link leads to, or the node's own where there is none, is below n
+-- the place that the best link leads to, or the node's own if there is none, is below n
 pub end_in : (n : ℕ) (w : ℕ → ℕ → ℤ) (label : ℕ → ℕ) (c node near : ℕ) (best : Option Link) → node < n → IfSome best (IsLeaving n w label c)
     → MatchOption best (near ≡ node) (λ link. near ≡ link.to) → near < n
 end_in n w label c node near None node_in leaving is = subst (λ (k : ℕ). k < n) (sym is) node_in

@@ -1,5 +1,5 @@
--- The tree of boxes and its search: what a write changes, which boxes may be skipped, orders of 64-bit weights, and
--- divisions by the scale.
+-- The tree of boxes (src/boxes.rt) and its search (src/search.rt): what a write changes, which boxes may be skipped,
+-- orders of 64-bit weights, and divisions by the scale.
 use Rattle.tsp_bound.proofs.Prelude.{◌≡◌, ◌≢◌, ℕ, zero, suc, ◌+◌, ◌*◌, ◌/◌, ◌<◌, ◌≤◌, Bool, true, List, length, Option, ℤ, pos, ◌≤ℤ◌, ◌⊎◌, inl, inr, refl, arith, ap, sym, ◌∙◌, subst, w64, to_z, of_z, SFits, false, negsuc, neg_ℤ, ◌+ℤ◌, ◌-ℤ◌, ◌*ℤ◌, ◌-◌, ◌^◌, set, cases_eq, ints, to_z-of_z, get_or-set_same, get_or-set_other, nat_abs, IsFromTo, scaled_up, same_scale, IsScale, most_number}
 use Rattle.std.proofs.lemmas.Nat.{div-add-mod', mod_below, mul-le, div_below}
 use Rattle.std.specs.Bool.{OnTrue}
@@ -213,7 +213,7 @@ pub enough_is : (left scale cost : ℤ) → SFits w64 left → IsScale scale →
 enough_is left scale cost fits is_scale h =
     subst (λ (z : ℤ). z ≤ℤ (scale *ℤ cost)) (to_z-of_z w64 left fits) (subst (λ (z : ℤ). to_z w64 (of_z w64 left) ≤ℤ (z *ℤ cost)) (same_scale scale is_scale) h)
 
--- where that difference is at most the least scaled cost into a box, no edge into the box weighs less than the best
+-- if that difference is at most the least scaled cost into a box, no edge into the box weighs less than the best
 pub best_below : (best left scale cost other own least number weight : ℤ) → IsScale scale → left ≡ best -ℤ (own +ℤ least) → left ≤ℤ (scale *ℤ cost)
     → cost ≤ℤ other → least ≤ℤ number → ((scale *ℤ other) +ℤ (own +ℤ number)) ≤ℤ weight → best ≤ℤ weight
 best_below best left scale cost other own least number weight is_scale is enough further no_less high =

@@ -1,4 +1,5 @@
--- Names from other crates that definitions and contracts here use often, re-exported so that a file needs one import.
+-- Names of other crates, passed on to the files of this crate alone. It defines nothing: add or remove names freely;
+-- `tests/repository/names` sees that each is imported from here.
 pub use Rattle.std.specs.List.{All, AllPairs}
 pub use Rattle.std.specs.Prelude.{Bool, IfOk, IfSome, IsTrue, List, MatchOption, MatchResult, None, Option, Some, false, length, map, neg_ℤ, not, pos, slice_index, slice_index_or, slice_set, suc, true, zero, ℕ, ℤ, []}
 pub use Rattle.tsp_format.specs.Limits.{most_multiplier, most_nodes, most_potential, most_scale, most_triples, most_weight}

@@ -1,4 +1,5 @@
--- The weight of a least 1-tree, without saying which tree: all that a bound needs.
+-- The weight of a minimum 1-tree, without saying which tree: a bound needs no more, so code may find any of them.
+-- src/tree.rt promises it. In no circle of docs/trust.md.
 use Rattle.std.specs.Prelude.{◌≡◌, ℕ, List, ℤ}
 use Rattle.tsp_theory.specs.Tree.{weight_of, IsLeastOneTree}
 

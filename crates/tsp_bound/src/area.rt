@@ -1,5 +1,6 @@
-//! `Area`: a box of space with nodes in it, and a number that is at most that of each of these
-//! nodes: all that a search knows of them before it looks at any.
+//! `Area`: a box in space, and a number that is at most that of each node in it. A search
+//! (`search.rt`) uses an area to skip its nodes without looking at them; `boxes.rt` makes the
+//! areas. By `HoldsNode` in `specs/states/Boxes.antt`, no area excludes one of its nodes.
 
 ghost use Rattle.tsp_bound.specs.Prelude.{pos, neg_ℤ, IsFromTo, most_number};
 

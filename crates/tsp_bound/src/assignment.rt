@@ -1,6 +1,6 @@
-//! The bound of a potentials file for an ATSP: the sum of the duals, after a test that no cost is
-//! too low for them. The first arc that is becomes the reason in the report. `IsDualBound` in
-//! tsp_theory pins the number.
+//! The bound of a potentials file for an ATSP: the sum of the duals, if no arc costs less than its
+//! two duals. Otherwise the first arc that does is reported (`DualInfeasible`). tsp_verdict calls
+//! `dual_bound`. `IsDualBound` and `IsFirstBroken` in tsp_theory pin the bound and the arc.
 
 ghost use Rattle.tsp_bound.specs.Prelude.{ℕ, List, length, IsTrue, IfOk, MatchOption, MatchResult, IsNode, IsBoundSized, entry, AreGood, IsFirstBroken, IsDualBound};
 ghost use Rattle.std.specs.Prelude.{◌≡◌, ◌≢◌, ◌↔◌, ◌≤◌, ◌<◌, ◌≤ℤ◌, ◌<ℤ◌};
@@ -19,9 +19,9 @@ pub struct Infeasible {
     pub j: u32,
 }
 
-/// The bound of the duals: the least whole number that, times their scale, is no less than their
-/// sum. For all different nodes i and j, the duals of row i and column j may sum to at most the
-/// cost from i to j.
+/// The bound of the duals: the least integer that, times their scale, is at least their sum. For
+/// all different nodes i and j, the duals of row i and column j may sum to at most the cost from i
+/// to j.
 ///
 /// With two or more nodes, no cycle is shorter than the bound. The costs from a node to itself
 /// don't matter. No memory is taken. Source: the dual of the assignment problem, H. W. Kuhn, The
@@ -70,8 +70,8 @@ fn first_broken_of_row<C: Costs>(c: &C, d: &Duals, i: u32) -> Option<u32>
         → dual_of d.now i b ≤ℤ scaled d.now (C.at c.now) i b)) }
 {
     let row = d.rows[i as usize - 1];
-    // (every pair is compared before the node's own is left out, so that the loop has no branch for
-    // it and looks up the rest once)
+    // (the node's own pair is compared, too, and only left out afterwards, so that the loop has no
+    // branch for it)
     'columns: for j in 1..c.count() + 1 {
         if !fits(c, d, row, i, j) && i != j {
             return Some(j);

@@ -1,6 +1,7 @@
-//! The bound of a potentials file for a TSP: the weight of a least 1-tree, less what the potentials
-//! add to every tour, at the scale and rounded up (`IsAdjustedBound` in tsp_theory). Which of
-//! several least 1-trees is found is free.
+//! The bound of a potentials file for a TSP: the weight of a minimum 1-tree, minus what the
+//! potentials add to every tour, divided by the scale and rounded up. tsp_verdict calls it.
+//! `IsAdjustedBound` in tsp_theory pins the bound; which of several minimum 1-trees is found is
+//! free.
 
 ghost use Rattle.tsp_bound.specs.Prelude.{ℕ, [], List, length, pos, neg_ℤ, IfOk, most_nodes, IsFromTo, IsBoundSized, AreOnPairs, UsesEach, IsAdjustedBoundOf, IsAdjustedBound, IsOneTree, IsLeastOneTree, weight_of, tree_of};
 ghost use Rattle.std.specs.Prelude.{◌≡◌, ◌≤◌, ◌+◌, ◌*◌, ◌^◌, ◌≤ℤ◌};
@@ -16,30 +17,30 @@ use std::alloc::{AllocError, Global};
 use tsp_io::{Refused, filled, push, with_capacity};
 use tsp_theory::{Costs, Symmetric, adjusted_bounds_bound_cycles};
 
-/// A least 1-tree, its weight, and the bound on the length of every cycle.
+/// A minimum 1-tree, its weight, and the bound on the length of every cycle.
 #[derive(Debug, Drop)]
 pub struct OneTree {
     /// The pairs, each with the smaller node first.
     pub edges: Vec<(u32, u32)>,
     /// The sum of their weights.
     pub weight: i128,
-    /// The bound: the least whole number that, times the scale, is no less than the weight minus
-    /// each potential twice plus all multipliers.
+    /// The bound: the least integer that, times the scale, is at least the weight minus each
+    /// potential twice plus all multipliers.
     pub bound: i128,
 }
 
-/// A least 1-tree under potentials and multipliers, and its bound.
+/// A minimum 1-tree under potentials and multipliers, and its bound.
 ///
 /// The weight between two nodes is the cost at the scale plus both potentials, less the multiplier
 /// of the pair. No cycle that uses each pair with a multiplier, in either direction, is shorter
 /// than the bound.
 ///
-/// A 1-tree is a tree over the nodes 2..n and two different edges at node 1. If several are least,
-/// any of them may be returned, with its edges in any order. Without multipliers, the bound is that
-/// of the potentials alone, and holds for every cycle. Source: M. Held and R. M. Karp, The
-/// traveling-salesman problem and minimum spanning trees, 1970. The tree is joined in rounds, as O.
-/// Boruvka did in 1926, or grown as R. C. Prim did in 1957. If nodes have places in space, regions
-/// rule out most pairs, so that far fewer costs are computed.
+/// A 1-tree is a tree over the nodes 2..n and two different edges at node 1. If there are several
+/// minimum 1-trees, any of them may be returned, with its edges in any order. Without multipliers,
+/// the bound holds for every cycle. Source: M. Held and R. M. Karp, The traveling-salesman problem
+/// and minimum spanning trees, 1970. The tree is joined in rounds (O. Boruvka, 1926) or grown (R.
+/// C. Prim, 1957). If nodes have places in space, regions rule out most pairs, so that far fewer
+/// costs are computed.
 ///
 /// # Requires
 ///
@@ -48,7 +49,7 @@ pub struct OneTree {
 ///
 /// # Errors
 ///
-/// Out of memory. It allocates memory for each node and for each multiplier.
+/// If memory runs out. It allocates an entry for each node and for each multiplier.
 pub fn one_tree<C: Symmetric>(
     alloc: Global,
     c: &C,
@@ -74,11 +75,11 @@ pub fn one_tree<C: Symmetric>(
     Ok(least_one_tree(alloc, c, p, m)?)
 }
 
-/// What [`one_tree`] returns, with the token of a refused request as its error.
+/// Like [`one_tree`], but returns a [`Refused`].
 ///
 /// # Errors
 ///
-/// Out of memory. It allocates memory for each node and for each multiplier.
+/// If memory runs out. It allocates an entry for each node and for each multiplier.
 pub fn least_one_tree<C: Symmetric>(
     alloc: Global,
     c: &C,
@@ -122,7 +123,7 @@ struct Weighed {
     weight: i128,
 }
 
-/// The edges of a least 1-tree, in a vector with capacity for all of them, and their weight.
+/// The edges of a minimum 1-tree, in a vector with capacity for all of them, and their weight.
 fn least_edges<'a, C: Symmetric>(
     alloc: Global,
     c: &'a C,
@@ -157,7 +158,7 @@ fn least_edges<'a, C: Symmetric>(
     })
 }
 
-/// The two pairs at node 1 and those of a growth, each with the smaller node first.
+/// The two pairs at node 1 and those of a tree, each with the smaller node first.
 fn tree_of(
     alloc: Global,
     room: usize,

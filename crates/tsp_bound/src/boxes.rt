@@ -1,7 +1,8 @@
-//! Components of a growing forest whose nodes have points: a tree of boxes finds the nearest node
-//! outside a component, and a tag on each box says whether one component fills it. A box that is
-//! left out by mistake would break `IsNearest`; how many are looked at matters only for speed.
-//! Without points, `lists.rt` does this work.
+//! `Labelled` implements `Components` (`rounds.rt`) for nodes with points: a tree of boxes finds
+//! the nearest node outside a component, and a tag on each box says whether one component fills it.
+//! (Without points, `lists.rt` does this.) `IsNearest` pins the nodes found; how many boxes are
+//! looked at affects only speed. `BoxedWeights`, the public trait at the end, is what a box needs
+//! to know about weights; tsp_branch implements it, too.
 
 ghost use Rattle.tsp_bound.specs.Prelude.{ℕ, true, length, IfOk, ℤ, List, Bool, None, Some, pos, neg_ℤ, IfSome, IsNode, IsFromTo, most_number, IsScale};
 ghost use Rattle.std.specs.Bool.{OnTrue};
@@ -103,7 +104,7 @@ impl<'a, W: BoxedWeights> Labelled<'a, W> {
     }
 }
 
-/// The boxes as one component sees them: those that it fills look empty.
+/// The boxes as one component sees them: the boxes that it fills look empty.
 #[derive(Drop)]
 struct Apart<'a> {
     labels: &'a [u32],
@@ -260,8 +261,8 @@ fn boxes_of<W: BoxedWeights>(
 
 // ---- the label of the component of all nodes in a box, if it is one component
 
-/// The tag of a box whose nodes have several labels. It isn't a label itself, because there are
-/// fewer nodes.
+/// The tag of a box whose nodes have several labels. It isn't a label, because there are fewer
+/// nodes.
 const MIXED: u32 = u32::MAX;
 
 /// The tag of a box, from those of its halves.
@@ -345,7 +346,7 @@ fn numbered_sites_of<W: BoxedWeights>(
     Ok(Some(sites))
 }
 
-// ---- the trait of weights that a box bounds for all of its nodes at once
+// ---- the trait for weights that a box bounds for all its nodes at once
 
 /// Weights that are at least the cost at the scale plus the numbers of both nodes, except for some
 /// pairs whose weights are lower, and which are listed by node.

@@ -1,5 +1,6 @@
-//! The multipliers of fixed edges, listed at both nodes of each, so that a row of weights is
-//! lowered without a search (`lowered_by` in `specs/states/ByNode.antt`).
+//! The multipliers of fixed edges, listed at both nodes of each edge, so that `weights.rt` can
+//! lower a row without a search. `lowered_by` in `specs/states/ByNode.antt` pins what a list takes
+//! off a weight.
 
 ghost use Rattle.tsp_bound.specs.Prelude.{[], pos, IfOk, All, AllPairs, most_multiplier, IsFromTo, IsMultiplier, AreMultipliers, AreOnPairs};
 ghost use Rattle.std.specs.Prelude.{◌≡◌, ◌≢◌, ◌-◌, ◌<◌, ◌^◌};

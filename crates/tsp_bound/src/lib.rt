@@ -1,10 +1,8 @@
-//! Least 1-trees and assignment duals, and the lower bounds that they give on the length of every
-//! cycle.
+//! The bounds of a potentials file, by minimum 1-trees (TSP) and assignment duals (ATSP).
 //!
-//! A least tree grows row by row (`tree`), or in rounds over boxes of points or lists of light
-//! edges (`rounds`). Potentials, with multipliers or without, give a bound by a least 1-tree
-//! (`bound`), and duals by weak duality (`assignment`). It knows costs only by their traits, and
-//! doesn't search for certificates.
+//! tsp_verdict calls `bound` for a TSP and `assignment` for an ATSP; tsp_branch uses the 1-trees,
+//! too. A minimum tree grows row by row (`tree`), or in rounds over boxes of points or lists of
+//! light edges (`rounds`): this choice only affects speed. tsp_theory defines the bounds.
 //!
 //! ```text
 //! let tree = one_tree(alloc, &costs, &potentials, &multipliers)?;

@@ -1,6 +1,6 @@
-//! Components of a growing forest whose nodes have no points: one pass over all pairs keeps the
-//! twelve lightest edges of each node, and only a node whose twelve lead nowhere looks at all its
-//! pairs again. The tree is a least one with any number in place of twelve.
+//! `Listed` implements `Components` (`rounds.rt`) for nodes without points: one pass over all pairs
+//! keeps the twelve lightest edges of each node, and a node looks at all its pairs again only if
+//! these don't suffice. The number twelve affects only speed.
 
 ghost use Rattle.std.specs.Prelude.{◌≡◌, ◌≤◌, ◌<◌, ◌+◌, ◌*◌, ◌^◌, ℕ, length};
 ghost use Rattle.tsp_bound.specs.states.Components.{label_at, weight_over, AreOffered, IsPut, IsTaken};

@@ -1,6 +1,5 @@
-//! The numbers of a potentials file, once they are known to be within its limits: `Potentials` and
-//! `Multipliers` for symmetric costs, `Duals` for any costs. `new` tests the limits, and after it
-//! sums and weights fit their integers with no further test.
+//! The numbers of a potentials file: `Potentials` and `Multipliers` for a TSP, `Duals` for an ATSP.
+//! `new` tests their limits, so that no later sum or weight overflows. tsp_verdict makes them.
 
 ghost use Rattle.tsp_bound.specs.Prelude.{All, IsTrue, length, pos, neg_ℤ, most_nodes, most_potential, most_triples, most_multiplier, most_scale, most_weight, IsNode, IsFromTo, triples_total, AreNodePotentials, IsMultiplier, AreMultipliers, IsScale, ArePotentials, total, IsLeastBound, IsBoundSized, AreDuals};
 ghost use Rattle.std.specs.Prelude.{◌↔◌, ◌≡◌, ◌≤◌, ◌*◌, ◌^◌, ◌*ℤ◌, ◌≤ℤ◌};
@@ -154,7 +153,7 @@ pub(crate) fn total_of(triples: &[(u32, u32, i64)]) -> i128
     sum
 }
 
-/// The least whole number that, times the scale, is no less than the sum.
+/// The least integer that, times the scale, is at least the sum.
 pub(crate) fn least_bound(scale: i64, sum: i128) -> i128
     requires scale { IsScale scale }
     requires size { IsFromTo (neg_ℤ (pos (2 ^ 100))) (pos (2 ^ 100)) sum }

@@ -1,7 +1,7 @@
-//! Grows a least tree over the nodes 2 to n in rounds, as O. Boruvka did in 1926: in each round
-//! every component takes its lightest edge. If a budget of steps is used up, the tree grows pair by
-//! pair instead (`tree.rt`). Budgets and orders decide about speed; that the tree is least is
-//! `IsWholeForest` in tsp_theory.
+//! Grows a minimum tree over the nodes 2 to n in rounds (O. Boruvka, 1926): in each round, every
+//! component takes its lightest edge. `bound.rt` and tsp_branch call it. `IsWholeForest` in
+//! tsp_theory pins that the tree is minimum; budgets and orders affect only speed, because past a
+//! budget the tree grows pair by pair (`tree.rt`).
 
 ghost use Rattle.tsp_bound.specs.Prelude.{All, ℕ, length, slice_index_or, map, pos, neg_ℤ, IfOk, IfSome, true, false, MatchOption, ℤ, most_nodes, IsNode, IsFromTo, IsSumSized, IsInner, weight_of};
 ghost use Rattle.std.specs.Bool.{OnTrue};
@@ -17,7 +17,7 @@ use crate::tree::Grown;
 use std::alloc::Global;
 use tsp_io::{Refused, filled, push, with_capacity};
 
-/// A least tree over the nodes 2..n: each pair leads from a part that no earlier pair leaves to a
+/// A minimum tree over the nodes 2..n: each pair leads from a part that no earlier pair leaves to a
 /// node outside it, and no such pair weighs less.
 ///
 /// All nodes are joined in rounds. If that takes too many steps, a tree grows from node 2, pair by
@@ -323,7 +323,7 @@ fn is_better(link: Link, best: Option<Link>) -> bool
     }
 }
 
-/// The node that the best link leads to, if there is one, else `node`.
+/// The node to which the best link leads; `node` if there is no such link.
 #[inline]
 fn end_of(best: Option<Link>, node: u32) -> u32
     ensures { MatchOption best (result ≡ node) (λ link. result ≡ link.to) }
@@ -334,7 +334,7 @@ fn end_of(best: Option<Link>, node: u32) -> u32
     }
 }
 
-/// The weight of the best link, if there is one, else the largest number.
+/// The weight of the best link; the largest number if there is no such link.
 #[inline]
 fn weight_of(best: Option<Link>) -> i64 {
     match best {
@@ -417,7 +417,7 @@ fn join<P: Components>(
     Ok(labels)
 }
 
-// ---- the trait of a forest that knows the component of each node
+// ---- the trait `Components`: a forest that knows the component of each node
 
 /// Nodes 0..count, each with the label of its component, and the weights between them.
 pub(crate) trait Components {

@@ -1,10 +1,11 @@
 //! The search for the nearest node in another component, by a tree of boxes over the nodes in an
-//! order (`Placed`). `boxes.rt` implements `Seen`, the tree. `Link`, an edge that was found, is
-//! what `lists.rt` and `rounds.rt` deal in, too.
+//! order (`Placed::nearest`, which only `boxes.rt` calls). `boxes.rt` also implements `Seen`, the
+//! tree. `lists.rt` and `rounds.rt` use `Placed` and `Link`, too. `IsNearest` in
+//! `specs/states/Components.antt` pins the link that is found.
 //!
-//! A place is the index of a node in the order. A node is outside if its component isn't that of
-//! the node from which the search starts. `steps` counts the boxes and nodes that are looked at;
-//! past a budget `rounds.rt` gives the search up, so `steps` affects only speed.
+//! A place is the index of a node in the order. A node is outside if it isn't in the component of
+//! the node from which the search starts. `steps` counts the boxes and nodes that are looked at. It
+//! affects only speed: past a budget, `rounds.rt` gives up.
 
 ghost use Rattle.tsp_bound.specs.Prelude.{ℕ, length, slice_index_or, Bool, Option, None, Some, MatchOption, IsNode, IsScale, IsInner};
 ghost use Rattle.std.specs.Bool.{OnTrue};
@@ -48,8 +49,8 @@ impl<'a, W: BoxedWeights> Placed<'a, W> {
         Placed { w, order, places }
     }
 
-    /// The lightest link from a node to one outside, by places, if there is one. The search begins
-    /// at the place `near`, and adds its steps to `steps`. The numbered sites are those of the
+    /// The lightest link from a node to one outside, if there is one, given by places. The search
+    /// begins at the place `near`, and adds its steps to `steps`. `sites` has the nodes in their
     /// order.
     pub(crate) fn nearest<S: Seen>(
         &self,
@@ -114,10 +115,10 @@ impl<'a, W: BoxedWeights> Placed<'a, W> {
         }
     }
 
-    /// The better of the best node before lowering and the nodes to which weights are lowered, any
-    /// of which may be nearer.
+    /// The better one of the best node without lowered weights and the nodes to which weights are
+    /// lowered.
     ///
-    /// It adds the number of the latter to `steps`.
+    /// Adds the number of the latter nodes to `steps`.
     fn lowered<S: Seen>(&self, seen: &S, from: u32, unlowered: Best, steps: &mut u64) -> Best
         requires from { from < length self.now.order.now }
         requires as_many { S.count_of seen.now ≡ length self.now.order.now }
@@ -200,8 +201,8 @@ fn inverse_of(scale: i64) -> u64
 }
 
 /// A cost that, times the scale, is no less than a weight: in most cases the least such cost.
-// (multiplying by the inverse of the scale, because a division would take longer than everything
-// else that is done for a box)
+// (it multiplies by the inverse of the scale, because a division would take longer than everything
+// else for a box)
 #[inline]
 fn cost_of(scale: i64, inverse: u64, weight: i64) -> i64
     requires scale { IsScale scale }
@@ -263,7 +264,7 @@ impl<W: BoxedWeights, S: Seen> Search<'_, W, S> {
         }
     }
 
-    /// The better of the best so far and the node at a place, if that node is outside.
+    /// The better one of the best so far and the node at a place, if that node is outside.
     #[inline]
     pub(crate) fn better_of(&self, place: usize, best: Best) -> Best
         requires { place < length self.now.order.now }
@@ -286,8 +287,8 @@ impl<W: BoxedWeights, S: Seen> Search<'_, W, S> {
     /// The best of the nodes outside in the box `v` and of the best so far. `steps` counts the
     /// boxes that are looked at.
     ///
-    /// The halves are searched in the order of their numbers: as near nodes are close together in
-    /// the order, starting with the nearer region is no better.
+    /// The halves are searched in the order of their numbers. Because near nodes are close together
+    /// in the order, starting with the nearer half isn't faster.
     pub(crate) fn below(&self, v: usize, best: Best, steps: &mut u64) -> Best
         requires low { 1 ≤ v }
         requires high { v < 2 * length self.now.order.now }
@@ -310,7 +311,7 @@ impl<W: BoxedWeights, S: Seen> Search<'_, W, S> {
     }
 }
 
-// ---- the trait of a tree of boxes over places, in which a search sees the nodes outside alone
+// ---- the trait `Seen`: which nodes a search may choose
 
 /// The places 0..count, some of which are outside, and a box around the outside nodes of each part.
 pub(crate) trait Seen {
@@ -334,12 +335,12 @@ pub(crate) trait Seen {
 
 // ---- an edge from a node to another one, with its weight
 
-/// A link from a node to another one, with its weight.
+/// An edge from a node to another one, with its weight.
 #[derive(Clone, Copy)]
 pub(crate) struct Link {
-    /// The weight between the two.
+    /// The weight of the edge.
     pub(crate) weight: i64,
-    /// The node that it was searched for from.
+    /// The node from which the search started.
     pub(crate) from: u32,
     /// The other node.
     pub(crate) to: u32,

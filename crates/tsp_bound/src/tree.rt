@@ -1,7 +1,8 @@
-//! The weight of a least 1-tree: the tree over the nodes 2 to n, by R. C. Prim's algorithm, a row
-//! of weights for each node (`grow`), and the two lightest edges at node 1. Weights that know a
-//! quicker way to a least tree say so through the trait `Growing`. `IsLeastWeight` pins the sum,
-//! whatever the way.
+//! The weight of a minimum 1-tree: a tree over the nodes 2 to n, grown row by row (`grow`, R. C.
+//! Prim's algorithm), and the two lightest edges at node 1. Weights that know a quicker way to a
+//! minimum tree offer it through the trait `Growing`; `IsLeastWeight` pins the sum, whatever the
+//! way. tsp_branch calls it for each leaf of a TSP. `bound.rt` uses only `two_root_edges`, because it
+//! needs the edges too, and `rounds.rt` falls back on `grow`.
 
 ghost use Rattle.tsp_bound.specs.Prelude.{ℕ, length, pos, neg_ℤ, IfOk, slice_index, MatchOption, ℤ, most_nodes, IsNode, IsFromTo, IsWholeGrowth, AreNearest, weight_of, least_at, IsNearer};
 ghost use Rattle.std.specs.Prelude.{◌≡◌, ◌≤◌, ◌+◌, ◌*◌, ◌^◌, ◌<◌, ◌<ℤ◌, ◌-◌, ◌≢◌, ◌+ℤ◌};
@@ -13,7 +14,7 @@ use std::alloc::Global;
 use tsp_io::{Refused, filled, push, with_capacity};
 use tsp_theory::{Weights, weight_in};
 
-/// The weight of a least 1-tree, under symmetric weights.
+/// The weight of a minimum 1-tree, under symmetric weights.
 ///
 /// A 1-tree is a tree over the nodes 2..n and two different edges at node 1. Source: M. Held and R.
 /// M. Karp, The traveling-salesman problem and minimum spanning trees, 1970. The weights choose how
@@ -42,7 +43,7 @@ pub fn least_weight<W: Growing>(alloc: Global, w: &W, row: &mut [i64]) -> Result
     Ok(root_edges + grown.weight)
 }
 
-// ---- the growth of a least tree over the nodes 2 to n, row by row, by Prim's method
+// ---- the growth of a minimum tree over the nodes 2 to n, row by row, by Prim's method
 
 /// A tree over the nodes 2..n.
 #[derive(Drop)]
@@ -152,7 +153,7 @@ fn bring(
     if outside.is_empty() {
         return None;
     }
-    // A place rather than an `Option`, which the loop would carry along as two values.
+    // A place, because the loop would carry an `Option` along as two values.
     let mut nearest = 0;
     let mut best = i64::MAX;
     'places: for place in 0..outside.len() {
@@ -179,7 +180,7 @@ fn take_nearer(near: &mut u32, least: &mut i64, next: u32, weight: i64) -> i64
     *least
 }
 
-// ---- the trait of weights that know how a least tree grows under them, row by row or by boxes
+// ---- the trait `Growing`: how a minimum tree grows under some weights, row by row or by boxes
 
 /// Weights under which a tree grows row by row, as [`grow`](crate::grow) does, or in a quicker way.
 pub trait Growing: Weights {

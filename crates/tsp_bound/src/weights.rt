@@ -1,6 +1,6 @@
-//! The weight of a pair under potentials: its cost at the scale plus both potentials, less the
-//! multiplier of a fixed edge. Given by rows (`tsp_theory::Weights`) and, for boxes, pair by pair
-//! (`BoxedWeights`); `weight_less` in `specs/states/Potentials.antt` is both.
+//! Edge weights under potentials: cost times scale, plus both potentials, minus the multiplier of a
+//! fixed edge. `bound.rt` grows its 1-tree over them, by rows (`Weights`) or by boxes
+//! (`BoxedWeights`). Both give `weight_less` (`specs/states/Potentials.antt`).
 
 ghost use Rattle.tsp_bound.specs.Prelude.{ℕ, length, slice_index, pos, neg_ℤ, All, IsNode, most_multiplier, most_between, IsFromTo, least_at, IsMoved};
 ghost use Rattle.std.specs.Prelude.{◌≡◌, ◌≤◌, ◌<◌, ◌+◌};
@@ -57,7 +57,7 @@ fn weigh_all<C: Costs>(w: &PotentialWeights<C>, from: u32, row: &mut [i64])
     ensures sizes { (x : ℕ) → IsNode (C.nodes w.now.c.now) x
         → IsFromTo (neg_ℤ (pos most_between)) (pos most_between) (least_at row.new x) }
 {
-    // Read once, before the loop: the compiler would read them again after each write to `row`.
+    // Read before the loop, because the compiler would read them again after each write to `row`.
     let c = w.c;
     let p = w.p;
     let own = p.number(from);

@@ -299,7 +299,7 @@ listed_at_index case own from index d is none =
     ∙ ap (λ n. get_or (map (other_of from) own) index n) (sym none)
     ∙ get_or-map (other_of from) own index d
 
--- ---- equal weights have the same least 1-trees, and so the same bound
+-- ---- equal weights have the same minimum 1-trees, and so the same bound
 
 agreed_weight : (w v : ℕ → ℕ → ℤ) → ((i j : ℕ) → w i j ≡ v i j) → (pairs : List (ℕ × ℕ)) → weight_of w pairs ≡ weight_of v pairs
 agreed_weight w v agree [] = refl
@@ -330,7 +330,7 @@ bounds_each_leaf n w scale given_back bound b cost potentials taken avoided weig
           (subst (λ (z : ℤ). IsLeastBound scale z bound) sum b.bound_is);
     }
 
--- where the costs are symmetric, so are the weights of a leaf
+-- if the costs are symmetric, so are the weights of a leaf
 pub decided_even : (scale : ℤ) (crossed : List Crossings) (potentials multipliers : List ℤ) (families : List (List (List ℕ)))
     (case : List Decision) (cost : ℕ → ℕ → ℤ) → length crossed ≡ length families → length multipliers ≡ length families
     → IsSymmetric cost → (i j : ℕ) → decided case (set_weight scale potentials multipliers families cost) i j

@@ -325,7 +325,7 @@ module _ (case : List Decision) (w : ℕ → ℕ → ℤ) (from x : ℕ) where
       moved_to (changes case from x) (w from x) value (decided case w from x) (changes_are case w from x)
       (within (decided case w from x) (omega (arith, ints, whole.0), omega (arith, ints, whole.1))) moved
 
-  -- where pairs have no direction, so is a place of a row that the decisions listed at its node have changed
+  -- if pairs have no direction, so is a place of a row that the decisions listed at its node have changed
   pub changed_is : (directed : Bool) (listed : List Decision) (first value : ℤ) → directed ≡ false → DecideOnce directed case
       → stack_of listed ≡ filter (bears_on false from) case → first ≡ w from x
       → IsFromTo (neg_ℤ (pos most_combed)) (pos most_combed) first → IsMoved (changes listed from x) first value

@@ -94,7 +94,7 @@ cycles_of bounds directed n cost scale families crossed given steps found costs_
     each (Some bound) if_sure = λ nodes cycle keeps. ∥∥₁_elim are (hlevel props) (λ sure. if_sure sure nodes cycle keeps)
     each None if_sure = λ nodes cycle keeps. ∥∥₁_elim are (hlevel props) (λ sure. if_sure sure nodes cycle keeps)
 
--- three nodes, and symmetric costs where pairs have no direction
+-- three nodes, and symmetric costs if pairs have no direction
 pub costs_for : (directed : Bool) (n : ℕ) (cost : ℕ → ℕ → ℤ) → 3 ≤ n → (directed ≡ false → IsSymmetric cost)
     → AreCostsFor directed n cost
 costs_for false n cost some even = (some, even refl)
@@ -120,7 +120,7 @@ module _ (n : ℕ) (cost : ℕ → ℕ → ℤ) where
       subst (λ (d : Bool). BoundsCycles d n cost given found) are.direction
       (subst (λ (ds : List Decision). BoundsCycles cases.directed n cost ds found) are.given_are is)
 
--- where families are good, and each branch is on two nodes and none comes twice, the verdict on the leaves is that on the
+-- if families are good, and each branch is on two nodes and none comes twice, the verdict on the leaves is that on the
 -- certificate
 pub verdict_of_leaves : (directed : Bool) (n : ℕ) (cost : ℕ → ℕ → ℤ) (scale : ℤ) (families : List (List (List ℕ)))
     (crossed : List Crossings) (given : List Decision) (steps : List listed.Step) (found : TreeVerdict)

@@ -1,4 +1,5 @@
--- Lemmas on leaves, over boxes and over rows, and on the verdict that is put together from them.
+-- Lemmas on leaves, over boxes and over rows (BoxedLeaves, CaseLeaves), and on the verdict that is put together from
+-- them (Judging), which proofs in tsp_verdict use, too.
 mod Prelude
 pub mod BoxedLeaves
 pub mod CaseLeaves

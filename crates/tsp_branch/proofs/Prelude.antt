@@ -1,4 +1,5 @@
--- Names from std and other crates that proofs here use often, re-exported so that a file needs one import.
+-- Names of other crates, passed on to the files of this crate alone. It defines nothing: add or remove names freely;
+-- `tests/repository/names` sees that each is imported from here.
 pub use Rattle.std.proofs.Common.{Bool, FitsSigned, List, add-one, ap, ap₂, arith, drop, drop-cons, false, get_or, inl, inr, length, map, of_z, refl, rules, slice_index, subst, suc, sym, take, to_z, true, zero, ℕ, ℤ, [], ◌&&◌, ◌*◌, ◌++◌, ◌+◌, ◌-◌, ◌<◌, ◌==◌, ◌^◌, ◌||◌, ◌∙◌, ◌∷◌, ◌≡◌, ◌≢◌, ◌≤◌}
 pub use Rattle.std.proofs.lemmas.Bool.{cases_Bool, cases_eq, eq-eqb, ne_eqb}
 pub use Rattle.std.proofs.lemmas.Int.{int_wrap-add_left, int_wrap-add_same, int_wrap_fits, ints, to_z-of_z}

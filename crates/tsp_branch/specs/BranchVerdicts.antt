@@ -1,5 +1,6 @@
--- The verdict on a branches file for a TSP or an ATSP: its bound, or the first reason against it, families before
--- branches before leaves. tsp_verdict passes it on to the report.
+-- The verdict on a branches file for a TSP or an ATSP: its bound, or the first reason against it (`IsBranchVerdict`),
+-- which tsp_verdict puts into the report. `judge_branches` in src/verdict.rt promises it. In no circle of
+-- docs/trust.md: the bound that `yes` rests on is defined in tsp_cases.
 use Rattle.tsp_branch.specs.Prelude.{ℕ, List, ℤ, pos, length, Bool, None, Some, total, IsLeastBound, triples_total, least_of, leaf_weight, IsLeafBound, IsCaseTree, IsCaseTreeBound, BoundsIfAny, decided_number}
 use Rattle.std.specs.Prelude.{◌≡◌, ◌+ℤ◌, ◌-ℤ◌, ◌*ℤ◌}
 use Rattle.tsp_format.specs.Steps as listed
@@ -12,7 +13,7 @@ use Rattle.tsp_cases.specs.declared.judged.TreeVerdict.{TreeVerdict}
 use Rattle.tsp_cases.specs.declared.judged.TreeVerdict.TheVariants as verdict
 use Rattle.tsp_cases.specs.declared.decision.Decision.{Decision}
 
--- the least whole number that, times the scale, is no less than the weight of a least 1-tree and the number given back
+-- the least whole number that, times the scale, is at least the weight of a minimum 1-tree plus the number given back
 pub record IsBoundOfWeights (n : ℕ) (w : ℕ → ℕ → ℤ) (scale given_back bound : ℤ) : Type 0 where
   pub weight : ℤ
   pub weighs : IsLeastWeight n w weight
@@ -23,15 +24,15 @@ pub record IsBoundOfWeights (n : ℕ) (w : ℕ → ℕ → ℤ) (scale given_bac
 abbrev pub given_back_of : List ℤ → List (ℕ × ℕ × ℤ) → List (Family × ℤ) → ℤ
 given_back_of potentials taken weighted = (triples_total taken +ℤ least_of weighted) -ℤ (pos 2 *ℤ total potentials)
 
--- the bound is that of each leaf that has these weights and gives this back
+-- the bound of every leaf that has these weights and gives this back
 abbrev pub BoundsEachLeaf : ℕ → (ℕ → ℕ → ℤ) → ℤ → ℤ → ℤ → Type 0
 BoundsEachLeaf n w scale given_back bound = (cost : ℕ → ℕ → ℤ) (potentials : List ℤ) (taken avoided : List (ℕ × ℕ × ℤ))
     (weighted : List (Family × ℤ)) → ((i j : ℕ) → w i j ≡ leaf_weight scale potentials taken avoided weighted cost i j)
     → given_back ≡ given_back_of potentials taken weighted → IsLeafBound n cost scale potentials taken avoided weighted bound
 
--- ---- the judgement on the leaves of a tree of cases by 1-trees or least links
+-- ---- the judgement on the leaves of a tree of cases, by 1-trees or least links
 
--- Where all leaves are good, the bound, or none where no leaf has one; else the first leaf that isn't.
+-- If all leaves are good: the bound, or none if no leaf has one. Otherwise: the first bad leaf.
 abbrev pub AreJudgedLeaves : Bool → ℕ → (ℕ → ℕ → ℤ) → ℤ → List Family → List Crossings → List Decision → List listed.Step
     → TreeVerdict → Type 0
 AreJudgedLeaves directed n cost scale families crossed given steps judged = OnLeaves
@@ -40,13 +41,14 @@ AreJudgedLeaves directed n cost scale families crossed given steps judged = OnLe
     × AreGoodLeaves n crossed steps)
     (IsFirstBadLeaf n crossed steps) judged
 
--- The bound is at most the length of every cycle that keeps the given decisions; if there is none, no cycle does.
+-- The bound is at most the length of every cycle that keeps the given decisions. If there is no bound, no cycle keeps
+-- them.
 abbrev pub BoundsCycles : Bool → ℕ → (ℕ → ℕ → ℤ) → List Decision → TreeVerdict → Type 0
 BoundsCycles directed n cost given judged = OnBound (BoundsIfAny directed n cost given) judged
 
--- ---- the verdict on a certificate by branching, for a TSP or an ATSP
+-- ---- the verdict on a branches file, for a TSP or an ATSP
 
--- the judgement on the leaves, where all families are good, each branch begins with a node, and none comes twice
+-- all families are good, each branch begins with a node, and no branch comes twice; then the leaves are judged
 pub record AreLeavesJudged (directed : Bool) (n : ℕ) (cost : ℕ → ℕ → ℤ) (scale : ℤ)
     (families : List (List (List ℕ))) (given : List Decision) (steps : List listed.Step) (found : TreeVerdict) : Type 0 where
   pub crossed : List Crossings
@@ -55,8 +57,8 @@ pub record AreLeavesJudged (directed : Bool) (n : ℕ) (cost : ℕ → ℕ → �
   pub are_once : AreBranchesJudged directed given steps None
   pub leaves : AreJudgedLeaves directed n cost scale (families_with crossed families) crossed given steps found
 
--- the first bad family; where all are good, the first branch that doesn't begin with a node; then the first one that
--- comes twice; then the first bad leaf; and where there is none of these, the bound
+-- The first of these that exists: a bad family; a branch that doesn't begin with a node; a branch that comes twice; a
+-- bad leaf. Otherwise: the bound.
 abbrev pub IsBranchVerdict : Bool → ℕ → (ℕ → ℕ → ℤ) → ℤ → List (List (List ℕ)) → List Decision → List listed.Step → TreeVerdict
     → Type 0
 IsBranchVerdict directed n cost scale families given steps (verdict.BadFamily family) = IsFirstBadFamily n families family

@@ -1,4 +1,5 @@
--- Definitions of the verdict on a branches file for tours, and of a leaf's rows of weights.
+-- Definitions for this crate's contracts: the verdict on a branches file for tours (BranchVerdicts, from which
+-- tsp_verdict proves its reasons), and a leaf's rows of weights (states). Bounds are defined in tsp_cases.
 pub mod Prelude
 pub mod states
 pub mod BranchVerdicts

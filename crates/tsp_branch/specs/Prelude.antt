@@ -1,4 +1,5 @@
--- Names from other crates that definitions and contracts here use often, re-exported so that a file needs one import.
+-- Names of other crates, passed on to the files of this crate alone. It defines nothing: add or remove names freely;
+-- `tests/repository/names` sees that each is imported from here.
 pub use Rattle.std.specs.List.{All, filter, list_any}
 pub use Rattle.std.specs.Prelude.{Bool, IfOk, IfSome, List, MatchOption, None, Some, false, length, map, neg_ℤ, negsuc, pos, reverse, slice_index, slice_index_or, true, ℕ, ℤ}
 pub use Rattle.tsp_cases.specs.CaseTrees.{Allows, BoundsIfAny, HasNoLink, IsAllowed, IsCaseTree, IsCaseTreeBound, IsFoundAt, IsLeafBound, IsLeastFrom, IsRowBound, IsSumOfLeast, leaf_weight, least_of, multiplied}

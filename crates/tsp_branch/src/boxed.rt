@@ -1,6 +1,6 @@
-//! The bound of a leaf by a least 1-tree (`bound_of_trees`), which grows over kept rows, boxes of
-//! points (`BoxedLeaf`) or rows (`leaf_rows.rt`): three ways to the same bound. Also how a bound at
-//! a scale is rounded up, which does change the number.
+//! The bound of a leaf of a TSP (`bound_of_trees`), for `case_leaf.rt`. The minimum 1-tree grows
+//! over kept rows, over boxes of points (`BoxedLeaf`), or over rows (`leaf_rows.rt`): which way
+//! only affects speed, because `IsBoundOfWeights` pins the bound.
 
 ghost use Rattle.tsp_branch.specs.Prelude.{All, false, length, pos, neg_ℤ, IfOk, true, ℕ, IsNode, IsFromTo, IsBoundSized, IsScale, IsLeastBound, weight_between, most_between, least_at, decided_number, most_combed, set_weight, lent_in, AreFewChanges, changes, decided, decisions_in};
 ghost use Rattle.std.specs.Int.{w64, int_wrap};
@@ -19,8 +19,8 @@ use tsp_theory::{Costs, Region, Site, Weights, weight_in};
 /// A leaf whose weights a box can bound.
 ///
 /// The number of a node is its potential less the multipliers of its sets, at most 4 * 10^18 in
-/// size. Shared sets and avoided pairs only add to a weight. So every weight, except that of a
-/// taken pair, is at least the cost at the scale plus the numbers of both nodes.
+/// size. Shared sets and avoided pairs can only increase a weight. So, except for taken pairs,
+/// every weight is at least the cost at the scale plus the numbers of both nodes.
 #[derive(Drop)]
 pub(crate) struct BoxedLeaf<'a, C: Costs> {
     pub(crate) leaf: &'a CaseLeaf<'a, C>,
@@ -51,7 +51,7 @@ impl<C: Costs> BoxedLeaf<'_, C> {
         leaf.context.cases.scale * cost + both
     }
 
-    /// The weight without decisions. The caller passes what it is without shared sets.
+    /// The weight without decisions. The caller passes the weight without shared sets.
     fn combed(&self, base: i64, from: u32, to: u32) -> i64
         requires from { IsNode (C.nodes self.now.leaf.now.context.now.costs.now) from }
         requires to { IsNode (C.nodes self.now.leaf.now.context.now.costs.now) to }
@@ -201,11 +201,10 @@ impl<C: Costs> BoxedWeights for BoxedLeaf<'_, C> {
     }
 }
 
-/// The bound of a leaf by a least 1-tree: by kept rows, by boxes, or by rows.
+/// The bound of a leaf of a TSP: by kept rows, by boxes, or by rows.
 ///
-/// Kept rows are used if there are any. Otherwise boxes are used if they suit the sets of the leaf
-/// and its numbers aren't too large. The requirements are those of
-/// [`leaf_bound`](crate::leaf_bound).
+/// Kept rows are used if there are any. Otherwise boxes are used if they suit the leaf's sets and
+/// its numbers aren't too large. The requirements are those of [`leaf_bound`](crate::leaf_bound).
 ///
 /// # Errors
 ///
@@ -289,17 +288,17 @@ pub(crate) fn are_few(multipliers: &Multipliers, places: &[SetPlace]) -> bool
 
 // ---- the bound of a leaf from its weights
 
-/// The bound of a leaf from its weights: the least whole number that, times the scale, is no less
-/// than the weight of a least 1-tree plus a sum.
+/// The bound of a leaf from its weights: the least integer that, times the scale, is at least the
+/// weight of a minimum 1-tree plus a sum.
 ///
 /// The sum is that of the taken pairs' numbers and of the combs' multipliers, each times the least
-/// number of crossings, less each potential twice. With it the result bounds every leaf that has
-/// these weights.
+/// number of crossings, less each potential twice. With this sum, the result is the bound of every
+/// leaf with these weights.
 ///
 /// # Requires
 ///
-/// Three or more nodes, symmetric weights, a sum of at most 2^99 in size, and a row of one place
-/// more than there are nodes, which is overwritten.
+/// Three or more nodes, symmetric weights, a sum of at most 2^99 in size, and a row with one place
+/// more than there are nodes. The row is overwritten.
 ///
 /// # Errors
 ///
@@ -326,7 +325,7 @@ pub fn leaf_bound<W: Growing>(
     Ok(rounded_up(scale, weight + given_back))
 }
 
-/// The least whole number that, times the scale, is no less than the sum.
+/// The least integer that, times the scale, is at least the sum.
 pub(crate) fn rounded_up(scale: i64, sum: i128) -> i128
     requires scale { IsScale scale }
     requires size { IsFromTo (neg_ℤ (pos (2 ^ 100))) (pos (2 ^ 100)) sum }

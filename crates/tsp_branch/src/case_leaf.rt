@@ -1,6 +1,6 @@
-//! A leaf of a tree of cases, and its bound: for a TSP by a least 1-tree, for an ATSP by the least
-//! arc from each node that the decisions allow. `IsLeafBound` and `IsRowLeafBound` in tsp_cases pin
-//! the two.
+//! One leaf of a branches file for tours and its bound: a minimum 1-tree for a TSP, least arcs for
+//! an ATSP. `verdict.rt` makes a `CaseLeaf` for each leaf. `IsFoundAt` in tsp_cases (by
+//! `IsLeafBound` and `IsRowLeafBound`) pins the bound.
 
 ghost use Rattle.tsp_branch.specs.Prelude.{All, filter, length, pos, neg_ℤ, ℕ, List, true, ℤ, IsNode, triples_total, total, IsScale, IsFromTo, least_at, IsMoved, multiplied, least_of, Allows, DecideOnce, on_taken, decided_number, AreFewCrossings, lent_in, good_in, marks_in, IsOnPlaces, IsChanged, change_of, changes, stack_of, IsOpenCase, decisions_in, bears_on};
 ghost use Rattle.std.specs.Int.{w64, int_wrap};
@@ -49,8 +49,8 @@ impl<C: Costs> CaseLeaf<'_, C> {
     ghost use Rattle.std.specs.Prelude.{◌≡◌, ◌+◌};
     ghost use Rattle.tsp_cases.specs.ListedCases.{as_leaf_numbers};
 
-    /// The bound of the leaf under the decisions of its case; `None` if they allow no arc from some
-    /// node, so that no cycle keeps them. `row` is scratch space.
+    /// The bound of the leaf; `None` if its decisions allow no arc from some node, so that no cycle
+    /// keeps them. `row` is scratch space.
     ///
     /// # Errors
     ///
@@ -71,7 +71,7 @@ impl<C: Costs> CaseLeaf<'_, C> {
         Ok(Some(bound))
     }
 
-    /// The bound by a least 1-tree, for pairs without a direction: over kept rows if there are any,
+    /// The bound of a leaf of a TSP: the minimum 1-tree grows over kept rows if there are any,
     /// otherwise over boxes if nodes have places.
     ///
     /// # Errors
@@ -97,8 +97,8 @@ impl<C: Costs> CaseLeaf<'_, C> {
         bound_of_trees(alloc, self, row, sum)
     }
 
-    /// The bound by the least link from each node; `None` if the decisions allow no link from some
-    /// node.
+    /// The bound of a leaf of an ATSP, by the least arc from each node; `None` if the decisions
+    /// allow no arc from some node.
     fn bound_by_rows(&self, row: &mut [i64]) -> Option<i128>
         requires directed { self.now.context.now.cases.now.directed ≡ true }
         requires row { length row.old ≡ C.nodes self.now.context.now.costs.now + 1 }
@@ -123,7 +123,7 @@ impl<C: Costs> CaseLeaf<'_, C> {
     }
 }
 
-// ---- the sum that a leaf gives back to its bound
+// ---- the sum that a leaf adds to its bound
 
 /// What a leaf adds to its bound: for each family the least number of crossings times its
 /// multiplier, less each potential twice. At most 2^98 in size.
@@ -187,8 +187,8 @@ fn change(row: &mut [i64], decision: Decision, from: u32)
 {
     let (first, second) = decision.pair;
     let number = if decision.taken { -DECIDED } else { DECIDED };
-    // If the row is of neither node, 0 is added: a branch that is seldom predicted right would take
-    // longer.
+    // For the row of another node this adds 0, because a branch would be slower: it is seldom
+    // predicted right.
     let other = if first == from { second } else { first };
     let is_at = first == from || second == from;
     add_at(row, other, if is_at { number } else { 0 });
@@ -216,9 +216,9 @@ pub(crate) fn change_between(decisions: &[Decision], from: u32, to: u32) -> i64
     sum
 }
 
-// ---- the sum that a leaf gives back, with the scale
+// ---- the sum that a leaf adds to its bound, with the scale
 
-/// What a leaf adds to the weight of a least 1-tree, or of the least links, and the scale by which
+/// What a leaf adds to the weight of a minimum 1-tree or of the least arcs, and the scale by which
 /// their sum is divided to get its bound.
 #[derive(Clone, Copy)]
 pub(crate) struct LeafSum {
@@ -229,10 +229,9 @@ pub(crate) struct LeafSum {
     ghost size: { IsFromTo (neg_ℤ (pos (2 ^ 99))) (pos (2 ^ 99)) given_back },
 }
 
-// ---- the bound of a leaf by the least arc from each node, if pairs have a direction
+// ---- the bound of a leaf of an ATSP, by the least arc from each node
 
-/// Weights by rows, for pairs with a direction, and the decisions of a case, which say which links
-/// are allowed.
+/// The weights of a leaf of an ATSP, by rows, and its decisions, which say which arcs are allowed.
 #[derive(Drop)]
 pub(crate) struct AllowedRows<'a, W: Weights> {
     pub(crate) weights: &'a W,
@@ -246,13 +245,13 @@ impl<W: Weights> AllowedRows<'_, W> {
     ghost use Rattle.std.specs.Prelude.{◌≡◌, ◌+◌};
     ghost use Rattle.tsp_format.specs.Limits.{most_nodes};
 
-    /// The bound of a leaf from its weights: the least whole number that, times the scale, is no
-    /// less than the sum of the least weights from all nodes plus a given sum. `None` if the
-    /// decisions allow no link from some node: then no cycle keeps them.
+    /// The bound of a leaf: the least integer that, times the scale, is at least the sum of the
+    /// least allowed weights from all nodes plus `sum`. `None` if the decisions allow no arc from
+    /// some node: then no cycle keeps them.
     ///
     /// # Requires
     ///
-    /// A row of one place more than there are nodes, which is overwritten.
+    /// A row with one place more than there are nodes. It is overwritten.
     pub(crate) fn bound(&self, row: &mut [i64], sum: LeafSum) -> Option<i128>
         requires room { length row.old ≡ W.nodes self.now.weights.now + 1 }
         ensures bound { MatchOption result (HasNoLink (W.nodes self.now.weights.now) (decisions_in self.now.case.now))

@@ -1,7 +1,8 @@
-//! The weights of a leaf for tours as rows: `CaseLeaf` as the traits `Weights` and `Growing`, the
-//! way that works for every leaf.
+//! Implements `Weights` and `Growing` for `CaseLeaf`, row by row. Unlike boxes (`boxed.rt`), rows
+//! work for every leaf. `boxed.rt` (for a TSP) and `case_leaf.rt` (for an ATSP) read the rows.
+//! `decided_by` in `specs/states/LeafRows.antt` pins every weight.
 //!
-//! An edge crosses a set if exactly one of its nodes is in it: the number of its nodes there, less
+//! An edge crosses a set if exactly one of its nodes is in it: as often as it has nodes there, less
 //! 2 if both are. So each multiplier is subtracted from the potentials of the nodes in its sets,
 //! and a row only has to add it back, twice, at the nodes that share a set with its own node.
 
@@ -110,7 +111,8 @@ impl<C: Costs> CaseLeaf<'_, C> {
         }
     }
 
-    /// What `fill_at` does, for weights of at most 2 * 10^18 in size.
+    /// The weights to these nodes without the decisions: costs, potentials and multipliers. They are
+    /// at most 2 * 10^18 in size.
     pub(crate) fn fill_combed_at(&self, from: u32, to: &[u32], row: &mut [i64])
         requires from { IsNode (C.nodes self.now.context.now.costs.now) from }
         requires to { (k : ℕ) → k < length to.now → IsNode (C.nodes self.now.context.now.costs.now) (slice_index to.now k) }
@@ -129,7 +131,7 @@ impl<C: Costs> CaseLeaf<'_, C> {
         add_sets(row, &self.context.by_node[from as usize], &multiplied);
     }
 
-    /// What `fill` does, for weights of at most 2 * 10^18 in size.
+    /// The weights to all nodes without the decisions, at most 2 * 10^18 in size.
     pub(crate) fn fill_combed(&self, from: u32, row: &mut [i64])
         requires from { IsNode (C.nodes self.now.context.now.costs.now) from }
         requires room { length row.old ≡ C.nodes self.now.context.now.costs.now + 1 }

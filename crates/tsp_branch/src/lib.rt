@@ -1,9 +1,9 @@
-//! The code of lower bounds by branching: the bound of each leaf of a tree of cases, by a least
-//! 1-tree or by the least arc from each node.
+//! Judges branches files for tours, whose leaves are bounded by minimum 1-trees (TSP) or least arcs
+//! (ATSP).
 //!
-//! [`judge_branches`] finds the bound of a certificate, or the first thing that is wrong with it.
-//! It doesn't search for certificates, and knows costs only by their traits. The theorems are in
-//! tsp_cases.
+//! [`judge_branches`], which tsp_verdict calls, finds the bound of a certificate or the first
+//! reason against it. `IsBranchVerdict` in `specs/BranchVerdicts.antt` pins its answer. The
+//! theorems are in tsp_cases.
 //!
 //! ```text
 //! let verdict = judge_branches(alloc, &tree)?;

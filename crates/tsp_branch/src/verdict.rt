@@ -1,7 +1,7 @@
 //! Judges a branches file for a TSP or an ATSP: its families, then its branches, then its leaves.
-//! This order decides the reason that a report gives (`IsBranchVerdict` in
-//! `specs/BranchVerdicts.antt`). Also the estimates by which a leaf takes boxes or rows, and a tree
-//! keeps rows, which affect only speed.
+//! tsp_verdict calls `judge_branches`. This order decides the reason in a report (`IsBranchVerdict`
+//! in `specs/BranchVerdicts.antt`), so keep it; the estimates of whether boxes or rows are faster
+//! affect only speed.
 
 ghost use Rattle.tsp_branch.specs.Prelude.{All, IfOk, false, length, IsFoundAt, DecideOnce, decided_number, marks_in, IsOpenCase, decisions_in, good_in, lent_in};
 ghost use Rattle.std.specs.Prelude.{◌≡◌, ◌≤◌, ◌<◌, ◌^◌, ◌+◌};
@@ -25,21 +25,21 @@ use tsp_cases::{
 use tsp_io::Refused;
 use tsp_theory::Costs;
 
-/// Judges a certificate by branching, and returns its bound or the first reason against it.
+/// Judges a branches file, and returns its bound or the first reason against it.
 ///
 /// The reasons, in this order: a family that isn't good, a branch that isn't on two nodes, a branch
 /// on a pair that is given or decided above it, a leaf that isn't good. The bound is at most the
 /// length of every cycle that keeps the given decisions, and small enough for sums with it to fit
-/// 128 bits. If no leaf has a bound, no cycle keeps them.
+/// 128 bits. If no leaf has a bound, no cycle keeps the given decisions.
 ///
-/// The bound of a leaf is that of a least 1-tree or, if pairs have a direction, the sum of the
+/// The bound of a leaf is that of a minimum 1-tree or, if pairs have a direction, the sum of the
 /// least arcs from each node. If nodes have points, boxes rule out most pairs.
 ///
 /// # Errors
 ///
-/// Out of memory. It allocates memory for each node, each comb, each node of a set, and each
-/// decision of a case. For a tree of several leaves it also tries to allocate memory for each pair
-/// of up to 2,000 nodes, and goes on without it if it gets none.
+/// If memory runs out. It allocates an entry for each node, each comb, each node of a set, and each
+/// decision of a case. For a tree with several leaves and up to 2,000 nodes, it also tries to
+/// allocate an entry for each pair, but doesn't need it.
 pub fn judge_branches<C: Costs>(
     alloc: Global,
     tree: &BranchingCertificate<C>,
@@ -62,7 +62,7 @@ pub fn judge_branches<C: Costs>(
     branch_bound(alloc, tree.costs, &families, &cases)
 }
 
-// ---- the bound of a certificate by branching
+// ---- the bound of a branches file
 
 /// The least bound of the leaves, which is at most the length of every cycle that keeps the given
 /// decisions; `None` if no leaf has a bound. Or the first leaf that isn't good: one with an index
@@ -70,8 +70,8 @@ pub fn judge_branches<C: Costs>(
 /// multiplier, or with multipliers that, each times the largest number of its family's sets that
 /// one edge crosses, sum to more than 9 * 10^17.
 ///
-/// The bound of a leaf is that of a least 1-tree, or, if pairs have a direction, that of the least
-/// link from each node.
+/// The bound of a leaf is that of a minimum 1-tree or, if pairs have a direction, that of the least
+/// arc from each node.
 ///
 /// # Requires
 ///
@@ -80,9 +80,9 @@ pub fn judge_branches<C: Costs>(
 ///
 /// # Errors
 ///
-/// Out of memory. It allocates memory for each node, each comb, each node of a set, and each
-/// decision of a case. For a tree of several leaves it also tries to allocate memory for each pair
-/// of up to 2,000 nodes, and goes on without it if it gets none.
+/// If memory runs out. It allocates an entry for each node, each comb, each node of a set, and each
+/// decision of a case. For a tree with several leaves and up to 2,000 nodes, it also tries to
+/// allocate an entry for each pair, but doesn't need it.
 pub fn branch_bound<C: Costs>(
     alloc: Global,
     costs: &C,
@@ -135,7 +135,7 @@ fn judge_context<C: Costs>(alloc: Global, context: &LeafContext<C>) -> Result<Tr
     judge_leaves(alloc, &judge, &steps, &mut room, count)
 }
 
-// ---- how long leaves seem to take by boxes and by rows
+// ---- estimates of how long leaves take by boxes and by rows
 
 // Times are in nanoseconds, as measured. They affect only speed, never a bound.
 
@@ -177,8 +177,8 @@ fn keeps_rows<C: Costs>(context: &LeafContext<C>) -> bool {
 /// Whether boxes are expected to be at least as fast as rows for a leaf without kept rows, given
 /// the sets by node and the sets of each family.
 ///
-/// The time that boxes take apart from sets isn't counted. It exceeds that of rows only below some
-/// 200 nodes, and there both take less than a millisecond.
+/// The time that boxes take without sets isn't counted. It exceeds that of rows only below some 200
+/// nodes, where both take less than a millisecond.
 pub(crate) fn prefers_boxes(by_node: &[Vec<SetPlace>], families: &[Vec<Vec<u32>>]) -> bool {
     let rows = PAIR_BY_ROWS.saturating_mul(squared(by_node.len() as u64));
     time_of_comparing(by_node) <= rows.saturating_add(steps_of_sets(families))
@@ -193,7 +193,7 @@ fn squared(number: u64) -> u64 {
     number.saturating_mul(number)
 }
 
-/// The number of comparisons, if the sets of each node are compared with as many others.
+/// The number of comparisons if the sets of each node are compared with as many others.
 fn compared(by_node: &[Vec<SetPlace>]) -> u64 {
     let mut steps: u64 = 0;
     'nodes: for places in by_node {
@@ -222,7 +222,7 @@ fn steps_of_family(sets: &[Vec<u32>]) -> u64 {
 
 // ---- the judge of the leaves of a certificate for tours
 
-/// The judge of the leaves for tours: by least 1-trees, or by least links if pairs have a
+/// The judge of the leaves for tours: by minimum 1-trees, or by least arcs if pairs have a
 /// direction.
 #[derive(Drop)]
 pub(crate) struct CycleJudge<'a, C: Costs> {

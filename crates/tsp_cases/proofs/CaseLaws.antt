@@ -1,9 +1,9 @@
 -- A cycle is in one of the two cases of a branch, and uses no link that the decisions of its case forbid: the laws on
 -- cases in src/laws.rt.
-use Rattle.tsp_cases.proofs.Prelude.{◌≡◌, ℕ, ◌==◌, ◌&&◌, Bool, true, false, List, [], ◌∷◌, length, ℤ, ◌≤ℤ◌, ◌⊎◌, inl, inr, refl, sym, ap, ◌∙◌, subst, arith, ◌≢◌, zero, suc, ◌≤◌, ◌+ℤ◌, get_or, cases_Bool, both_ways, and_parts, and_from, eqb-true, eq-eqb, cases_eq, ne_eqb, ints, recursion_from_All, All-cons, All-from_recursion, All-weaker, All-contains, Contains-get_or, Any-from_list_any, list_any_at, All, AllByRecursion, Contains, list_any, pos, IsNode, Laws, has_node, neighbours_or_not, sum_zero, one_if, none_or_one, sum_below, count_any, once, sum_int_by-le, IsCycle, links, Follows, Uses, length_of, links_to}
+use Rattle.tsp_cases.proofs.Prelude.{◌≡◌, ℕ, ◌==◌, ◌&&◌, Bool, true, false, List, [], ◌∷◌, ℤ, ◌≤ℤ◌, ◌⊎◌, inl, inr, refl, sym, ap, ◌∙◌, subst, arith, ◌≢◌, zero, suc, ◌≤◌, ◌+ℤ◌, get_or, cases_Bool, both_ways, and_parts, and_from, eqb-true, eq-eqb, cases_eq, ne_eqb, ints, recursion_from_All, All-from_recursion, All-weaker, All-contains, Contains-get_or, Any-from_list_any, list_any_at, All, AllByRecursion, Contains, list_any, pos, IsNode, Laws, has_node, neighbours_or_not, sum_zero, one_if, none_or_one, sum_below, count_any, once, sum_int_by-le, IsCycle, links, Follows, Uses, links_to}
 use Rattle.tsp_cases.specs.CaseTrees.{AllowsLink, Allows, LinksAreAllowed, NoLinkNoCycle, SumsAreBelowCycles}
-use Rattle.tsp_cases.specs.Cases.{KeepsDecision, CaseStep, Branch, Leaf, are_case_trees, decide, leaves_of, cases_of, KeepsOne, CyclesKeepLeaves, BoundsCase, HasNoCycle, BoundsButOpen, CasesBoundCycles, CasesHaveNoCycle, StacksHoldCases, KeepsPair}
-use Rattle.tsp_cases.specs.declared.decision.Decision.{Decision}
+use Rattle.tsp_cases.specs.Cases.{KeepsDecision, CyclesKeepLeaves, cycles, StacksHoldCases, KeepsPair}
+use Rattle.tsp_cases.proofs.Solutions.{leaves_are_kept}
 
 -- ---- whether a pair is used
 
@@ -23,7 +23,7 @@ pub found_follows : (nodes : List ℕ) (pair : ℕ × ℕ) → Follows nodes pai
 found_follows nodes pair c = list_any_at (is_pair pair) (links nodes) c.0 pair c.1 (ap (is_pair pair) c.2
     ∙ and_from (pair.0 == pair.0) (pair.1 == pair.1) (eq-eqb pair.0 pair.0 refl) (eq-eqb pair.1 pair.1 refl))
 
-uses_or_not : (directed : Bool) (nodes : List ℕ) (pair : ℕ × ℕ) → Uses directed nodes pair ⊎ (Uses directed nodes pair → ⊥)
+pub uses_or_not : (directed : Bool) (nodes : List ℕ) (pair : ℕ × ℕ) → Uses directed nodes pair ⊎ (Uses directed nodes pair → ⊥)
 uses_or_not false nodes pair = neighbours_or_not nodes pair
 uses_or_not true nodes pair = elim (cases_Bool (list_any (is_pair pair) (links nodes))) [
   | inl t ↦ inl (follows_found nodes pair t)
@@ -32,82 +32,8 @@ uses_or_not true nodes pair = elim (cases_Bool (list_any (is_pair pair) (links n
 
 -- ---- the tree of cases
 
--- a branch leaves out no cycle
-branched : (directed : Bool) (nodes : List ℕ) (pair : ℕ × ℕ) (case : List Decision) (cases : List (List Decision)) → KeepsOne directed nodes (case ∷ cases)
-    → KeepsOne directed nodes (decide pair true case ∷ decide pair false case ∷ cases)
-branched directed nodes pair case cases (inr later) = inr (inr later)
-branched directed nodes pair case cases (inl here) = elim (uses_or_not directed nodes pair) [
-  | inl used ↦ inl (All-cons (KeepsDecision directed nodes) (record { pair = pair; taken = true }) case used here)
-  | inr unused ↦ inr (inl (All-cons (KeepsDecision directed nodes) (record { pair = pair; taken = false }) case unused here))
-]
-
-kept : (directed : Bool) (nodes : List ℕ) (cases : List (List Decision)) (steps : List CaseStep) → are_case_trees (length cases) steps ≡ true → KeepsOne directed nodes cases
-    → KeepsOne directed nodes (cases_of (leaves_of cases steps))
-kept directed nodes [] steps whole keeps = absurd keeps
-kept directed nodes (case ∷ cases) [] whole keeps = absurd (both_ways false refl whole)
-kept directed nodes (case ∷ cases) (Branch pair ∷ steps) whole keeps =
-    kept directed nodes (decide pair true case ∷ decide pair false case ∷ cases) steps whole (branched directed nodes pair case cases keeps)
-kept directed nodes (case ∷ cases) (Leaf numbers ∷ steps) whole (inl here) = inl here
-kept directed nodes (case ∷ cases) (Leaf numbers ∷ steps) whole (inr later) = inr (kept directed nodes cases steps whole later)
-
 pub cycles_keep_leaves : CyclesKeepLeaves
-cycles_keep_leaves directed given steps nodes whole keeps = kept directed nodes (given ∷ []) steps whole (inl keeps)
-
--- a statement on the cycles of each case is one on each cycle that is in some case
-of_one : (directed : Bool) (n : ℕ) (nodes : List ℕ) (P : Type 0) (cases : List (List Decision)) → AllByRecursion (λ case. IsCycle n nodes → All (KeepsDecision directed nodes) case → P) cases
-    → IsCycle n nodes → KeepsOne directed nodes cases → P
-of_one directed n nodes P [] each cycle keeps = absurd keeps
-of_one directed n nodes P (case ∷ cases) each cycle (inl here) = each.0 cycle here
-of_one directed n nodes P (case ∷ cases) each cycle (inr later) = of_one directed n nodes P cases each.1 cycle later
-
-pub cases_bound_cycles : CasesBoundCycles
-cases_bound_cycles directed n cost bound given steps whole bounds = λ nodes cycle keeps.
-    let cases = cases_of (leaves_of (given ∷ []) steps) in
-    of_one directed n nodes (bound ≤ℤ length_of cost nodes) cases
-    (recursion_from_All (λ case. IsCycle n nodes → All (KeepsDecision directed nodes) case → bound ≤ℤ length_of cost nodes) cases (λ k d lt. bounds k d lt nodes))
-    cycle (cycles_keep_leaves directed given steps nodes whole keeps)
-
-pub cases_have_no_cycle : CasesHaveNoCycle
-cases_have_no_cycle directed n given steps whole none = λ nodes cycle keeps.
-    let cases = cases_of (leaves_of (given ∷ []) steps) in
-    of_one directed n nodes ⊥ cases
-    (recursion_from_All (λ case. IsCycle n nodes → All (KeepsDecision directed nodes) case → ⊥) cases (λ k d lt. none k d lt nodes))
-    cycle (cycles_keep_leaves directed given steps nodes whole keeps)
-
--- ---- the cycles that no closed case has are in an open case
-
-pub open_start : (directed : Bool) (n : ℕ) (cost : ℕ → ℕ → ℤ) (given : List Decision) (bound : ℤ) → BoundsButOpen directed n cost given bound (given ∷ [])
-open_start directed n cost given bound = λ nodes cycle keeps. inr (inl keeps)
-
-pub open_branch : (directed : Bool) (n : ℕ) (cost : ℕ → ℕ → ℤ) (given : List Decision) (bound : ℤ) (pair : ℕ × ℕ) (case : List Decision) (cases : List (List Decision))
-    → BoundsButOpen directed n cost given bound (case ∷ cases) → BoundsButOpen directed n cost given bound (decide pair true case ∷ decide pair false case ∷ cases)
-open_branch directed n cost given bound pair case cases h = λ nodes cycle keeps. elim (h nodes cycle keeps) [
-  | inl long ↦ inl long
-  | inr one ↦ inr (branched directed nodes pair case cases one)
-]
-
-pub open_leaf : (directed : Bool) (n : ℕ) (cost : ℕ → ℕ → ℤ) (given : List Decision) (bound own lower : ℤ) (case : List Decision) (cases : List (List Decision))
-    → lower ≤ℤ bound → lower ≤ℤ own → BoundsCase directed n cost own case → BoundsButOpen directed n cost given bound (case ∷ cases) → BoundsButOpen directed n cost given lower cases
-open_leaf directed n cost given bound own lower case cases p q leaf h = λ nodes cycle keeps. elim (h nodes cycle keeps) [
-  | inl long ↦ inl (omega (arith, ints, long, p))
-  | inr (inl here) ↦ let long = leaf nodes cycle here in inl (omega (arith, ints, long, q))
-  | inr (inr later) ↦ inr later
-]
-
--- a leaf without a cycle
-pub open_none : (directed : Bool) (n : ℕ) (cost : ℕ → ℕ → ℤ) (given : List Decision) (bound : ℤ) (case : List Decision) (cases : List (List Decision))
-    → HasNoCycle directed n case → BoundsButOpen directed n cost given bound (case ∷ cases) → BoundsButOpen directed n cost given bound cases
-open_none directed n cost given bound case cases none h = λ nodes cycle keeps. elim (h nodes cycle keeps) [
-  | inl long ↦ inl long
-  | inr (inl here) ↦ absurd (none nodes cycle here)
-  | inr (inr later) ↦ inr later
-]
-
-pub open_end : (directed : Bool) (n : ℕ) (cost : ℕ → ℕ → ℤ) (given : List Decision) (bound : ℤ) → BoundsButOpen directed n cost given bound [] → BoundsCase directed n cost bound given
-open_end directed n cost given bound h = λ nodes cycle keeps. elim (h nodes cycle keeps) [
-  | inl long ↦ long
-  | inr none ↦ absurd none
-]
+cycles_keep_leaves directed n cost = leaves_are_kept (List ℕ) (cycles directed n cost) (uses_or_not directed)
 
 -- ---- the stack
 

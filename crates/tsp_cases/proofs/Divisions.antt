@@ -68,7 +68,7 @@ membership_more sets count node value set lt is h = step (set node) refl
 
 -- ---- a bit at the nodes of a list
 
--- the number of a node with the bit where it is among the first nodes
+-- the number of a node with the bit if it is among the first nodes
 abbrev pub with_bit : ℕ → List ℕ → ℕ → ℕ → ℕ
 with_bit bit nodes node old = old + (if has nodes node then bit else 0)
 
@@ -274,7 +274,7 @@ module _ (n : ℕ) (sets : List (ℕ → Bool)) (memberships firsts costs : List
           at (k / m) (k % m) ((div-lt_iff_lt-mul some).1 within) (mod-lt k some) (same ∙ ap (slice_index costs) (sym split))
       found k same (inr past) = none (same ∙ get_or_past costs k 0 past)
 
--- where the parts are few, they aren't too many
+-- if the parts are few, they aren't too many
 pub few_parts : (n : ℕ) (sets : List (ℕ → Bool)) (firsts : List ℕ) → length sets ≤ 63 → ArePartsOf n sets firsts
     → length firsts ≤ 14 → AreTooMany n sets → ⊥
 few_parts n sets firsts few is small (inl more) = omega (arith, few, more)

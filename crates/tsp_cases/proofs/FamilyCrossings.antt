@@ -1,5 +1,5 @@
 -- How often a cycle crosses a comb or another family (docs/proof.md, "Combs"), and how large crossings times
--- multipliers are.
+-- multipliers are. For the laws on families in src/laws.rt.
 use Rattle.tsp_cases.proofs.Prelude.{◌≡◌, ℕ, zero, suc, ◌*◌, ◌≤◌, ◌&&◌, Bool, true, false, not, cond, List, [], ◌∷◌, length, ℤ, ◌+ℤ◌, ◌≤ℤ◌, inl, inr, refl, arith, ap, ◌+◌, ap₂, sym, ◌∙◌, subst, get_or, map, FitsSigned, ◌<◌, ◌^◌, drop, to_z, of_z, drop-cons, add-one, cases_Bool, both_ways, and_right, and_from, and_parts, false_from_ne_true, ints, fits_signed_from_abs, to_z-of_z, recursion_from_All, w64, w128, AllPairs, AllByRecursion, All, pos, negsuc, ◌*ℤ◌, neg_ℤ, ◌-ℤ◌, IsNode, IsFromTo, Laws, has_node, sum_zero, one_if, none_or_one, evenly, twice, sum_below, size_of, scaled_up, scaled_sum, total, most_between, IsCycle, links, sum_int_by, length_of, crosses, crossing}
 use Rattle.std.proofs.Math.IntN.{pred_ℤ-*ℤ, *ℤ-zero}
 use Rattle.tsp_cases.specs.CaseTrees.{crossings_of, multiplied}
@@ -10,7 +10,7 @@ use Rattle.tsp_cases.specs.declared.family.Crossings.{Crossings}
 use Rattle.tsp_cases.specs.states.GoodFamilies.{IsSmall}
 use Rattle.tsp_cases.specs.states.Sets.{summed_from, SetsTellCombs, SetsGiveLeaves, most_combed}
 
--- 1 where both nodes of a pair are in the tooth, and the pair crosses the handle, else 0
+-- 1 if both nodes of a pair are in the tooth, and the pair crosses the handle, else 0
 abbrev within : (ℕ → Bool) → (ℕ → Bool) → ℕ → ℕ → ℤ
 within handle tooth i j = one_if ((tooth i && tooth j) && crosses handle (i, j))
 

@@ -387,7 +387,7 @@ set_here sets index default nodes other lt same = get_or-map (λ (set : Vec ℕ)
 pub lists_long : (sets : List (Vec ℕ)) → length (lists_of sets) ≡ length sets
 lists_long sets = length-map sets (λ (set : Vec ℕ). set.items)
 
--- nodes of which none has the mark are new exactly where they are each there once
+-- nodes of which none has the mark are new exactly if they are each there once
 pub new_once : (marks : List ℕ) (mark : ℕ) (nodes : List ℕ) → AreUnmarked marks mark → HasEachOnce nodes → AreNew (is_marked marks mark) nodes
 new_once marks mark nodes none once = record { unused = λ k d lt. none (get_or nodes k d); once = once }
 
@@ -453,12 +453,12 @@ all_good n families crossed many have =
 pub first_found : (n place : ℕ) (families : List (List (List ℕ))) → place < length families → ((other : ℕ) → other < place → IsGoodFamily n (get_or families other []))
     → (IsGoodFamily n (get_or families place []) → ⊥)
     → IsFirstBadFamily n families (place + 1)
-first_found n place families lt before bad = record {
-  least = omega arith;
-  most = omega (arith, lt);
-  before = λ other less. before other (omega (arith, less));
-  bad = λ other same good. bad (subst (λ (k : ℕ). IsGoodFamily n (get_or families k [])) (let e : other ≡ place = omega (arith, same) in e) good);
-}
+first_found n place families lt before bad =
+    let same : place + 1 - 1 ≡ place = omega arith in
+    record {
+      applies = ((omega arith, omega (arith, lt)), λ good. bad (subst (λ (k : ℕ). IsGoodFamily n (get_or families k [])) same good));
+      none_before = λ other less from. before (other - 1) (omega (arith, less, from));
+    }
 
 -- ---- some two nodes cross each family
 

@@ -129,7 +129,7 @@ more_order n set other rest inner own h =
 
 -- ---- the best path
 
--- a path has its last step where no node is left of the set, else no step yet
+-- a path has its last step if no node is left of the set, else no step yet
 abbrev pub StartsWith : ℕ → List ℕ → ℕ → ℕ → ℕ → Type 0
 StartsWith n costs set other start =
     ((set - 2 ^ other ≡ 0) × (start ≡ slice_index costs ((other + 1) * n))) ⊎ ((set - 2 ^ other ≢ 0) × (start ≡ no_path))

@@ -1,10 +1,11 @@
 -- Lemmas on families (PartWalks, LeastCycles, Divisions, FamilyCrossings, GoodFamilies, SetSums) and on trees of cases
--- (the others).
+-- (the others; Solutions has those that hold of any kind of solution). Proofs in tsp_branch, tsp_routing and tsp_verdict import them, too.
 mod Prelude
 pub mod PartWalks
 pub mod LeastCycles
 pub mod Divisions
 pub mod SmallFamilies
+pub mod Solutions
 pub mod CaseLaws
 pub mod CaseTrees
 pub mod FamilyCrossings

@@ -16,7 +16,7 @@ stack_more xs d = reverse-append xs (d ∷ [])
 pub next_avoided : (d : Decision) (xs : List Decision) → d.taken ≡ false → next_stack (stack_of (xs ++ d ∷ [])) ≡ next_stack (stack_of xs)
 next_avoided d xs h = ap next_stack (stack_more xs d) ∙ rw h refl
 
--- ---- where no two decisions are on one pair, a weight changes by one decision at most
+-- ---- if no two decisions are on one pair, a weight changes by one decision at most
 
 -- two pairs on the same two nodes are the same pair, in either order
 abbrev pub Same : ℕ × ℕ → ℕ → ℕ → Type 0

@@ -1,6 +1,7 @@
--- One pass over the steps of a tree of cases (src/pass.rt), and what it finds at a branch, at a leaf and at the end.
+-- One pass over the steps of a tree of cases (src/tree.rt), and what it finds at a branch, at a leaf and at the end.
 use Rattle.tsp_cases.proofs.Prelude.{◌≡◌, ◌∙◌, ℕ, ◌+◌, ◌<◌, List, ◌∷◌, ◌++◌, length, take, drop, get_or, sym, ap, subst, arith, drop-cons, add-one, zero, suc, ◌-◌, Bool, true, false, [], ℤ, inl, inr, ◌≤ℤ◌, refl, ◌^◌, ◌≤◌, length-append, both_ways, ints, get_or-map, length-map, take-append-le, take_all, length-reverse, drop_all, recursion_from_All, All-from_recursion, All, Any, AllByRecursion, ◌⊎◌, Option, Some, None, IfSome, are_whole, TreeStep, step_of, steps_of, IsBoundSized}
 use Rattle.tsp_format.specs.Steps as listed
+use Rattle.tsp_theory.specs.First.{IsFirst}
 use Rattle.tsp_cases.proofs.CaseLaws.{stacks_hold_cases}
 use Rattle.tsp_cases.proofs.OpenCases.{stack_more}
 use Rattle.tsp_cases.specs.CaseTrees.{IsAbove, IsLeastFound}
@@ -57,10 +58,13 @@ abbrev GoodAfter : (LeafNumbers → Type 0) → ℕ → ℕ → List ℤ → Lis
 GoodAfter Good n family_count numbers leaves k = IsGoodLeafBy Good n family_count (after_leaves (take k leaves) numbers) (get_or leaves k [])
 
 -- the first bad one is after k others
-record IsBadAfter (Good : LeafNumbers → Type 0) (n family_count : ℕ) (numbers : List ℤ) (leaves : List (List (ℕ × ℤ))) (k : ℕ) : Type 0 where
-  inside : k < length leaves
-  bad : GoodAfter Good n family_count numbers leaves k → ⊥
-  before : (j : ℕ) → j < k → GoodAfter Good n family_count numbers leaves j
+abbrev IsBadAfter : (LeafNumbers → Type 0) → ℕ → ℕ → List ℤ → List (List (ℕ × ℤ)) → ℕ → Type 0
+IsBadAfter Good n family_count numbers leaves = IsFirst (λ k. k)
+    (λ k. (k < length leaves) × (GoodAfter Good n family_count numbers leaves k → ⊥)) (GoodAfter Good n family_count numbers leaves)
+
+one_more : (P : ℕ → Type 0) (k : ℕ) → P 0 → ((j : ℕ) → j < k → P (suc j)) → (j : ℕ) → j < suc k → P j
+one_more P k first more zero lt = first
+one_more P k first more (suc j) lt = more j (omega (arith, lt))
 
 bad_by_place : (Good : LeafNumbers → Type 0) (n family_count : ℕ) (numbers : List ℤ) (leaf : ℕ) (steps : List listed.Step) (bad : ℕ) → IsFirstBadFrom Good n family_count numbers leaf steps bad
     → (k : ℕ) × (bad ≡ leaf + suc k) × IsBadAfter Good n family_count numbers (leaf_changes steps) k
@@ -69,22 +73,17 @@ bad_by_place Good n family_count numbers leaf (listed.Branch a b ∷ steps) bad 
 bad_by_place Good n family_count numbers leaf (listed.Leaf changes ∷ steps) bad (inl here) = (
   0,
   omega (arith, here.0),
-  record { inside = omega arith; bad = here.1; before = λ j lt. absurd (omega (arith, lt)) },
+  record { applies = (omega arith, here.1); none_before = λ j lt. absurd (omega (arith, lt)) },
 )
 bad_by_place Good n family_count numbers leaf (listed.Leaf changes ∷ steps) bad (inr later) =
     let rest = bad_by_place Good n family_count (all_grown changes numbers) (suc leaf) steps bad later.1 in (
       suc rest.0,
       omega (arith, rest.1),
       record {
-        inside = omega (arith, rest.2.inside);
-        bad = rest.2.bad;
-        before = one_more (GoodAfter Good n family_count numbers (changes ∷ leaf_changes steps)) rest.0 later.0 rest.2.before;
+        applies = (omega (arith, rest.2.applies.0), rest.2.applies.1);
+        none_before = one_more (GoodAfter Good n family_count numbers (changes ∷ leaf_changes steps)) rest.0 later.0 rest.2.none_before;
       },
     )
-  where
-    one_more : (P : ℕ → Type 0) (k : ℕ) → P 0 → ((j : ℕ) → j < k → P (suc j)) → (j : ℕ) → j < suc k → P j
-    one_more P k first more zero lt = first
-    one_more P k first more (suc j) lt = more j (omega (arith, lt))
 
 good_by_place : (Good : LeafNumbers → Type 0) (n family_count : ℕ) (numbers : List ℤ) (steps : List listed.Step) → AreGoodFrom Good n family_count numbers steps → (k : ℕ) → k < length (leaf_changes steps)
     → GoodAfter Good n family_count numbers (leaf_changes steps) k
@@ -100,10 +99,11 @@ first_bad_by_place Good n family_count steps bad h =
     let found = bad_by_place Good n family_count (no_numbers_of n family_count) 0 steps bad h in
     let place : found.0 ≡ bad - 1 = omega (arith, found.1) in
     record {
-      least = omega (arith, found.1);
-      most = omega (arith, found.1, found.2.inside);
-      bad = subst (λ (k : ℕ). GoodAfter Good n family_count (no_numbers_of n family_count) (leaf_changes steps) k → ⊥) place found.2.bad;
-      before = λ earlier from lt. found.2.before (earlier - 1) (omega (arith, from, lt, found.1));
+      applies = (
+        (omega (arith, found.1), omega (arith, found.1, found.2.applies.0)),
+        subst (λ (k : ℕ). GoodAfter Good n family_count (no_numbers_of n family_count) (leaf_changes steps) k → ⊥) place found.2.applies.1,
+      );
+      none_before = λ earlier lt from. found.2.none_before (earlier - 1) (omega (arith, from, lt, found.1));
     }
 
 pub all_good_by_place : (Good : LeafNumbers → Type 0) (n family_count : ℕ) (steps : List listed.Step) → AreGoodFrom Good n family_count (no_numbers_of n family_count) steps → AreGoodLeavesBy Good n family_count steps
@@ -126,10 +126,9 @@ abbrev twice_after : Bool → List Divided → ℕ → Bool
 twice_after directed branches k =
     is_decided directed (get_or branches k (record { case = []; pair = (0, 0) })).case (get_or branches k (record { case = []; pair = (0, 0) })).pair
 
-record IsTwiceAfter (directed : Bool) (branches : List Divided) (k : ℕ) : Type 0 where
-  inside : k < length branches
-  twice : twice_after directed branches k ≡ true
-  before : (j : ℕ) → j < k → twice_after directed branches j ≡ false
+abbrev IsTwiceAfter : Bool → List Divided → ℕ → Type 0
+IsTwiceAfter directed branches = IsFirst (λ k. k) (λ k. (k < length branches) × (twice_after directed branches k ≡ true))
+    (λ k. twice_after directed branches k ≡ false)
 
 twice_by_place : (directed : Bool) (branch : ℕ) (cases : List (List Decision)) (steps : List listed.Step) (first : ℕ) → IsFirstTwiceFrom directed branch cases steps first
     → (k : ℕ) × (first ≡ branch + suc k) × IsTwiceAfter directed (branches_of_cases cases steps) k
@@ -138,7 +137,7 @@ twice_by_place directed branch (case ∷ cases) [] first h = absurd h
 twice_by_place directed branch (case ∷ cases) (listed.Branch a b ∷ steps) first (inl here) = (
   0,
   omega (arith, here.0),
-  record { inside = omega arith; twice = here.1; before = λ j lt. absurd (omega (arith, lt)) },
+  record { applies = (omega arith, here.1); none_before = λ j lt. absurd (omega (arith, lt)) },
 )
 twice_by_place directed branch (case ∷ cases) (listed.Branch a b ∷ steps) first (inr later) =
     let after : List (List Decision) = decide (a, b) true case ∷ decide (a, b) false case ∷ cases in
@@ -146,31 +145,25 @@ twice_by_place directed branch (case ∷ cases) (listed.Branch a b ∷ steps) fi
       suc rest.0,
       omega (arith, rest.1),
       record {
-        inside = omega (arith, rest.2.inside);
-        twice = rest.2.twice;
-        before = one_more (λ j. twice_after directed (record { case = case; pair = (a, b) } ∷ branches_of_cases after steps) j ≡ false) rest.0 later.0 rest.2.before;
+        applies = (omega (arith, rest.2.applies.0), rest.2.applies.1);
+        none_before = one_more (λ j. twice_after directed (record { case = case; pair = (a, b) } ∷ branches_of_cases after steps) j ≡ false) rest.0 later.0 rest.2.none_before;
       },
     )
-  where
-    one_more : (P : ℕ → Type 0) (k : ℕ) → P 0 → ((j : ℕ) → j < k → P (suc j)) → (j : ℕ) → j < suc k → P j
-    one_more P k none more zero lt = none
-    one_more P k none more (suc j) lt = more j (omega (arith, lt))
 twice_by_place directed branch (case ∷ cases) (listed.Leaf changes ∷ steps) first h = twice_by_place directed branch cases steps first h
 
 twice_in_pass : (directed : Bool) (branch : ℕ) (cases : List (List Decision)) (steps : List listed.Step) (k : ℕ) → IsTwiceAfter directed (branches_of_cases cases steps) k
     → IsFirstTwiceFrom directed branch cases steps (branch + suc k)
-twice_in_pass directed branch [] steps k h = absurd (omega (arith, h.inside))
-twice_in_pass directed branch (case ∷ cases) [] k h = absurd (omega (arith, h.inside))
-twice_in_pass directed branch (case ∷ cases) (listed.Branch a b ∷ steps) zero h = inl (omega arith, h.twice)
+twice_in_pass directed branch [] steps k h = absurd (omega (arith, h.applies.0))
+twice_in_pass directed branch (case ∷ cases) [] k h = absurd (omega (arith, h.applies.0))
+twice_in_pass directed branch (case ∷ cases) (listed.Branch a b ∷ steps) zero h = inl (omega arith, h.applies.1)
 twice_in_pass directed branch (case ∷ cases) (listed.Branch a b ∷ steps) (suc k) h =
     let after : List (List Decision) = decide (a, b) true case ∷ decide (a, b) false case ∷ cases in
     let same : suc branch + suc k ≡ branch + suc (suc k) = omega arith in
     inr (
-      h.before 0 (omega arith),
+      h.none_before 0 (omega arith),
       subst (IsFirstTwiceFrom directed (suc branch) after steps) same (twice_in_pass directed (suc branch) after steps k (record {
-        inside = omega (arith, h.inside);
-        twice = h.twice;
-        before = λ j lt. h.before (suc j) (omega (arith, lt));
+        applies = (omega (arith, h.applies.0), h.applies.1);
+        none_before = λ j lt. h.none_before (suc j) (omega (arith, lt));
       })),
     )
 twice_in_pass directed branch (case ∷ cases) (listed.Leaf changes ∷ steps) k h = twice_in_pass directed branch cases steps k h
@@ -182,22 +175,22 @@ first_twice_by_place directed given steps first h =
     let found = twice_by_place directed 0 (given ∷ []) steps first h in
     let place : found.0 ≡ first - 1 = omega (arith, found.1) in
     record {
-      least = omega (arith, found.1);
-      most = omega (arith, found.1, found.2.inside);
-      twice = subst (λ (k : ℕ). twice_after directed (branches_of_cases (given ∷ []) steps) k ≡ true) place found.2.twice;
-      before = λ earlier from lt. found.2.before (earlier - 1) (omega (arith, from, lt, found.1));
+      applies = (
+        (omega (arith, found.1), omega (arith, found.1, found.2.applies.0)),
+        subst (λ (k : ℕ). twice_after directed (branches_of_cases (given ∷ []) steps) k ≡ true) place found.2.applies.1,
+      );
+      none_before = λ earlier lt from. found.2.none_before (earlier - 1) (omega (arith, from, lt, found.1));
     }
 
 pub first_twice_in_pass : (directed : Bool) (given : List Decision) (steps : List listed.Step) (first : ℕ) → IsFirstTwice directed given steps first
     → IsFirstTwiceFrom directed 0 (given ∷ []) steps first
 first_twice_in_pass directed given steps first h =
-    let place : 0 + suc (first - 1) ≡ first = omega (arith, h.least) in
+    let place : 0 + suc (first - 1) ≡ first = omega (arith, h.applies.0.0) in
     subst (IsFirstTwiceFrom directed 0 (given ∷ []) steps) place (twice_in_pass directed 0 (given ∷ []) steps (first - 1) (record {
-      inside = omega (arith, h.least, h.most);
-      twice = h.twice;
-      before = λ j lt.
+      applies = (omega (arith, h.applies.0.0, h.applies.0.1), h.applies.1);
+      none_before = λ j lt.
           let same : suc j - 1 ≡ j = omega arith in
-          subst (λ (k : ℕ). twice_after directed (branches_of_cases (given ∷ []) steps) k ≡ false) same (h.before (suc j) (omega arith) (omega (arith, lt)));
+          subst (λ (k : ℕ). twice_after directed (branches_of_cases (given ∷ []) steps) k ≡ false) same (h.none_before (suc j) (omega (arith, lt)) (omega arith));
     }))
 
 -- ---- one pass over the steps with a stack of decisions
@@ -383,7 +376,7 @@ module _ (Found : List Decision × LeafNumbers → Option ℤ → Type 0) (Good 
             (cases_of (leaves_of cs (steps_from n ns steps)))) later_are h.once.1;
       }
 
-  -- where no case is open, no step is left
+  -- if no case is open, no step is left
   none_open : (numbers : List ℤ) (lowest : Option ℤ) (leaf : ℕ) (step : listed.Step) (steps : List listed.Step)
       → IsAtStep Found Good Fits n family_count given all numbers None lowest leaf (step ∷ steps) → ⊥
   none_open numbers lowest leaf (listed.Branch a b) steps h = both_ways false refl h.whole
@@ -456,7 +449,7 @@ module _ (Found : List Decision × LeafNumbers → Option ℤ → Type 0) (Good 
       (steps_of steps))
       (left_at all index step lt is ∙ ap (λ (s : TreeStep). s ∷ drop (index + 1) all) same) at)
 
-  -- where no step is left
+  -- if no step is left
   pub all_passed : (all : List TreeStep) (numbers : List ℤ) (stack : List Decision) (lowest : Option ℤ) (leaf index : ℕ)
       → length all ≤ index
       → IsPassing Found Good Fits n family_count given (steps_of all) numbers stack lowest leaf (steps_of (drop index all))
@@ -537,22 +530,9 @@ pub by_leaves : (OfBound : Option ℤ → Type 0) (OfLeaf : ℕ → Type 0) (Is 
     → ((leaf : ℕ) → OfLeaf leaf → Is (verdict.BadLeaf leaf)) → Is judged
 by_leaves OfBound OfLeaf Is (verdict.Bound found) is bound bad = bound found is
 by_leaves OfBound OfLeaf Is (verdict.BadLeaf leaf) is bound bad = bad leaf is
-by_leaves OfBound OfLeaf Is (verdict.BadFamily family) is bound bad = absurd is
-by_leaves OfBound OfLeaf Is (verdict.BadMemory customer) is bound bad = absurd is
-by_leaves OfBound OfLeaf Is (verdict.BadRow row) is bound bad = absurd is
-by_leaves OfBound OfLeaf Is (verdict.BadBranch branch) is bound bad = absurd is
-by_leaves OfBound OfLeaf Is (verdict.BranchTwice branch) is bound bad = absurd is
-by_leaves OfBound OfLeaf Is verdict.TooManyLoads is bound bad = absurd is
-by_leaves OfBound OfLeaf Is (verdict.TooManyStates leaf) is bound bad = absurd is
+by_leaves OfBound OfLeaf Is other is bound bad = absurd is
 
 pub on_bound : (OfBound : Option ℤ → Type 0) (judged : TreeVerdict)
     → ((found : Option ℤ) → judged ≡ verdict.Bound found → OfBound found) → OnBound OfBound judged
 on_bound OfBound (verdict.Bound found) bound = bound found refl
-on_bound OfBound (verdict.BadFamily family) bound = tt
-on_bound OfBound (verdict.BadMemory customer) bound = tt
-on_bound OfBound (verdict.BadRow row) bound = tt
-on_bound OfBound (verdict.BadBranch branch) bound = tt
-on_bound OfBound (verdict.BranchTwice branch) bound = tt
-on_bound OfBound (verdict.BadLeaf leaf) bound = tt
-on_bound OfBound verdict.TooManyLoads bound = tt
-on_bound OfBound (verdict.TooManyStates leaf) bound = tt
+on_bound OfBound other bound = tt

@@ -412,7 +412,7 @@ pub none_next : (stack next : List Decision) (is_open : Bool) → next_stack (st
 none_next stack next true none is = absurd (none-some (stack_of next) (sym none ∙ is))
 none_next stack next false none is = is.1
 
--- where pairs have a direction, nothing is marked
+-- if pairs have a direction, nothing is marked
 pub directed_same : (directed : Bool) (a b : List Decision) (i x : ℕ) → directed ≡ true → marks_in directed a i x ≡ marks_in directed b i x
 directed_same true a b i x is = refl
 directed_same false a b i x is = absurd (both_ways false refl is)

@@ -43,7 +43,7 @@ given_too h =
     let first : DecideOnce false (on 3 4 true ∷ on 1 2 true ∷ on 2 1 true ∷ []) = (recursion_from_All (DecideOnce false) (cases 1 2 3 4 (on 2 1 true ∷ [])) h).0 in
     both_ways true (first 1 2 (on 1 2 true) (omega arith) (omega arith)) refl
 
--- ---- a least 1-tree of a few nodes
+-- ---- a minimum 1-tree of a few nodes
 
 -- ---- tests of the nodes 2..n
 
@@ -208,7 +208,7 @@ nodes_to_three : nodes_to 3 ≡ 1 ∷ 2 ∷ 3 ∷ []
 unfolding nodes_to
 nodes_to_three = refl
 
--- the least weight from i, where the link to `to` is allowed, and each other one is absurd or weighs no less
+-- the least weight from i, if the link to `to` is allowed, and each other one is absurd or weighs no less
 least_from : (w : ℕ → ℕ → ℤ) (decisions : List Decision) (i to : ℕ) → IsAllowed 3 decisions i to
     → (IsAllowed 3 decisions i 1 → w i to ≤ℤ w i 1) → (IsAllowed 3 decisions i 2 → w i to ≤ℤ w i 2)
     → (IsAllowed 3 decisions i 3 → w i to ≤ℤ w i 3) → IsLeastFrom 3 w decisions i (w i to)

@@ -92,7 +92,7 @@ twice_found directed given all items branch a b steps h is =
     first_twice_by_place directed given all (branch + 1) (subst (IsFirstTwiceFrom directed 0 (given ∷ []) all) (sym (add-one branch))
     (twice_here directed given all (stack_of items) branch a b steps h is))
 
--- after a leaf, with a next open case or with none; and where no step is left
+-- after a leaf, with a next open case or with none; and if no step is left
 pub once_at_leaf : (directed : Bool) (given : List Decision) (all : List listed.Step) (stack : List Decision) (branch : ℕ) (changes : List (ℕ × ℤ)) (steps : List listed.Step) (next : List Decision)
     → IsOnceSoFar directed given all stack branch (listed.Leaf changes ∷ steps) → next_stack stack ≡ Some next → IsOnceSoFar directed given all next branch steps
 once_at_leaf directed given all stack branch changes steps next h turned =
@@ -166,13 +166,14 @@ module _ (least most : ℕ) (all : List listed.Step) (count a b : ℕ) (rest : L
       let whole = ap length h.split in
       let place : count + 1 - 1 ≡ length h.done = omega (arith, h.counted) in
       record {
-        from_one = omega arith;
-        inside = omega (arith, long, whole, h.counted);
-        bad = λ within. bad (subst (BeginsWithin least most)
-            (ap (λ (ps : List (ℕ × ℕ)). get_or ps (count + 1 - 1) (0, 0)) h.split
-            ∙ ap (λ (k : ℕ). get_or (h.done ++ (a, b) ∷ branch_pairs rest) k (0, 0)) place
-            ∙ get_or-append_seam h.done (a, b) (branch_pairs rest) (0, 0)) within);
-        before = λ earlier from lt.
+        applies = (
+          (omega arith, omega (arith, long, whole, h.counted)),
+          λ within. bad (subst (BeginsWithin least most)
+              (ap (λ (ps : List (ℕ × ℕ)). get_or ps (count + 1 - 1) (0, 0)) h.split
+              ∙ ap (λ (k : ℕ). get_or (h.done ++ (a, b) ∷ branch_pairs rest) k (0, 0)) place
+              ∙ get_or-append_seam h.done (a, b) (branch_pairs rest) (0, 0)) within),
+        );
+        none_before = λ earlier lt from.
             let inside : earlier - 1 < length h.done = omega (arith, from, lt, h.counted) in
             subst (BeginsWithin least most)
             (sym (ap (λ (ps : List (ℕ × ℕ)). get_or ps (earlier - 1) (0, 0)) h.split
@@ -187,7 +188,7 @@ within_at_leaf least most all count changes rest h = record { done = h.done; spl
 pub none_bad : (least most : ℕ) (steps : List listed.Step) → All (BeginsWithin least most) (branch_pairs steps)
     → AreBranchesWithin least most steps None
 none_bad least most steps within = (
-  λ first h. h.bad (within (first - 1) (0, 0) (omega (arith, h.from_one, h.inside))),
+  λ first h. h.applies.1 (within (first - 1) (0, 0) (omega (arith, h.applies.0.0, h.applies.0.1))),
   within,
 )
 

@@ -1,9 +1,10 @@
 -- Circle 3 of docs/trust.md.
--- The bound of a branches file as mathematics: of a leaf by a least 1-tree or by the least link from each node, and of
--- the file as the least of its leaves. The theorems that no tour is shorter are stated here.
+-- The bound of a branches file as mathematics: a leaf's bound is that of a minimum 1-tree or of the least link from
+-- each node, and the file's bound is the least one of a leaf. The theorems that no tour is shorter are stated here;
+-- src/laws.rt proves them.
 use Rattle.tsp_cases.specs.Prelude.{All, Any, ℕ, Bool, true, false, List, ℤ, [], length, pos, Option, Some, None, IsNode, nodes_to, IsSymmetric, IsLeastBound, IsScale, total, weight_between, adjusted, triples_total, UsesEach, UsesNone, IsAdjustedBound, IsCycle, Follows, sum_int_by, length_of, Problem, BoundsTours, HasNoTour, weight_of, IsLeastOneTree}
 use Rattle.std.specs.Prelude.{◌≡◌, ◌≢◌, ◌≤◌, ◌↔◌, ◌+ℤ◌, ◌≤ℤ◌, ◌-ℤ◌, ◌*ℤ◌, ◌⊎◌, ◌∷◌}
-use Rattle.tsp_cases.specs.Cases.{KeepsAll, HasNoCycle, BoundsCase, take_pairs, on_taken, on_avoided, LeafNumbers, CaseStep, are_case_trees, leaves_of}
+use Rattle.tsp_cases.specs.Cases.{KeepsAll, SolutionKind, cycles, BoundsKept, HasNoCycle, BoundsCase, take_pairs, on_taken, on_avoided, LeafNumbers, CaseStep, are_case_trees, leaves_of}
 use Rattle.tsp_cases.specs.Families.{family_crossings, Family, IsFamily}
 use Rattle.tsp_cases.specs.declared.decision.Decision.{Decision}
 
@@ -56,7 +57,7 @@ abbrev pub LinksAreAllowed : Type 0
 LinksAreAllowed = (n : ℕ) (decisions : List Decision) (nodes : List ℕ) (i j : ℕ)
     → 2 ≤ n → IsCycle n nodes → KeepsAll true nodes decisions → Follows nodes (i, j) → IsNode n i × IsAllowed n decisions i j
 
--- Where no link from some node is allowed, no cycle keeps the decisions.
+-- If no link from some node is allowed, no cycle keeps the decisions.
 abbrev pub NoLinkNoCycle : Type 0
 NoLinkNoCycle = (n : ℕ) (decisions : List Decision) → 2 ≤ n → HasNoLink n decisions → HasNoCycle true n decisions
 
@@ -65,7 +66,7 @@ abbrev pub SumsAreBelowCycles : Type 0
 SumsAreBelowCycles = (n : ℕ) (w : ℕ → ℕ → ℤ) (decisions : List Decision) (sum : ℤ) (nodes : List ℕ)
     → 2 ≤ n → IsSumOfLeast n w decisions n sum → IsCycle n nodes → KeepsAll true nodes decisions → sum ≤ℤ length_of w nodes
 
--- ---- the bound of a leaf by a least 1-tree, under potentials, numbers on pairs
+-- ---- the bound of a leaf by a minimum 1-tree, under potentials, numbers on pairs
 
 -- families of n nodes, each with a multiplier that isn't negative
 abbrev pub AreMultiplied : ℕ → List (Family × ℤ) → Type 0
@@ -95,7 +96,7 @@ abbrev pub IsLeafBoundOf : ℤ → List ℤ → List (ℕ × ℕ × ℤ) → Lis
 IsLeafBoundOf scale potentials taken families weight bound =
     IsLeastBound scale (((weight -ℤ (pos 2 *ℤ total potentials)) +ℤ triples_total taken) +ℤ least_of families) bound
 
--- the bound of potentials, of numbers on taken and avoided pairs, and of families: that of a least 1-tree
+-- the bound of potentials, of numbers on taken and avoided pairs, and of families: that of a minimum 1-tree
 pub record IsLeafBound (n : ℕ) (cost : ℕ → ℕ → ℤ) (scale : ℤ) (potentials : List ℤ) (taken avoided : List (ℕ × ℕ × ℤ))
     (families : List (Family × ℤ)) (bound : ℤ) : Type 0 where
   pub tree : List (ℕ × ℕ)
@@ -153,8 +154,8 @@ pub record IsCaseTree (n : ℕ) (families : List Family) (given : List Decision)
 
 -- ---- the bound of a leaf
 
--- What is found of a leaf. Undirected: the bound of a least 1-tree, where all decisions have the same number. Directed:
--- the bound by the least link from each node, or none where some node has no link that the decisions allow.
+-- What is found for a leaf. Undirected: the bound of a minimum 1-tree, with the same number on all decided pairs.
+-- Directed: the bound by the least link from each node, or none if some node has no link that the decisions allow.
 abbrev pub IsFoundAt : Bool → ℕ → (ℕ → ℕ → ℤ) → ℤ → ℤ → List Family → List Decision × LeafNumbers → Option ℤ → Type 0
 IsFoundAt false n cost scale number families (case, numbers) (Some bound) =
     IsLeafBound n cost scale numbers.potentials (on_taken number case) (on_avoided number case)
@@ -170,11 +171,19 @@ IsFoundAt true n cost scale number families (case, numbers) None = HasNoLink n c
 abbrev pub IsAbove : (List Decision × LeafNumbers → Option ℤ → Type 0) → ℤ → List Decision × LeafNumbers → Type 0
 IsAbove found bound leaf = found leaf None ⊎ ((own : ℤ) × found leaf (Some own) × (bound ≤ℤ own))
 
--- the least of the bounds that are found of leaves; none where no leaf has a bound
+-- the least bound that is found for a leaf; none if no leaf has a bound
 abbrev pub IsLeastFound : (List Decision × LeafNumbers → Option ℤ → Type 0) → List (List Decision × LeafNumbers) → Option ℤ
     → Type 0
 IsLeastFound found leaves (Some bound) = All (IsAbove found bound) leaves × Any (λ leaf. found leaf (Some bound)) leaves
 IsLeastFound found leaves None = All (λ leaf. found leaf None) leaves
+
+-- Where what is found of each leaf bounds the solutions of its case, the least that is found of the leaves bounds all
+-- solutions that keep the given decisions.
+abbrev pub LeastFoundBounds : {S : Type 0} → SolutionKind S → (List Decision × LeafNumbers → Option ℤ → Type 0) → Type 0
+LeastFoundBounds kind found = (given : List Decision) (steps : List CaseStep) (least : Option ℤ)
+    → are_case_trees 1 steps ≡ true
+    → All (λ leaf. (own : Option ℤ) → found leaf own → BoundsKept kind leaf.0 own) (leaves_of (given ∷ []) steps)
+    → IsLeastFound found (leaves_of (given ∷ []) steps) least → BoundsKept kind given least
 
 -- the least bound of the leaves of a tree that begins with the given decisions
 abbrev pub IsCaseTreeBound : Bool → ℕ → (ℕ → ℕ → ℤ) → ℤ → ℤ → List Family → List Decision → List CaseStep → Option ℤ → Type 0
@@ -188,10 +197,9 @@ abbrev pub AreCostsFor : Bool → ℕ → (ℕ → ℕ → ℤ) → Type 0
 AreCostsFor false n cost = (3 ≤ n) × IsSymmetric cost
 AreCostsFor true n cost = 2 ≤ n
 
--- a bound is at most the length of every cycle of the case; where there is none, the case has no cycle
+-- A bound is at most the length of every cycle of the case. If there is no bound, the case has no cycle.
 abbrev pub BoundsIfAny : Bool → ℕ → (ℕ → ℕ → ℤ) → List Decision → Option ℤ → Type 0
-BoundsIfAny directed n cost case (Some bound) = BoundsCase directed n cost bound case
-BoundsIfAny directed n cost case None = HasNoCycle directed n case
+BoundsIfAny directed n cost case found = BoundsKept (cycles directed n cost) case found
 
 -- The bound of a certificate is at most the length of every cycle that keeps the given decisions.
 abbrev pub CaseTreesBoundCycles : Type 0
@@ -200,7 +208,7 @@ CaseTreesBoundCycles = (directed : Bool) (n : ℕ) (cost : ℕ → ℕ → ℤ) 
     → AreCostsFor directed n cost → IsScale scale → IsCaseTree n families given steps
     → IsCaseTreeBound directed n cost scale number families given steps found → BoundsIfAny directed n cost given found
 
--- Where the given decisions take the fixed pairs, the bound is at most the length of every tour.
+-- If the given decisions take the fixed pairs, the bound is at most the length of every tour.
 abbrev pub CaseTreesBoundTours : Type 0
 CaseTreesBoundTours = (problem : Problem) (scale number : ℤ) (families : List Family) (steps : List CaseStep) (bound : ℤ)
     → AreCostsFor problem.directed problem.nodes problem.cost → IsScale scale
@@ -208,7 +216,7 @@ CaseTreesBoundTours = (problem : Problem) (scale number : ℤ) (families : List 
     → IsCaseTreeBound problem.directed problem.nodes problem.cost scale number families (take_pairs problem.fixed) steps
     (Some bound) → BoundsTours problem bound
 
--- Where no leaf has a bound then, there is no tour.
+-- If no leaf has a bound then, there is no tour.
 abbrev pub NoBoundNoTour : Type 0
 NoBoundNoTour = (problem : Problem) (scale number : ℤ) (families : List Family) (steps : List CaseStep)
     → AreCostsFor problem.directed problem.nodes problem.cost → IsScale scale
@@ -216,7 +224,7 @@ NoBoundNoTour = (problem : Problem) (scale number : ℤ) (families : List Family
     → IsCaseTreeBound problem.directed problem.nodes problem.cost scale number families (take_pairs problem.fixed) steps None
     → HasNoTour problem
 
--- A tree has one such bound, or none, whichever least 1-trees are found.
+-- A tree has one such bound, or none, whichever minimum 1-trees are found.
 abbrev pub CaseTreeBoundsAreUnique : Type 0
 CaseTreeBoundsAreUnique = (directed : Bool) (n : ℕ) (cost : ℕ → ℕ → ℤ) (scale number : ℤ) (families : List Family)
     (given : List Decision) (steps : List CaseStep) (a b : Option ℤ)

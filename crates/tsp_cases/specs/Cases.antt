@@ -1,6 +1,6 @@
 -- Circle 3 of docs/trust.md.
--- Trees of cases: a branch divides the first open case by a decision on a pair, and a leaf closes it by numbers. That
--- every tour keeps the decisions of some leaf is the reason why a least bound over leaves is a bound.
+-- Trees of cases: a branch divides the first open case by a decision on a pair, and a leaf closes a case by its
+-- numbers. Every tour keeps the decisions of some leaf, so the least bound of a leaf is a bound for all tours.
 use Rattle.tsp_cases.specs.Prelude.{All, AllPairs, ℕ, Bool, true, false, List, [], length, map, ℤ, pos, zero, suc, Option, None, Some, IsSymmetric, IsScale, most_number, pair_of, is_same_pair, IsAdjustedBound, IsCycle, Uses, length_of, Problem, BoundsTours}
 use Rattle.std.specs.Prelude.{◌≤◌, ◌≡◌, ◌==◌, ◌&&◌, if◌then◌else◌, ◌∷◌, ◌≤ℤ◌, ◌++◌, ◌⊎◌}
 use Rattle.tsp_cases.specs.declared.decision.Decision.{Decision}
@@ -105,47 +105,55 @@ leaves_of (case ∷ cases) (Leaf numbers ∷ steps) = (case, numbers) ∷ leaves
 abbrev pub cases_of : List (List Decision × LeafNumbers) → List (List Decision)
 cases_of leaves = map (λ leaf. leaf.0) leaves
 
+-- ---- solutions, whatever their kind
+
+-- A kind of solution: which values are solutions, how long each is, and which decisions it keeps. Cycles are one kind
+-- by edges and one by arcs, and plans of routes are the third (tsp_routing).
+pub record SolutionKind (S : Type 0) : Type 1 where
+  pub IsSolution : S → Type 0
+  pub length_is : S → ℤ
+  pub Keeps : S → Decision → Type 0
+
+-- cycles of n nodes; directed: by arcs
+abbrev pub cycles : Bool → ℕ → (ℕ → ℕ → ℤ) → SolutionKind (List ℕ)
+cycles directed n cost = record {
+  IsSolution = IsCycle n;
+  length_is = length_of cost;
+  Keeps = KeepsDecision directed;
+}
+
+-- a value keeps the decisions of one of the cases
+abbrev pub KeepsOne : {S : Type 0} → SolutionKind S → S → List (List Decision) → Type 0
+KeepsOne kind value [] = ⊥
+KeepsOne kind value (case ∷ cases) = All (kind.Keeps value) case ⊎ KeepsOne kind value cases
+
+-- What is found of a case: a bound is at most the length of every solution that keeps its decisions, and where there is
+-- none, no solution does.
+abbrev pub BoundsKept : {S : Type 0} → SolutionKind S → List Decision → Option ℤ → Type 0
+BoundsKept {S} kind case (Some bound) =
+    (value : S) → kind.IsSolution value → All (kind.Keeps value) case → bound ≤ℤ kind.length_is value
+BoundsKept {S} kind case None = (value : S) → kind.IsSolution value → All (kind.Keeps value) case → ⊥
+
 -- ---- the theorems
 
--- a cycle keeps the decisions of one of the cases
-abbrev pub KeepsOne : Bool → List ℕ → List (List Decision) → Type 0
-KeepsOne directed nodes [] = ⊥
-KeepsOne directed nodes (case ∷ cases) = KeepsAll directed nodes case ⊎ KeepsOne directed nodes cases
+-- Where a value keeps a decision or its opposite, whatever the pair, it keeps those of a leaf of each tree that begins
+-- with decisions that it keeps.
+abbrev pub LeavesAreKept : {S : Type 0} → SolutionKind S → Type 0
+LeavesAreKept {S} kind = (given : List Decision) (steps : List CaseStep) (value : S)
+    → are_case_trees 1 steps ≡ true → All (kind.Keeps value) given
+    → KeepsOne kind value (cases_of (leaves_of (given ∷ []) steps))
 
--- Each cycle that keeps the given decisions keeps those of a leaf of the tree that begins with them.
+-- Each cycle that keeps the given decisions keeps those of a leaf.
 abbrev pub CyclesKeepLeaves : Type 0
-CyclesKeepLeaves = (directed : Bool) (given : List Decision) (steps : List CaseStep) (nodes : List ℕ)
-    → are_case_trees 1 steps ≡ true → KeepsAll directed nodes given
-    → KeepsOne directed nodes (cases_of (leaves_of (given ∷ []) steps))
+CyclesKeepLeaves = (directed : Bool) (n : ℕ) (cost : ℕ → ℕ → ℤ) → LeavesAreKept (cycles directed n cost)
 
 -- a bound is at most the length of every cycle of the case
 abbrev pub BoundsCase : Bool → ℕ → (ℕ → ℕ → ℤ) → ℤ → List Decision → Type 0
-BoundsCase directed n cost bound case =
-    (nodes : List ℕ) → IsCycle n nodes → KeepsAll directed nodes case → bound ≤ℤ length_of cost nodes
-
--- So a bound that is at most the length of every cycle of each leaf's case is at most the length of every cycle that
--- keeps the given decisions.
-abbrev pub CasesBoundCycles : Type 0
-CasesBoundCycles = (directed : Bool) (n : ℕ) (cost : ℕ → ℕ → ℤ) (bound : ℤ) (given : List Decision) (steps : List CaseStep)
-    → are_case_trees 1 steps ≡ true → All (BoundsCase directed n cost bound) (cases_of (leaves_of (given ∷ []) steps))
-    → BoundsCase directed n cost bound given
+BoundsCase directed n cost bound case = BoundsKept (cycles directed n cost) case (Some bound)
 
 -- no cycle keeps the decisions of the case
 abbrev pub HasNoCycle : Bool → ℕ → List Decision → Type 0
 HasNoCycle directed n case = (nodes : List ℕ) → IsCycle n nodes → KeepsAll directed nodes case → ⊥
-
--- So if the case of no leaf has a cycle, no cycle keeps the given decisions.
-abbrev pub CasesHaveNoCycle : Type 0
-CasesHaveNoCycle = (directed : Bool) (n : ℕ) (given : List Decision) (steps : List CaseStep)
-    → are_case_trees 1 steps ≡ true → All (HasNoCycle directed n) (cases_of (leaves_of (given ∷ []) steps))
-    → HasNoCycle directed n given
-
--- ---- step by step
-
--- each cycle that keeps the given decisions is no shorter than the bound, or is one of an open case
-abbrev pub BoundsButOpen : Bool → ℕ → (ℕ → ℕ → ℤ) → List Decision → ℤ → List (List Decision) → Type 0
-BoundsButOpen directed n cost given bound cases = (nodes : List ℕ) → IsCycle n nodes → KeepsAll directed nodes given
-    → (bound ≤ℤ length_of cost nodes) ⊎ KeepsOne directed nodes cases
 
 -- ---- the open cases as a stack of decisions has them, the last one first
 

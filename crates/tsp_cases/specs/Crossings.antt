@@ -1,6 +1,6 @@
 -- Circle 3 of docs/trust.md.
--- How often a family of sets is crossed: by a cycle at least, by two nodes at most, found over the parts that the sets
--- make of the nodes. What a family adds to a bound is decided by these two numbers.
+-- How often a family of sets is crossed: at least by a cycle, and at most by one edge, found over the parts into which
+-- the sets divide the nodes. src/family.rt computes the two numbers, which decide what a family adds to a bound.
 use Rattle.tsp_cases.specs.Prelude.{Vec, All, AllPairs, list_any, Any, AllByRecursion, ℕ, Bool, List, length, map, ℤ, [], slice_index, pos, IsNode, IsCycle, sum_int_by, length_of, crossing, IsInner}
 use Rattle.std.specs.Prelude.{◌≡◌, ◌<◌, ◌⊎◌, ◌==◌, ◌≤ℤ◌, ◌≢◌, ◌+◌, ◌*◌, ◌≤◌, ◌↔◌, if◌then◌else◌, ◌∷◌, ◌-◌, ◌^◌}
 
@@ -34,7 +34,7 @@ sets_of lists = map has lists
 abbrev pub sets_crossed : List (ℕ → Bool) → ℕ → ℕ → ℤ
 sets_crossed sets i j = sum_int_by (λ set. crossing set i j) sets
 
--- ---- parts: two nodes are in one part exactly where the same sets have them
+-- ---- parts: two nodes are in one part exactly if the same sets have them
 
 -- the same sets have the nodes i and j
 abbrev pub AreAlike : List (ℕ → Bool) → ℕ → ℕ → Type 0
@@ -79,11 +79,11 @@ pub record AreFirsts (memberships firsts : List ℕ) : Type 0 where
   pub each : (node : ℕ) → IsNodePlace memberships node
       → Any (λ first. slice_index memberships node ≡ slice_index memberships first) firsts
 
--- Two nodes have one membership exactly where they are in the same sets.
+-- Two nodes have one membership exactly if they are in the same sets.
 abbrev pub MembershipsTellSets : Type 0
 MembershipsTellSets = (sets : List (ℕ → Bool)) (i j : ℕ) → (membership sets i ≡ membership sets j) ↔ AreAlike sets i j
 
--- the largest of the numbers; 0 where there is none
+-- the largest of the numbers; 0 if there is none
 pub record IsLargest (numbers : List ℕ) (largest : ℕ) : Type 0 where
   pub above : (k : ℕ) → slice_index numbers k ≤ largest
   pub found : (k : ℕ) × (largest ≡ slice_index numbers k)
@@ -171,7 +171,7 @@ pub record IsOrderOf (n set : ℕ) (nodes : List ℕ) : Type 0 where
   pub once : AllApart nodes
   pub set_is : number_of nodes ≡ set
 
--- the length where there is no path
+-- the length if there is no path
 abbrev pub no_path : ℕ
 no_path = 2 ^ 60
 
@@ -193,7 +193,7 @@ pub record IsLeastSum (start : ℕ) (costs paths : List ℕ) (cost_at path_at co
   pub found : (least ≡ start)
       ⊎ ((k : ℕ) × (k < count) × (least ≡ slice_index costs (cost_at + k) + slice_index paths (path_at + k)))
 
--- ---- sets of nodes, and families of sets, where code has them as vectors
+-- ---- sets of nodes, and families of sets, as vectors
 
 -- sets of nodes of 1..n
 abbrev pub AreSetsOf : ℕ → List (Vec ℕ) → Type 0

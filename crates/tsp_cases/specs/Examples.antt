@@ -1,4 +1,5 @@
--- Small sets, families, costs, numbers and trees of cases, for src/examples.rt.
+-- Small sets, families, costs, numbers and trees of cases, for the laws in src/examples.rt here and in tsp_routing and
+-- tsp_verdict. No other contract uses them.
 use Rattle.tsp_cases.specs.Prelude.{All, range_with_len, ℕ, Bool, List, [], true, false, Some, replicate, min, max, slice_index, slice_index_or, ℤ, pos, negsuc, map, length_of}
 use Rattle.std.specs.Prelude.{◌∷◌, ◌≡◌, ◌-◌, ◌*◌}
 use Rattle.tsp_format.specs.Steps as listed
@@ -73,7 +74,7 @@ abbrev pub WeighsAt : List Decision → ℕ → ℕ → ℤ → Type 0
 WeighsAt case i j weight =
     leaf_weight (pos 1) one_at_two.potentials (on_taken large case) (on_avoided large case) [] (cost_in four_rows) i j ≡ weight
 
--- the weight of two of the six at the scale 2, where the comb has the multiplier 1
+-- the weight of two of the six at the scale 2, if the comb has the multiplier 1
 abbrev pub WeighsUnderComb : ℕ → ℕ → ℤ → Type 0
 WeighsUnderComb i j weight =
     leaf_weight (pos 2) [] [] [] (multiplied (small_family ∷ []) (pos 1 ∷ [])) (cost_in six_rows) i j ≡ weight
@@ -177,7 +178,7 @@ three_rows = (0 ∷ 1 ∷ 10 ∷ []) ∷ (10 ∷ 0 ∷ 2 ∷ []) ∷ (3 ∷ 10 �
 abbrev pub cost_of_three : ℕ → ℕ → ℤ
 cost_of_three i j = pos (slice_index (slice_index_or three_rows (i - 1) []) (j - 1))
 
--- the bound by rows at a scale, where nothing is given back
+-- the bound by rows at a scale, if nothing is given back
 abbrev pub ThreeHave : List Decision → ℤ → ℤ → Type 0
 ThreeHave decisions scale bound = IsRowBound 3 cost_of_three decisions scale (pos 0) bound
 

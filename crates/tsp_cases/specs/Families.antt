@@ -1,9 +1,10 @@
 -- Circle 3 of docs/trust.md.
 -- Families of sets of nodes, such as combs and lone sets: the least number of times that a cycle crosses each, and
--- which families of a file are good. A file with another one is rejected.
+-- which families of a file are good. src/good_families.rt finds the first bad one, and the file is rejected.
 use Rattle.tsp_cases.specs.Prelude.{ℕ, map, Bool, true, false, List, length, ℤ, pos, zero, suc, [], slice_index_or, IsNode, IsCycle, sum_int_by, length_of, crossing}
 use Rattle.std.specs.List.{All, AllPairs}
-use Rattle.std.specs.Prelude.{◌≡◌, ◌+◌, ◌*◌, ◌≤◌, ◌+ℤ◌, ◌≤ℤ◌, ◌∷◌, ◌⊎◌, if◌then◌else◌, ◌*ℤ◌, ◌≢◌, ◌<◌}
+use Rattle.std.specs.Prelude.{◌≡◌, ◌+◌, ◌-◌, ◌*◌, ◌≤◌, ◌+ℤ◌, ◌≤ℤ◌, ◌∷◌, ◌⊎◌, if◌then◌else◌, ◌*ℤ◌, ◌≢◌, ◌<◌}
+use Rattle.tsp_theory.specs.First.{IsFirstBad}
 use Rattle.tsp_cases.specs.Crossings.{has, IsLeastLength, IsMostCost, AreTooMany}
 use Rattle.tsp_cases.specs.declared.family.Crossings.{Crossings}
 
@@ -161,11 +162,9 @@ abbrev pub IsToothCount : ℕ → Type 0
 IsToothCount count = (half : ℕ) × (1 ≤ half) × (count ≡ 2 * half + 1)
 
 -- the first family that isn't good, counted from 1
-pub record IsFirstBadFamily (n : ℕ) (families : List (List (List ℕ))) (first : ℕ) : Type 0 where
-  pub least : 1 ≤ first
-  pub most : first ≤ length families
-  pub before : (place : ℕ) → place + 1 < first → IsGoodFamily n (slice_index_or families place [])
-  pub bad : (place : ℕ) → place + 1 ≡ first → IsGoodFamily n (slice_index_or families place []) → ⊥
+abbrev pub IsFirstBadFamily : ℕ → List (List (List ℕ)) → ℕ → Type 0
+IsFirstBadFamily n families first =
+    IsFirstBad (λ place. IsGoodFamily n (slice_index_or families (place - 1) [])) families first
 
 -- all are good, and `crossed` has the two numbers of each
 pub record AreFamilies (n : ℕ) (families : List (List (List ℕ))) (crossed : List Crossings) : Type 0 where

@@ -1,10 +1,12 @@
 -- Circle 3 of docs/trust.md.
 -- A tree of cases as BRANCH_SECTION lists it, and what makes it good: the numbers of its leaves, branches on nodes of
--- the instance, and no pair decided twice. A reason against a branch or a leaf counts in this list.
+-- the instance, and no pair decided twice. src/tree.rt and src/tree.rt find the first bad branch or leaf, counted in
+-- this list.
 use Rattle.tsp_cases.specs.Prelude.{All, list_any, ℕ, true, List, length, ℤ, pos, [], take, drop, replicate, slice_set, slice_index_or, Bool, false, Option, None, Some, IsNode, ArePotentials, entry}
 use Rattle.std.specs.Prelude.{◌≡◌, ◌≤ℤ◌, ◌≢◌, ◌+◌, ◌-◌, ◌^◌, ◌<◌, ◌≤◌, ◌∷◌, ◌+ℤ◌}
 use Rattle.tsp_format.specs.Steps as listed
 use Rattle.tsp_cases.specs.Cases.{LeafNumbers, CaseStep, Branch, Leaf, is_same, DecideOnce, decide, leaves_of, cases_of}
+use Rattle.tsp_theory.specs.First.{IsFirst, IsFirstBad, IsPlace}
 use Rattle.tsp_cases.specs.Families.{sum_with}
 use Rattle.tsp_cases.specs.declared.family.Crossings.{Crossings}
 use Rattle.tsp_cases.specs.declared.decision.Decision.{Decision}
@@ -44,7 +46,7 @@ split_at n numbers = record { potentials = take n numbers; multipliers = drop n 
 
 -- ---- the steps
 
--- the steps of the tree with all numbers of each leaf, where the leaf before them had these numbers
+-- the steps of the tree with all numbers of each leaf, if the leaf before them had these numbers
 abbrev pub steps_from : ℕ → List ℤ → List listed.Step → List CaseStep
 steps_from n numbers [] = []
 steps_from n numbers (listed.Branch a b ∷ steps) = Branch (a, b) ∷ steps_from n numbers steps
@@ -98,11 +100,9 @@ AreGoodLeavesBy Good n family_count steps = (place : ℕ) → 1 ≤ place → pl
     → IsGoodAtBy Good n family_count (leaf_changes steps) place
 
 -- the first leaf that isn't good, counted from 1
-pub record IsFirstBadLeafBy (Good : LeafNumbers → Type 0) (n family_count : ℕ) (steps : List listed.Step) (leaf : ℕ) : Type 0 where
-  pub least : 1 ≤ leaf
-  pub most : leaf ≤ length (leaf_changes steps)
-  pub bad : IsGoodAtBy Good n family_count (leaf_changes steps) leaf → ⊥
-  pub before : (earlier : ℕ) → 1 ≤ earlier → earlier < leaf → IsGoodAtBy Good n family_count (leaf_changes steps) earlier
+abbrev pub IsFirstBadLeafBy : (LeafNumbers → Type 0) → ℕ → ℕ → List listed.Step → ℕ → Type 0
+IsFirstBadLeafBy Good n family_count steps leaf =
+    IsFirstBad (IsGoodAtBy Good n family_count (leaf_changes steps)) (leaf_changes steps) leaf
 
 -- ---- the same for cycles, where AreGoodNumbers says which numbers are good
 
@@ -123,7 +123,7 @@ pub record Divided : Type 0 where
   pub case : List Decision
   pub pair : ℕ × ℕ
 
--- each branch of the steps with its case, where these cases are open before the steps; a branch divides the first open
+-- each branch of the steps with its case, if these cases are open before the steps; a branch divides the first open
 -- one
 abbrev pub branches_of_cases : List (List Decision) → List listed.Step → List Divided
 branches_of_cases [] steps = []
@@ -132,19 +132,18 @@ branches_of_cases (case ∷ cases) (listed.Branch a b ∷ steps) =
     record { case = case; pair = (a, b) } ∷ branches_of_cases (decide (a, b) true case ∷ decide (a, b) false case ∷ cases) steps
 branches_of_cases (case ∷ cases) (listed.Leaf changes ∷ steps) = branches_of_cases cases steps
 
--- the branch at a place, from 1 on, is on a pair that its case decides
+-- the branch at a place, counted from 1, is on a pair that its case decides
 abbrev pub is_twice_at : Bool → List Divided → ℕ → Bool
 is_twice_at directed branches place =
     let branch : Divided = slice_index_or branches (place - 1) (record { case = []; pair = (0, 0) }) in
     is_decided directed branch.case branch.pair
 
 -- the first branch that comes twice, counted from 1
-pub record IsFirstTwice (directed : Bool) (given : List Decision) (steps : List listed.Step) (first : ℕ) : Type 0 where
-  pub least : 1 ≤ first
-  pub most : first ≤ length (branches_of_cases (given ∷ []) steps)
-  pub twice : is_twice_at directed (branches_of_cases (given ∷ []) steps) first ≡ true
-  pub before : (earlier : ℕ) → 1 ≤ earlier → earlier < first
-      → is_twice_at directed (branches_of_cases (given ∷ []) steps) earlier ≡ false
+abbrev pub IsFirstTwice : Bool → List Decision → List listed.Step → ℕ → Type 0
+IsFirstTwice directed given steps first =
+    let branches = branches_of_cases (given ∷ []) steps in
+    IsFirst (λ k. k) (λ k. IsPlace branches k × (is_twice_at directed branches k ≡ true))
+    (λ k. 1 ≤ k → is_twice_at directed branches k ≡ false) first
 
 -- None: no branch comes twice, so no case decides a pair twice, whatever the numbers of its leaves. Some: the number of
 -- the first branch that does.
@@ -170,11 +169,9 @@ abbrev pub branch_at : List listed.Step → ℕ → ℕ × ℕ
 branch_at steps place = slice_index_or (branch_pairs steps) (place - 1) (0, 0)
 
 -- the first branch, counted from 1, whose first number isn't from `least` to `most`
-pub record IsFirstBadBranch (least most : ℕ) (steps : List listed.Step) (first : ℕ) : Type 0 where
-  pub from_one : 1 ≤ first
-  pub inside : first ≤ length (branch_pairs steps)
-  pub bad : BeginsWithin least most (branch_at steps first) → ⊥
-  pub before : (earlier : ℕ) → 1 ≤ earlier → earlier < first → BeginsWithin least most (branch_at steps earlier)
+abbrev pub IsFirstBadBranch : ℕ → ℕ → List listed.Step → ℕ → Type 0
+IsFirstBadBranch least most steps first =
+    IsFirstBad (λ place. BeginsWithin least most (branch_at steps place)) (branch_pairs steps) first
 
 -- None: no branch is bad. Some: the number of the first bad one.
 abbrev pub AreBranchesWithin : ℕ → ℕ → List listed.Step → Option ℕ → Type 0

@@ -1,4 +1,5 @@
--- Names from other crates that definitions and contracts here use often, re-exported so that a file needs one import.
+-- Names of other crates, passed on to the files of this crate alone. It defines nothing: add or remove names freely;
+-- `tests/repository/names` sees that each is imported from here.
 pub use Rattle.std.specs.Global.{Vec}
 pub use Rattle.std.specs.Int.{w64}
 unfoldable pub use Rattle.std.specs.Int.{int_wrap}

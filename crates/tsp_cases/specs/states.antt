@@ -1,4 +1,5 @@
--- The files of definitions that look into structs of the code.
+-- Definitions that look into structs of the code: of families (GoodFamilies, Sets), and of the pass over a tree
+-- (OpenCases, Kept). No circle rests on them, but contracts of tsp_branch and tsp_routing use some, too.
 pub mod Kept
 pub mod GoodFamilies
 pub mod Sets

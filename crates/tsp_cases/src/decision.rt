@@ -1,9 +1,9 @@
 //! A decision of a branch: a pair of nodes that cycles use, or one that they avoid. Also `DECIDED`,
-//! the large number that makes a least 1-tree keep to it; a smaller one would leave every bound
-//! sound and make most of them weaker.
+//! the large number on such a pair, which makes a minimum 1-tree keep the decision: with a smaller
+//! number every bound would still hold, but most would be weaker.
 
-/// The number that is put on each decided pair. It cancels in the bound, so any number would do;
-/// this one is far above all other parts of a weight, and small enough for weights to fit 64 bits.
+/// The number on each decided pair. It cancels in the bound, so any number would do. This one is
+/// far above all other parts of a weight, but small enough for weights to fit 64 bits.
 pub const DECIDED: i64 = 4_000_000_000_000_000_000;
 
 /// A pair of nodes, and whether a cycle is to use it.

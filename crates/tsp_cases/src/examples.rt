@@ -1,6 +1,7 @@
-//! Crossings of a comb, weights at leaves, bounds of small trees of cases and their bad branches,
-//! worked out by hand as laws. They are what stands against a wrong definition in `specs/` that the
-//! code follows.
+//! Laws that state values of the definitions in `specs/`, worked out by hand: crossings of a comb,
+//! weights at leaves, and bounds of small trees of cases and their bad branches. No code calls
+//! them. If someone makes the same mistake in a definition and in the code, every contract still
+//! holds, but one of these laws fails.
 
 ghost use Rattle.std.specs.Prelude.{◌≡◌, ℕ, ℤ, List, [], ◌∷◌, true, false, pos, ◌-ℤ◌, ◌+ℤ◌, ◌+◌, ◌-◌, ◌*◌, ◌^◌, negsuc};
 ghost use Rattle.tsp_format.specs.Steps as listed;
@@ -153,8 +154,8 @@ pub fn examples_of_good_numbers()
     ensures lower_potential { ¬ AreGoodNumbers 3 [] (moved_at_three (negsuc (10 ^ 15))) }
 {}
 
-/// Each leaf has the numbers of the leaf before it, changed by its differences. Before the first
-/// leaf all numbers are 0.
+/// Each leaf has the numbers of the leaf before it, plus its differences. Before the first leaf,
+/// all numbers are 0.
 pub fn examples_of_differences()
     ensures { listed_steps 3 1 by_differences ≡ by_numbers }
 {}

@@ -1,15 +1,62 @@
-//! How often a cycle crosses the sets of a family at least, and how many of them one edge crosses
-//! at most: by a shortest cycle through the parts into which the sets divide the nodes, at most 14,
-//! as M. Held and R. M. Karp found it in 1962. The bound of a leaf grows with the first number,
-//! which `IsLeastLength` in `specs/Crossings.antt` makes exact.
+//! `Families`: the families of a certificate, all found good, with the crossings of each. Because
+//! later code takes this type, it never tests a family again.
+//!
+//! The crossings of a family are the least number of times that a cycle crosses its sets, and the
+//! most of them that one edge crosses. Held and Karp's dynamic programme (1962) finds the first as a
+//! shortest cycle through the parts, of which there are at most 14. `IsLeastLength` and `IsMostCost`
+//! in `specs/Crossings.antt` pin both numbers.
 
 ghost use Rattle.std.specs.List.{All, Any};
-ghost use Rattle.std.specs.Prelude.{◌≤◌, pos, MatchOption, IfOk, IfSome, ◌≡◌, ◌<◌, ◌+◌, ◌^◌, ◌↔◌, ℕ, List, IsTrue, length, slice_index, if◌then◌else◌, ◌*◌, count_ones, bit_xor, ◌-◌};
-ghost use Rattle.tsp_cases.specs.Crossings.{sets_of, sets_crossed, IsLeastLength, IsMostCost, AreTooMany, HasUnlike, has, lists_of, AreSetsOf, IsLargest, AreMemberships, IsNodePlace, AreDifferent, AreFirsts, cost_by_rows, as_whole, no_path, IsBestPath, AreBestPaths, IsLeastSum, ArePartsOf};
+ghost use Rattle.std.specs.Prelude.{◌≡◌, ◌≤◌, ◌<◌, ◌-◌, ◌^◌, length, pos, MatchOption, IfOk, IfSome, ◌+◌, ◌↔◌, ℕ, List, IsTrue, slice_index, if◌then◌else◌, ◌*◌, count_ones, bit_xor};
+ghost use Rattle.tsp_cases.specs.Crossings.{families_in, AreFamiliesOf, sets_of, sets_crossed, IsLeastLength, IsMostCost, AreTooMany, HasUnlike, has, lists_of, AreSetsOf, IsLargest, AreMemberships, IsNodePlace, AreDifferent, AreFirsts, cost_by_rows, as_whole, no_path, IsBestPath, AreBestPaths, IsLeastSum, ArePartsOf};
+ghost use Rattle.tsp_cases.specs.Families.{IsFamily, families_with, HasEachOnce};
+ghost use Rattle.tsp_cases.specs.states.GoodFamilies.{AreSmallCrossings};
 
 use crate::laws::parts_tell_cycles;
+use crate::sets::SetPlace;
 use std::alloc::Global;
 use tsp_io::{Refused, filled, push};
+
+/// The families of a file, all of them good, and how often cycles cross each. A comb has its handle
+/// first, then its teeth; a lone set is a handle without teeth.
+///
+/// For tours, [`judge_families`](crate::judge_families) makes this value. tsp_routing makes it from
+/// single sets of customers, and keeps separately how often plans cross them.
+#[derive(Drop)]
+pub struct Families<'a> {
+    pub nodes: u32,
+    pub lent: &'a [Vec<Vec<u32>>],
+    pub crossed: Vec<Crossings>,
+    pub ghost few_nodes: { nodes < 2 ^ 32 - 1 },
+    pub ghost as_many: { length crossed.items ≡ length lent.now },
+    pub ghost many: { length crossed.items ≡ length (families_in lent.now) },
+    pub ghost few: { length lent.now < 2 ^ 32 },
+    pub ghost few_sets: { All (λ sets. length sets.items < 2 ^ 32) lent.now },
+    pub ghost inside: { AreFamiliesOf nodes lent.now },
+    pub ghost are: { ∥ All (IsFamily nodes) (families_with crossed.items (families_in lent.now)) ∥₁ },
+    pub ghost once: { All (All HasEachOnce) (families_in lent.now) },
+    pub ghost small: { AreSmallCrossings crossed.items },
+    pub ghost some: { All (λ own. 1 ≤ own.most) crossed.items },
+}
+
+impl Families<'_> {
+    ghost use Rattle.tsp_cases.specs.Prelude.{[], slice_index_or, All, IsNode};
+    ghost use Rattle.std.specs.Prelude.{◌≡◌};
+    ghost use Rattle.tsp_cases.specs.states.Sets.{IsPlaceIn};
+    ghost use Rattle.tsp_cases.specs.states.Sets.{lent_in};
+
+    /// The nodes of the set at a place.
+    #[inline]
+    pub fn set_at(&self, place: SetPlace) -> &[u32]
+        requires { IsPlaceIn (lent_in self.now) place }
+        ensures set { result.now ≡ slice_index_or (slice_index_or (lent_in self.now) place.family []) place.set [] }
+        ensures nodes { All (IsNode self.now.nodes) result.now }
+    {
+        &self.lent[place.family as usize][place.set as usize]
+    }
+}
+
+// ---- the crossings of a family
 
 /// How many sets a family may have.
 const MOST_SETS: usize = 63;
@@ -23,13 +70,13 @@ pub struct Crossings {
     pub most: u64,
 }
 
-/// How often the sets of a family are crossed. `None` if there are more than 63 of them, or
-/// if they divide the nodes into more than 14 parts: two nodes are in one part exactly if
-/// they are in the same sets.
+/// How often the sets of a family are crossed. `None` if there are more than 63 sets, or if they
+/// divide the nodes into more than 14 parts: two nodes are in one part exactly if they are in the
+/// same sets.
 ///
 /// # Errors
 ///
-/// Out of memory. It allocates memory for each node.
+/// If memory runs out. It allocates an entry for each node.
 pub fn family_crossings(alloc: Global, family: &NodeSets) -> Result<Option<Crossings>, Refused>
     ensures least { IfOk result
         (λ found. MatchOption found (AreTooMany family.now.nodes (sets_of (lists_of family.now.sets.now)))
@@ -90,7 +137,7 @@ pub struct Parts {
 ///
 /// # Errors
 ///
-/// Out of memory. It allocates memory for each node.
+/// If memory runs out. It allocates an entry for each node.
 pub fn parts_of(alloc: Global, family: &NodeSets) -> Result<Option<Parts>, Refused>
     requires { length family.now.sets.now ≤ 63 }
     ensures parts { IfOk result (λ found. MatchOption found
@@ -151,7 +198,7 @@ fn has_membership(memberships: &[u64], nodes: &[u32], membership: u64) -> bool
 ///
 /// # Errors
 ///
-/// Out of memory. It allocates memory for each node.
+/// If memory runs out. It allocates an entry for each node.
 fn memberships_of(alloc: Global, family: &NodeSets) -> Result<Vec<u64>, Refused>
     requires { length family.now.sets.now ≤ 63 }
     ensures { IfOk result (λ memberships. AreMemberships family.now.nodes

@@ -1,7 +1,6 @@
-//! Judges COMB_SECTION of a certificate for tours: finds the first bad family, which the report
-//! names, or how often cycles cross each. Lone sets and combs have known numbers; other families
-//! are counted out by `family.rt`. `mark_nodes`, which finds a node that a set has twice, serves
-//! routes, too.
+//! Judges the COMB_SECTION of a branches file for tours: finds the first bad family, or how often
+//! cycles cross each. Lone sets and combs have known numbers; `family.rt` counts for other
+//! families. tsp_branch calls it. `specs/Families.antt` pins which families are good.
 
 ghost use Rattle.tsp_cases.specs.Prelude.{All, Any, ℕ, IsTrue, [], length, true, IfOk, IfSome, false, IsNode};
 ghost use Rattle.std.specs.Prelude.{◌≡◌, ◌≤◌, ◌<◌, ◌-◌, ◌+◌, ◌^◌, ◌↔◌};
@@ -10,8 +9,7 @@ ghost use Rattle.tsp_cases.specs.Crossings.{has, AreSetsOf, lists_of};
 ghost use Rattle.tsp_cases.specs.JudgedSets.{AreFamiliesJudged};
 ghost use Rattle.tsp_cases.specs.states.GoodFamilies.{AreFamilyNumbers, IsSmall, is_marked, AreUnmarked, HavePlaces, AddsNoOther, AreTeeth, AreNew, AreMarked};
 
-use crate::families::Families;
-use crate::family::{Crossings, NodeSets, family_crossings};
+use crate::family::{Crossings, Families, NodeSets, family_crossings};
 use crate::judged::JudgedFamilies;
 use crate::laws::most_costs_are_unique;
 use crate::tree::BranchingCertificate;
@@ -27,7 +25,7 @@ use tsp_theory::Costs;
 ///
 /// # Errors
 ///
-/// Out of memory. It allocates memory for each node and for each family.
+/// If memory runs out. It allocates an entry for each node and for each family.
 pub fn judge_families<'a, C: Costs>(
     alloc: Global,
     tree: &BranchingCertificate<'a, C>,
@@ -39,7 +37,7 @@ pub fn judge_families<'a, C: Costs>(
     let mut teeth = filled(alloc, 0, nodes as usize + 1)?;
     let mut crossed = Vec::new(alloc);
     'families: for number in 0..tree.families.len() {
-        // Marks from 1 on, since 0 means no mark.
+        // Marks from 1 on, because 0 means no mark.
         let mark = number as u32 + 1;
         let own = NodeSets {
             nodes,
@@ -185,7 +183,7 @@ fn is_tooth(handles: &[u32], mark: u32, nodes: &[u32]) -> bool
 ///
 /// # Errors
 ///
-/// Out of memory. It allocates memory for each node.
+/// If memory runs out. It allocates an entry for each node.
 fn other_crossings(alloc: Global, family: &NodeSets) -> Result<Option<Crossings>, Refused>
     ensures found { (IsGoodComb family.now.nodes (lists_of family.now.sets.now) → ⊥)
         → IfOk result (AreFamilyNumbers family.now.nodes (lists_of family.now.sets.now)) }
@@ -211,13 +209,13 @@ fn other_crossings(alloc: Global, family: &NodeSets) -> Result<Option<Crossings>
 ///
 /// # Errors
 ///
-/// Out of memory. It allocates memory for each node.
+/// If memory runs out. It allocates an entry for each node.
 fn have_each_once(alloc: Global, family: &NodeSets) -> Result<bool, Refused>
     ensures { IfOk result (λ once. IsTrue once ↔ All HasEachOnce (lists_of family.now.sets.now)) }
 {
     let mut marks = filled(alloc, 0, family.nodes as usize + 1)?;
     'sets: for index in 0..family.sets.len() {
-        // Marks from 1 on, since 0 means no mark.
+        // Marks from 1 on, because 0 means no mark.
         if !mark_nodes(&mut marks, index as u32 + 1, &family.sets[index]) {
             return Ok(false);
         }

@@ -1,6 +1,7 @@
-//! What the judges of families, branches and leaves return: what is good, or the number of the
-//! first that is bad, which becomes a reason in the report. Also `CheckedTree`, a tree of cases
-//! whose branches were all found good.
+//! What the judges of families, branches and leaves return: the good ones, or the number of the
+//! first bad one, which becomes a reason in the report. Also `CheckedTree`, a tree of cases whose
+//! branches are all good. tsp_branch and tsp_routing make a `TreeVerdict`, and tsp_verdict reads
+//! it.
 
 ghost use Rattle.tsp_cases.specs.Prelude.{All, ℕ, [], true, length, are_whole, steps_of, IsScale};
 ghost use Rattle.std.specs.Prelude.{◌≡◌, ◌<◌, ◌-◌, ◌^◌, ◌∷◌};
@@ -9,7 +10,7 @@ ghost use Rattle.tsp_cases.specs.ListedCases.{IsStepOf, listed_steps};
 ghost use Rattle.tsp_cases.specs.states.OpenCases.{IsDecision};
 
 use crate::decision::Decision;
-use crate::families::Families;
+use crate::family::Families;
 use tsp_format::TreeStep;
 
 /// The judgement on the families of a certificate: all of them, or the first bad one.
@@ -17,7 +18,7 @@ use tsp_format::TreeStep;
 pub enum JudgedFamilies<'a> {
     /// All are good.
     Good(Families<'a>),
-    /// The first one that isn't good, counted from 1.
+    /// The first bad family, counted from 1.
     Bad(usize),
 }
 
@@ -36,11 +37,11 @@ pub enum JudgedCases<'a> {
 /// Families, rows, branches and leaves count from 1.
 #[derive(Drop)]
 pub enum TreeVerdict {
-    /// The least bound of a leaf: no solution that keeps the given decisions is shorter. `None`
-    /// if no leaf has one: then no solution keeps them. For routes, a solution is a plan whose
-    /// routes each have a customer.
+    /// The least bound of a leaf: no solution that keeps the given decisions is shorter. `None` if
+    /// no leaf has one: then no solution keeps them. For routes, a solution is a plan without empty
+    /// routes.
     Bound(Option<i128>),
-    /// The first family that isn't good. For routes, a good one is a single set of customers.
+    /// The first bad family. For routes, a good one is a single set of customers.
     BadFamily(usize),
     /// The customer of the first bad list: one with a node that isn't a customer, with a customer
     /// twice, or whose first customer has an earlier list. If all lists and rows are good, the
@@ -61,13 +62,14 @@ pub enum TreeVerdict {
     TooManyStates(usize),
 }
 
-/// The judgement on a leaf: its bound, or that its numbers are bad.
+/// The judgement on a leaf: its bound, or that it is bad.
 #[derive(Drop)]
 pub enum JudgedLeaf {
-    /// Its numbers are good, and this is its bound. `None` if it has none: then no solution
-    /// keeps its decisions.
+    /// The leaf is good, and this is its bound. `None` if it has none: then no solution keeps its
+    /// decisions.
     Found(Option<i128>),
-    /// One of its numbers isn't good.
+    /// The leaf is bad: a number is, or, if tsp_routing judges it by runs, there are too many kept
+    /// states.
     Bad,
 }
 

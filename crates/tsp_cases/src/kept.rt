@@ -1,7 +1,7 @@
-//! What the leaves of a certificate for tours share: `LeafContext`, which doesn't change;
-//! `Scratch`, which each leaf overwrites; and `KeptRows`, rows of weights that a leaf only updates,
-//! because they depend on its multipliers and decisions and not on its potentials. Keeping rows is
-//! for speed: a leaf whose rows aren't kept has the same bound.
+//! What the leaves of a branches file for tours share: `LeafContext`, which doesn't change;
+//! `Scratch`, which each leaf overwrites; and `KeptRows`, rows of weights without potentials, which
+//! a leaf only updates. tsp_branch judges leaves with them. Keeping rows affects only speed:
+//! without them, a leaf has the same bound.
 
 ghost use Rattle.tsp_cases.specs.Prelude.{Vec, w64, int_wrap, All, ℕ, ℤ, length, slice_index_or, IfOk, neg_ℤ, false, IsNode, IsFromTo, IsSymmetric, least_at};
 ghost use Rattle.std.specs.Prelude.{◌≡◌, ◌≤◌, ◌<◌, ◌+◌, ◌-◌, ◌≢◌, ◌+ℤ◌, ◌*ℤ◌};
@@ -11,10 +11,11 @@ ghost use Rattle.tsp_cases.specs.states.OpenCases.{signed};
 ghost use Rattle.tsp_cases.specs.states.Kept.{IsKeptRow, AreRows, AreRowsIfAny, AreAdded, IsAddedAt, AreDifferences};
 
 use crate::decision::{DECIDED, Decision};
-use crate::families::Families;
+use crate::family::Families;
 use crate::judged::CheckedTree;
-use crate::multipliers::{MultipliedFamilies, Multipliers};
-use crate::sets::{SetPlace, add_to_row, scale_row, take_multipliers};
+use crate::sets::{
+    MultipliedFamilies, Multipliers, SetPlace, add_to_row, scale_row, take_multipliers,
+};
 use std::alloc::Global;
 use tsp_io::{Refused, filled, push, with_capacity};
 use tsp_theory::{Costs, add_at};
@@ -201,8 +202,8 @@ impl KeptRows {
     }
 }
 
-/// The rows of all nodes without combs; empty if they aren't to be kept, if there are too many
-/// nodes, or if there is too little memory.
+/// The rows of all nodes without combs; empty if none are wanted, if there are too many nodes, or
+/// if there is too little memory.
 fn rows_if_any<C: Costs>(alloc: Global, context: &LeafContext<C>, are_kept: bool) -> Vec<Vec<i64>>
     ensures { AreRowsIfAny (C.nodes context.now.costs.now) (C.at context.now.costs.now)
         (λ i x. context.now.cases.now.scale *ℤ C.at context.now.costs.now i x) result.items }
@@ -303,7 +304,7 @@ fn add_to_place(row: &mut Vec<i64>, place: u32, number: i64)
     add_at(row, place, number);
 }
 
-// ---- the memory that a pass over the leaves for tours writes over
+// ---- the memory that each leaf for tours overwrites
 
 /// The rows as the leaf before left them, and scratch space for the numbers of a leaf and two rows
 /// of its weights.
@@ -328,9 +329,9 @@ impl Scratch {
     ghost use Rattle.tsp_cases.specs.states.Kept.{HoldsRows};
     ghost use Rattle.tsp_cases.specs.states.Kept.{IsScratch};
 
-    /// Scratch space for the leaves of a certificate, with kept rows if `are_kept`.
+    /// Scratch space for the leaves of a certificate, with kept rows if `are_kept` is set.
     ///
-    /// It has no rows in any case if there are too many nodes or too little memory.
+    /// There are never any kept rows if there are too many nodes or too little memory.
     ///
     /// # Errors
     ///
@@ -362,8 +363,8 @@ impl Scratch {
 
 /// What all leaves of a certificate for tours have in common.
 ///
-/// If pairs have no direction, the costs are symmetric, and the bound of a leaf is that of a least
-/// 1-tree. If they have a direction, it is the sum of the least arcs from each node.
+/// If pairs have no direction, the costs are symmetric, and the bound of a leaf is that of a
+/// minimum 1-tree. If they have a direction, it is the sum of the least arcs from each node.
 #[derive(Drop)]
 pub struct LeafContext<'a, C: Costs> {
     pub costs: &'a C,

@@ -1,13 +1,12 @@
 //! The theorems on branching: each cycle is at a leaf, crosses families as often as their numbers
-//! say, and is no shorter than the bound of a leaf or of a tree of cases. docs/proof.md
-//! ("Families", "Cases", "Arcs") has the arguments under these names.
+//! say, and is no shorter than the bound of a leaf or of a tree of cases. tsp_branch and
+//! tsp_verdict call `case_trees_bound_cycles`. docs/proof.md ("Families", "Cases", "Arcs") has the
+//! arguments.
 
-ghost use Rattle.std.specs.Prelude.{ℕ, ℤ, List, [], ◌∷◌, ◌≤ℤ◌, Bool, true, false};
 ghost use Rattle.tsp_cases.specs.CaseTrees.{CaseTreesBoundCycles, CaseTreesBoundTours, NoBoundNoTour, CaseTreeBoundsAreUnique, LeafBoundsBoundCycles, UncombedBoundsAreAdjustedBounds, RowLeafBoundsBoundCycles, LinksAreAllowed, NoLinkNoCycle, SumsAreBelowCycles};
-ghost use Rattle.tsp_cases.specs.Cases.{decide, BoundsCase, HasNoCycle, BoundsButOpen, CyclesKeepLeaves, CasesBoundCycles, CasesHaveNoCycle, StacksBegin, StacksBranch, StacksHoldCases, DecidedBoundsBoundCycles, FixedBoundsBoundTours};
+ghost use Rattle.tsp_cases.specs.Cases.{CyclesKeepLeaves, StacksBegin, StacksBranch, StacksHoldCases, DecidedBoundsBoundCycles, FixedBoundsBoundTours};
 ghost use Rattle.tsp_cases.specs.Families.{CyclesCrossCombs, CyclesCrossFamilies, NumbersAreUnique};
 ghost use Rattle.tsp_cases.specs.Crossings.{MembershipsTellSets, PartsBoundCycles, PartsTellCycles, DivisionsBoundCycles, LeastLengthsAreUnique, MostCostsAreUnique, UnlikeNodesNeedParts};
-ghost use Rattle.tsp_cases.specs.declared.decision.Decision.{Decision};
 ghost use Rattle.tsp_cases.specs.states.Sets.{SetsTellCombs, SetsGiveLeaves};
 
 use tsp_theory::{
@@ -77,8 +76,8 @@ pub fn links_are_allowed()
     cycles_have_no_loops();
 }
 
-/// The least weights of the allowed links, summed over all nodes, are no more than the weight of
-/// any cycle that keeps the decisions.
+/// The sum over all nodes of the least weight of an allowed link is at most the weight of any cycle
+/// that keeps the decisions.
 pub fn sums_are_below_cycles()
     ensures { SumsAreBelowCycles }
 {
@@ -107,36 +106,6 @@ pub fn cycles_keep_leaves()
     ensures { CyclesKeepLeaves }
 {}
 
-/// If a bound is at most the length of every cycle in the case of each leaf, it is at most the
-/// length of every cycle that keeps the given decisions.
-pub fn cases_bound_cycles()
-    ensures { CasesBoundCycles }
-{}
-
-/// If no cycle keeps the decisions of any leaf, no cycle keeps the given ones.
-pub fn cases_have_no_cycle()
-    ensures { CasesHaveNoCycle }
-{}
-
-/// How a bound on all cycles outside the open cases goes on from step to step.
-pub fn steps_leave_cases()
-    ensures start { (directed : Bool) (n : ℕ) (cost : ℕ → ℕ → ℤ) (given : List Decision) (bound : ℤ)
-        → BoundsButOpen directed n cost given bound (given ∷ []) }
-    ensures branch { (directed : Bool) (n : ℕ) (cost : ℕ → ℕ → ℤ) (given : List Decision) (bound : ℤ) (pair : ℕ × ℕ)
-        (case : List Decision) (cases : List (List Decision))
-        → BoundsButOpen directed n cost given bound (case ∷ cases)
-        → BoundsButOpen directed n cost given bound (decide pair true case ∷ decide pair false case ∷ cases) }
-    ensures leaf { (directed : Bool) (n : ℕ) (cost : ℕ → ℕ → ℤ) (given : List Decision) (bound own lower : ℤ)
-        (case : List Decision) (cases : List (List Decision)) → lower ≤ℤ bound → lower ≤ℤ own
-        → BoundsCase directed n cost own case → BoundsButOpen directed n cost given bound (case ∷ cases)
-        → BoundsButOpen directed n cost given lower cases }
-    ensures none { (directed : Bool) (n : ℕ) (cost : ℕ → ℕ → ℤ) (given : List Decision) (bound : ℤ)
-        (case : List Decision) (cases : List (List Decision)) → HasNoCycle directed n case
-        → BoundsButOpen directed n cost given bound (case ∷ cases) → BoundsButOpen directed n cost given bound cases }
-    ensures end { (directed : Bool) (n : ℕ) (cost : ℕ → ℕ → ℤ) (given : List Decision) (bound : ℤ)
-        → BoundsButOpen directed n cost given bound [] → BoundsCase directed n cost bound given }
-{}
-
 /// A stack of decisions stands for the open cases: the given one at first, after a branch two in
 /// place of the first, and after a leaf all but the first.
 ///
@@ -158,11 +127,9 @@ pub fn case_trees_bound_cycles()
     leaf_bounds_bound_cycles();
     row_leaf_bounds_bound_cycles();
     links_are_allowed();
-    cases_bound_cycles();
-    cases_have_no_cycle();
 }
 
-/// A certificate has one bound, or none, whichever least 1-trees are found.
+/// A certificate has one bound, or none, whichever minimum 1-trees are found.
 pub fn case_tree_bounds_are_unique()
     ensures { CaseTreeBoundsAreUnique }
 {}
@@ -175,7 +142,8 @@ pub fn numbers_are_unique()
     most_costs_are_unique();
 }
 
-/// Code that goes by the sets of families finds what an edge crosses, and the weights of a leaf.
+/// Code that goes through the sets of families finds what an edge crosses, and the weights of a
+/// leaf.
 pub fn sets_tell_combs()
     ensures combs { SetsTellCombs }
     ensures leaves { SetsGiveLeaves }

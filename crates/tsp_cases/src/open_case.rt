@@ -1,6 +1,6 @@
-//! The case that is open while a pass goes over the steps of a tree: the decisions above it, as a
-//! stack and by node (`OpenCase`). `next` goes from a leaf to the case after it, in the order that
-//! BRANCH_SECTION lists them in (`specs/Cases.antt`).
+//! `OpenCase`: the case that is open while `tree.rt` goes over the steps of a tree, as the
+//! decisions above it, in a stack and by node. `next` goes from a leaf to the next case, in the
+//! order of BRANCH_SECTION, which `specs/Cases.antt` pins.
 
 ghost use Rattle.std.specs.Global.{Vec};
 ghost use Rattle.std.specs.Prelude.{◌≡◌, ◌≤◌, ◌<◌, ◌+◌, ◌-◌, ℕ, [], length, slice_index_or, IfOk};
@@ -35,7 +35,7 @@ impl<'a> OpenCase<'a> {
     ///
     /// # Errors
     ///
-    /// Out of memory. It allocates memory for each node and each given decision.
+    /// If memory runs out. It allocates an entry for each node and each given decision.
     pub fn new(
         alloc: Global,
         nodes: u32,
@@ -172,7 +172,7 @@ impl NodeDecisions {
     ///
     /// # Errors
     ///
-    /// Out of memory. It allocates memory for each node.
+    /// If memory runs out. It allocates an entry for each node.
     pub(crate) fn new(alloc: Global, nodes: u32, directed: bool) -> Result<NodeDecisions, Refused>
         ensures none { IfOk result (λ made. AreByNode nodes made []) }
         ensures directed { IfOk result (λ made. made.directed ≡ directed) }
@@ -249,7 +249,7 @@ fn unlist_at(lists: &mut Vec<Vec<Decision>>, node: u32)
 ///
 /// # Errors
 ///
-/// Out of memory. It allocates memory for each node.
+/// If memory runs out. It allocates an entry for each node.
 pub(crate) fn empty_lists<T: Drop>(alloc: Global, nodes: u32) -> Result<Vec<Vec<T>>, Refused>
     ensures many { IfOk result (λ lists. length lists.items ≡ nodes + 1) }
     ensures empty { IfOk result (λ lists. (x : ℕ) (default : Vec T) → x ≤ nodes

@@ -1,23 +1,24 @@
-//! The sets of a certificate by node: which sets have it, what they add to its row of weights, and
-//! its potential less their multipliers. Sums may leave 64 bits on the way and come back, so they
-//! are taken in their remainders.
+//! The sets of a certificate by node: which sets contain it, what they add to its row of weights,
+//! and its potential less their multipliers. Sums wrap around, because a partial sum may exceed 64
+//! bits even if the result doesn't. `specs/states/Sets.antt` pins the results; tsp_branch and
+//! tsp_routing use them, too. The numbers are `Multipliers` for a leaf for tours, which aren't
+//! negative, or any `MultipliedFamilies`, such as differences of multipliers.
 
-ghost use Rattle.tsp_cases.specs.Prelude.{w64, int_wrap, All, ℕ, length, IfOk, pos, neg_ℤ, IsNode, IsFromTo, IsScale, entry, sum_int_by, least_at, IsMoved};
 ghost use Rattle.std.specs.Prelude.{◌<◌, ◌-◌, ◌^◌, ◌≡◌, ◌+◌, ◌+ℤ◌, ◌≤◌, ◌*ℤ◌};
 ghost use Rattle.tsp_format.specs.Limits.{most_weight};
 ghost use Rattle.tsp_cases.specs.Crossings.{lists_of};
-ghost use Rattle.tsp_cases.specs.states.Sets.{inside_both, multipliers_at, lent_in, IsPlaceIn, added, times, places_in, AreLengthened, IsSetTable};
+ghost use Rattle.tsp_cases.specs.Prelude.{w64, int_wrap, All, ℕ, length, IfOk, pos, neg_ℤ, IsNode, IsFromTo, IsScale, entry, sum_int_by, least_at, IsMoved};
+ghost use Rattle.tsp_cases.specs.states.Sets.{inside_both, multipliers_at, lent_in, IsPlaceIn, added, times, places_in, AreLengthened, IsSetTable, AreSmallMultipliers, AreSmallDifferences};
 
-use crate::families::Families;
-use crate::multipliers::MultipliedFamilies;
+use crate::family::Families;
 use crate::open_case::empty_lists;
 use std::alloc::Global;
 use tsp_io::{Refused, push};
 use tsp_theory::add_at;
 
-/// Adds a number at each node of a list. For 0 there is nothing to do.
+/// Adds a number at each node of a list; does nothing for 0.
 ///
-/// Sums wrap around, because those on the way to a sum that fits 64 bits may not fit.
+/// Sums wrap around, because a partial sum may exceed 64 bits even if the result doesn't.
 fn add_to_nodes(row: &mut [i64], nodes: &[u32], number: i64)
     requires { All (λ node. node < length row.old) nodes.now }
     ensures { (x : ℕ) → IsMoved (added number nodes.now x) (least_at row.old x) (least_at row.new x) }
@@ -34,7 +35,7 @@ fn add_to_nodes(row: &mut [i64], nodes: &[u32], number: i64)
 ///
 /// # Errors
 ///
-/// Out of memory. It allocates memory for each node and for each node of a set.
+/// If memory runs out. It allocates an entry for each node and for each node of a set.
 pub fn sets_by_node(alloc: Global, families: &Families) -> Result<Vec<Vec<SetPlace>>, Refused>
     ensures { IfOk result (λ lists. IsSetTable families.now.nodes (lent_in families.now) lists.items) }
 {
@@ -208,4 +209,26 @@ pub fn take_multipliers(row: &mut [i64], multiplied: &MultipliedFamilies)
             -multiplied.numbers[number],
         );
     }
+}
+
+// ---- multipliers for a leaf for tours
+
+/// Families, and a multiplier for each, from 0 to 9 * 10^17.
+#[derive(Clone, Copy)]
+pub struct Multipliers<'a> {
+    pub families: &'a Families<'a>,
+    pub numbers: &'a [i64],
+    pub ghost as_many: { length numbers.now ≡ length families.now.lent.now },
+    pub ghost small: { AreSmallMultipliers numbers.now },
+}
+
+// ---- families with a number for each
+
+/// Families, and a number for each, at most 9 * 10^17 in size.
+#[derive(Clone, Copy)]
+pub struct MultipliedFamilies<'a> {
+    pub families: &'a Families<'a>,
+    pub numbers: &'a [i64],
+    pub ghost as_many: { length numbers.now ≡ length families.now.lent.now },
+    pub ghost small: { AreSmallDifferences numbers.now },
 }

@@ -1,4 +1,5 @@
--- Lists of customers and rows that are judged one after the other.
+-- For src/judged_memory.rt: the lists of MEMORY_SECTION and the subset rows, judged one after the other up to the first
+-- bad one. At the top, lemmas on which nodes a list has.
 use Rattle.tsp_routing.proofs.Prelude.{◌≡◌, ◌≢◌, ℕ, zero, suc, ◌+◌, ◌-◌, ◌≤◌, ◌<◌, ◌==◌, ◌||◌, Bool, true, false, not, List, [], ◌∷◌, ◌++◌, map, take, drop, length, get_or, refl, sym, ap, ◌∙◌, subst, arith, inl, inr, drop_more, append_assoc, take_more, cases_eq, cases_Bool, both_ways, false≢true, eqb-true, eq-eqb, ne_eqb, if◌then◌else◌, get_or-set_same, get_or-set_other, get_or-map, length-map, length-set, ap₂, Vec, All, All-append, recursion_from_All, IsNode, IsCustomer, HasEachOnce, has}
 use Rattle.std.specs.Prelude.{slice_set, slice_index, ◌↔◌, IsTrue}
 use Rattle.std.proofs.lemmas.List.{length-take, get_or-take}
@@ -6,7 +7,7 @@ use Rattle.tsp_cases.specs.states.GoodFamilies.{AreUnmarked, AreMarked}
 use Rattle.tsp_routing.specs.Runs.{keeps}
 use Rattle.tsp_format.specs.Steps.{SubsetRow}
 use Rattle.tsp_routing.specs.RunTrees.{owner_of, near_of, IsGoodList, IsFirstBadList, IsGoodRow, row_at, IsFirstBadRow, rows_kept}
-use Rattle.tsp_routing.specs.states.GivenMemories.{near_in}
+use Rattle.tsp_routing.specs.states.MemoryTables.{near_in}
 use Rattle.tsp_format.specs.states.TreeSteps.{subset_row_of}
 use Rattle.tsp_routing.specs.states.JudgedMemory.{AreListsOf, AreRowsOf, AreOwners}
 use Rattle.tsp_format.specs.declared.steps.RowSets.{RowSets}
@@ -268,9 +269,9 @@ row_inside n rows index row are lt is =
 pub bad_row : (n depot : ℕ) (rows : List SubsetRow) (index : ℕ) → index < length rows
     → ((place : ℕ) → place < index → IsGoodRow n depot (row_at rows place)) → (IsGoodRow n depot (row_at rows index) → ⊥)
     → IsFirstBadRow n depot rows (index + 1)
-bad_row n depot rows index lt good bad = record {
-  least = omega arith;
-  most = omega (arith, lt);
-  before = λ place less. good place (omega (arith, less));
-  bad = λ place same is. bad (subst (λ (k : ℕ). IsGoodRow n depot (row_at rows k)) (let e : place ≡ index = omega (arith, same) in e) is);
-}
+bad_row n depot rows index lt good bad =
+    let same : index + 1 - 1 ≡ index = omega arith in
+    record {
+      applies = ((omega arith, omega (arith, lt)), λ is. bad (subst (λ (k : ℕ). IsGoodRow n depot (row_at rows k)) same is));
+      none_before = λ place less from. good (place - 1) (omega (arith, less, from));
+    }

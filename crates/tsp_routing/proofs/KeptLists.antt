@@ -1,12 +1,23 @@
--- The lists of kept states: what is added to them covers each start that goes on from a covered one.
-use Rattle.tsp_routing.proofs.Prelude.{◌≡◌, ◌≢◌, ℕ, zero, suc, ◌+◌, ◌*◌, ◌^◌, ◌≤◌, ◌<◌, List, [], ◌∷◌, ◌++◌, take, length, get_or, refl, sym, ap, ◌∙◌, subst, arith, inl, inr, ◌⊎◌, Some, None, ℤ, pos, neg_ℤ, ◌+ℤ◌, ◌≤ℤ◌, All, Contains, ints, cases_eq, append-nil, get_or_default, take_more, take-take, All-push, All-append, All-take, All-contains, Contains-append_left, Contains-push, Contains-push_cases, All-weaker, IsFromTo, IsCustomer}
-use Rattle.tsp_routing.specs.Runs.{RunRules, RunState, next_state, MayServe}
+-- For src/run_steps.rt and src/kept_states.rt: the list of a load and a last customer, while starts are added that go on
+-- from those of the customers before, and while the heavier entries with the same word are left out.
+use Rattle.std.proofs.lemmas.Cmp.{ranked, int_ranked}
+use Rattle.std.proofs.lemmas.List.{length-take}
+use Rattle.std.proofs.lemmas.List.Elements.{Contains-get_or}
+use Rattle.std.proofs.lemmas.List.Quantifiers.{all_pairs_push}
+use Rattle.std.proofs.lemmas.List.Sorted.{Contains-permutation, IsPermutation-sym}
+use Rattle.std.specs.List.Sorted.{IsPermutation}
+use Rattle.std.specs.Ordering.{is_lt, nat_cmp, int_cmp, ordering_then}
+use Rattle.std.specs.Prelude.{IsSorted}
+use Rattle.std.specs.declared.cmp.Ordering.{Ordering}
+use Rattle.std.specs.declared.cmp.Ordering.TheVariants.{Less, Equal, Greater}
+use Rattle.tsp_routing.proofs.KeptStarts.{last_is, lighter_is_kept, last_serves, holds_own}
+use Rattle.tsp_routing.proofs.Prelude.{◌≡◌, ◌≢◌, ℕ, zero, suc, ◌+◌, ◌*◌, ◌^◌, ◌≤◌, ◌<◌, List, [], ◌∷◌, ◌++◌, take, length, get_or, refl, sym, ap, ◌∙◌, subst, arith, inl, inr, ◌⊎◌, Some, None, ℤ, pos, neg_ℤ, ◌+ℤ◌, ◌≤ℤ◌, All, Contains, ints, cases_eq, append-nil, get_or_default, take_more, take-take, All-push, All-append, All-take, All-contains, Contains-append_left, Contains-push, Contains-push_cases, All-weaker, IsFromTo, IsCustomer, ◌-◌, All-nil, All-cons, true, false, true≢false, get_or_push, length_push, length-take-le}
 use Rattle.tsp_routing.specs.KeptStates.{IsKeptState}
 use Rattle.tsp_routing.specs.Memories.{Remembers}
+use Rattle.tsp_routing.specs.Runs.{RunRules, RunState, next_state, MayServe, first_state}
 use Rattle.tsp_routing.specs.Starts.{start_state, step_weight, start_weight, IsStart}
-use Rattle.tsp_routing.specs.declared.kept_state.KeptState.{KeptState}
-use Rattle.tsp_routing.specs.states.KeptLists.{IsNextEntry, IsEntryOf, CoversStart, AddsOne, AddsNexts, AreSizedEntries}
-use Rattle.tsp_routing.proofs.Starts.{last_is, lighter_is_kept}
+use Rattle.tsp_routing.specs.declared.kept_states.KeptState.{KeptState}
+use Rattle.tsp_routing.specs.states.KeptLists.{IsNextEntry, IsEntryOf, CoversStart, AddsOne, AddsNexts, AreSizedEntries, IsFirstEntry, IsKeptList, IsKeptListTo, AreLeastOf, IsLeastAdded, AreRising, IsNotAfter, AreInOrder, LastStandsFor}
 
 -- an entry that goes on is one of the next load
 entry_goes_on : (rules : RunRules) (limit : ℤ) (load before last : ℕ) (entry next : KeptState)
@@ -160,3 +171,305 @@ sizes_go_on load next weight old new more less size grows near olds =
     subst (All P) (sym grows) (All-append P old more olds
     (All-weaker (λ (entry : KeptState). IsFromTo (weight +ℤ neg_ℤ (pos (2 ^ 72))) (weight +ℤ pos (2 ^ 72)) entry.weight) P
     (λ entry near. sized_more load next weight entry.weight less size near) more near))
+
+-- ---- the starts of one customer
+
+no_earlier : (rules : RunRules) (limit : ℤ) (before last : ℕ) (earlier : List ℕ) → before ≤ 0 → IsStart rules limit last (before ∷ earlier) → ⊥
+no_earlier rules limit before last earlier le start =
+    let customer = last_serves rules limit before earlier start.0 in omega (arith, le, customer.0.0)
+
+pub begins_one : (rules : RunRules) (limit : ℤ) (load last : ℕ) (entry : KeptState) → IsCustomer rules.nodes rules.depot last
+    → load ≤ rules.room → rules.load last ≡ load → IsFirstEntry rules limit last (Some entry)
+    → IsKeptListTo rules limit load last 0 (entry ∷ [])
+begins_one rules limit load last entry customer fits same is = record {
+  met = All-cons (IsEntryOf rules limit load last) entry [] (record {
+    earlier = [];
+    start = (customer, omega (arith, fits, same), is.0);
+    load_is = same;
+    remembers = is.1;
+    weight_is = is.2;
+  }) (All-nil (IsEntryOf rules limit load last));
+  first = λ start load_is. record {
+    entry = entry;
+    there = Contains-push [] entry;
+    remembers = is.1;
+    lighter = let weight = is.2 in omega (arith, ints, weight);
+  };
+  later = λ before earlier le start load_is. absurd (no_earlier rules limit before last earlier le start);
+}
+
+pub begins_none : (rules : RunRules) (limit : ℤ) (load last : ℕ)
+    → (rules.load last ≡ load → IsFirstEntry rules limit last None) → IsKeptListTo rules limit load last 0 []
+begins_none rules limit load last none = record {
+  met = All-nil (IsEntryOf rules limit load last);
+  first = λ start load_is. absurd (none load_is start.2);
+  later = λ before earlier le start load_is. absurd (no_earlier rules limit before last earlier le start);
+}
+
+-- ---- one customer before more
+
+pub list_goes_on : (rules : RunRules) (limit : ℤ) (load before_load before last : ℕ) (befores old new : List KeptState)
+    → before_load + rules.load last ≡ load → IsKeptList rules limit before_load before befores
+    → AddsNexts rules limit before_load before last befores old new → IsKeptListTo rules limit load last (before - 1) old
+    → IsKeptListTo rules limit load last before new
+list_goes_on rules limit load before_load before last befores old new sum list adds h = record {
+  met = subst (λ (q : ℕ). All (IsEntryOf rules limit q last) new) sum
+      (adds.met list.met (subst (λ (q : ℕ). All (IsEntryOf rules limit q last) old) (sym sum) h.met));
+  first = λ start load_is. covered_by_more rules old new last [] adds.keeps (h.first start load_is);
+  later = λ other earlier le start load_is. elim (cases_eq other before) [
+    | inl same ↦ here other same earlier start load_is
+    | inr before_it ↦ covered_by_more rules old new last (other ∷ earlier) adds.keeps
+        (h.later other earlier (omega (arith, le, before_it)) start load_is)
+  ];
+}
+  where
+    own : (earlier : List ℕ) → IsStart rules limit last (before ∷ earlier) → (start_state rules last (before ∷ earlier)).load ≡ load
+        → CoversStart rules new last (before ∷ earlier)
+    own earlier start load_is =
+        let same : (start_state rules before earlier).load ≡ before_load = omega (arith, load_is, sum) in
+        adds.covers earlier start same (list.covers earlier start.0 same)
+
+    here : (other : ℕ) → other ≡ before → (earlier : List ℕ) → IsStart rules limit last (other ∷ earlier)
+        → (start_state rules last (other ∷ earlier)).load ≡ load → CoversStart rules new last (other ∷ earlier)
+    here other same = subst (λ (k : ℕ). (earlier : List ℕ) → IsStart rules limit last (k ∷ earlier)
+        → (start_state rules last (k ∷ earlier)).load ≡ load → CoversStart rules new last (k ∷ earlier)) (sym same) own
+
+pub list_skips : (rules : RunRules) (limit : ℤ) (load before last : ℕ) (entries : List KeptState)
+    → (before ≡ rules.depot) ⊎ (before ≡ last) → IsKeptListTo rules limit load last (before - 1) entries
+    → IsKeptListTo rules limit load last before entries
+list_skips rules limit load before last entries never h = record {
+  met = h.met;
+  first = h.first;
+  later = λ other earlier le start load_is. elim (cases_eq other before) [
+    | inl same ↦ absurd (elim never [
+      | inl depot ↦ (last_serves rules limit other earlier start.0).1 (same ∙ depot)
+      | inr it ↦ start.1.other (last_is rules other earlier ∙ (same ∙ it))
+    ])
+    | inr before_it ↦ h.later other earlier (omega (arith, le, before_it)) start load_is
+  ];
+}
+
+-- ---- the least entries
+
+pub list_ends : (rules : RunRules) (limit : ℤ) (load last : ℕ) (entries least : List KeptState)
+    → IsKeptListTo rules limit load last rules.nodes entries → AreLeastOf entries least → IsKeptList rules limit load last least
+list_ends rules limit load last entries least h are = record {
+  met = All-weaker (Contains entries) (IsEntryOf rules limit load last)
+      (λ entry there. All-contains (IsEntryOf rules limit load last) entries entry h.met there) least are.among;
+  covers = covers;
+}
+  where
+    kept : (earlier : List ℕ) → CoversStart rules entries last earlier → CoversStart rules least last earlier
+    kept earlier covers =
+        let other = are.each covers.entry covers.there in
+        let lighter = covers.lighter in
+        let less = other.3 in
+        record {
+          entry = other.0;
+          there = other.1;
+          remembers = subst (Remembers rules (start_state rules last earlier)) (sym other.2) covers.remembers;
+          lighter = omega (arith, ints, lighter, less);
+        }
+
+    covers : (earlier : List ℕ) → IsStart rules limit last earlier → (start_state rules last earlier).load ≡ load
+        → CoversStart rules least last earlier
+    covers [] start load_is = kept [] (h.first start load_is)
+    covers (before ∷ earlier) start load_is =
+        kept (before ∷ earlier) (h.later before earlier (last_serves rules limit before earlier start.0).0.1 start load_is)
+
+pub no_list : (rules : RunRules) (limit : ℤ) (load last : ℕ) → load < rules.load last → IsKeptList rules limit load last []
+no_list rules limit load last heavy = record {
+  met = All-nil (IsEntryOf rules limit load last);
+  covers = λ earlier start load_is. absurd (let own = holds_own rules last earlier in omega (arith, own, load_is, heavy));
+}
+
+-- no start ends if there is no customer
+pub no_customer : (rules : RunRules) (limit : ℤ) (load last : ℕ) → (IsCustomer rules.nodes rules.depot last → ⊥)
+    → IsKeptList rules limit load last []
+no_customer rules limit load last none = record {
+  met = All-nil (IsEntryOf rules limit load last);
+  covers = λ earlier start load_is. absurd (none (last_serves rules limit last earlier start));
+}
+
+-- one entry more, or one that another one stands for
+pub least_more : (entries old new : List KeptState) (index : ℕ) (entry : KeptState) → index < length entries
+    → entry ≡ get_or entries index entry
+    → IsLeastAdded old entry new → AreLeastOf (take index entries) old → AreLeastOf (take (index + 1) entries) new
+least_more entries old new index entry lt is chosen h =
+    subst (λ (xs : List KeptState). AreLeastOf xs new) (sym whole) (elim chosen [
+      | inl stays ↦ subst (AreLeastOf (take index entries ++ entry ∷ [])) (sym stays.0) (record {
+        among = All-weaker (Contains (take index entries)) (Contains (take index entries ++ entry ∷ []))
+            (λ other there. Contains-append_left (take index entries) (entry ∷ []) other there) old h.among;
+        each = λ other there. elim (Contains-push_cases (take index entries) entry other there) [
+          | inl before ↦ h.each other before
+          | inr it ↦ subst (λ (e : KeptState). (k : KeptState) × Contains old k × (k.word ≡ e.word) × (k.weight ≤ℤ e.weight)) it (
+            get_or old (length old - 1) entry,
+            Contains-get_or old (length old - 1) entry (let some = stays.1.0 in omega (arith, some)),
+            stays.1.1,
+            stays.1.2,
+          )
+        ];
+      })
+      | inr pushed ↦ subst (AreLeastOf (take index entries ++ entry ∷ [])) (sym pushed.0) (record {
+        among = All-push (Contains (take index entries ++ entry ∷ [])) old entry
+            (All-weaker (Contains (take index entries)) (Contains (take index entries ++ entry ∷ []))
+            (λ other there. Contains-append_left (take index entries) (entry ∷ []) other there) old h.among)
+            (Contains-push (take index entries) entry);
+        each = λ other there. elim (Contains-push_cases (take index entries) entry other there) [
+          | inl before ↦
+              let found = h.each other before in
+              (found.0, Contains-append_left old (entry ∷ []) found.0 found.1, found.2, found.3)
+          | inr it ↦ subst (λ (e : KeptState). (k : KeptState) × Contains (old ++ entry ∷ []) k × (k.word ≡ e.word) × (k.weight ≤ℤ e.weight)) it
+              (entry, Contains-push old entry, refl, omega (arith, ints))
+        ];
+      })
+    ])
+  where
+    whole : take (index + 1) entries ≡ take index entries ++ entry ∷ []
+    whole = take_more entries index entry lt ∙ ap (λ (e : KeptState). take index entries ++ e ∷ []) (sym is)
+
+pub least_of_none : AreLeastOf [] []
+least_of_none = record {
+  among = All-nil (Contains []);
+  each = λ entry there. absurd (let lt = there.1 in omega (arith, lt));
+}
+
+-- the order of entries doesn't matter
+pub least_of_sorted : (entries sorted least : List KeptState) → IsPermutation entries sorted → AreLeastOf sorted least
+    → AreLeastOf entries least
+least_of_sorted entries sorted least moved h = record {
+  among = All-weaker (Contains sorted) (Contains entries)
+      (λ entry there. Contains-permutation sorted entries entry (IsPermutation-sym entries sorted moved) there) least h.among;
+  each = λ entry there. h.each entry (Contains-permutation entries sorted entry moved there);
+}
+
+-- the least entries are as large as the others
+pub least_sized : (load : ℕ) (entries least : List KeptState) → AreLeastOf entries least → AreSizedEntries load entries
+    → AreSizedEntries load least
+least_sized load entries least h sizes =
+    let P : KeptState → Type 0 = λ entry. IsFromTo (neg_ℤ (pos ((load + 1) * 2 ^ 72))) (pos ((load + 1) * 2 ^ 72)) entry.weight in
+    All-weaker (Contains entries) P (λ entry there. All-contains P entries entry sizes there) least h.among
+
+-- ---- words rise
+
+-- the order of entries
+abbrev pub state_cmp : KeptState → KeptState → Ordering
+state_cmp a b = ordering_then (nat_cmp a.word b.word) (int_cmp a.weight b.weight)
+
+not_after : (a b : KeptState) (words weights : Ordering) → words ≡ nat_cmp b.word a.word → weights ≡ int_cmp b.weight a.weight
+    → is_lt (ordering_then words weights) ≡ false → IsNotAfter a b
+not_after a b Less weights first second is = absurd (true≢false is)
+not_after a b Equal Less first second is = absurd (true≢false is)
+not_after a b Equal Equal first second is =
+    let same = ranked b.word a.word Equal first in
+    let as_much = int_ranked b.weight a.weight Equal second in
+    inr (sym same, omega (arith, ints, as_much))
+not_after a b Equal Greater first second is =
+    let same = ranked b.word a.word Equal first in
+    let less = int_ranked b.weight a.weight Greater second in
+    inr (sym same, omega (arith, ints, less))
+not_after a b Greater weights first second is = inl (ranked b.word a.word Greater first)
+
+pub in_order : (entries : List KeptState) → IsSorted state_cmp entries → AreInOrder entries
+in_order entries sorted k d lt =
+    let a : KeptState = get_or entries k d in
+    let b : KeptState = get_or entries (k + 1) d in
+    not_after a b (nat_cmp b.word a.word) (int_cmp b.weight a.weight) refl refl (sorted k d (omega arith) lt)
+
+-- the last of the least entries has the memory of the last entry so far, and weighs no more
+pub record EndsAlike (entries least : List KeptState) (index : ℕ) (d : KeptState) : Type 0 where
+  pub some : 1 ≤ length least
+  pub word : (get_or least (length least - 1) d).word ≡ (get_or entries (index - 1) d).word
+  pub lighter : (get_or least (length least - 1) d).weight ≤ℤ (get_or entries (index - 1) d).weight
+
+-- the least of the first entries
+pub record AreLeastTo (entries kept : List KeptState) (index : ℕ) : Type 0 where
+  pub least : AreLeastOf (take index entries) kept
+  pub rising : AreRising kept
+  pub ends : (d : KeptState) → 1 ≤ index → EndsAlike entries kept index d
+
+module _ (entries old new : List KeptState) (index : ℕ) (entry : KeptState) (lt : index < length entries)
+    (is : entry ≡ get_or entries index entry) where
+  here : (d : KeptState) → get_or entries (index + 1 - 1) d ≡ entry
+  here d =
+      let back : index + 1 - 1 ≡ index = omega arith in
+      ap (λ (k : ℕ). get_or entries k d) back ∙ (get_or_default entries index d entry lt ∙ sym is)
+
+  pub ends_more : IsLeastAdded old entry new → (d : KeptState) → EndsAlike entries new (index + 1) d
+  ends_more (inl stays) d =
+      let some = stays.1.0 in
+      let moved : get_or old (length old - 1) d ≡ get_or old (length old - 1) entry =
+      get_or_default old (length old - 1) d entry (omega (arith, some)) in
+      let lighter = stays.1.2 in
+      subst (λ (xs : List KeptState). EndsAlike entries xs (index + 1) d) (sym stays.0) (record {
+        some = some;
+        word = ap (λ (e : KeptState). e.word) moved ∙ (stays.1.1 ∙ ap (λ (e : KeptState). e.word) (sym (here d)));
+        lighter =
+            subst (λ (e : KeptState). e.weight ≤ℤ (get_or entries (index + 1 - 1) d).weight) (sym moved)
+            (subst (λ (e : KeptState). (get_or old (length old - 1) entry).weight ≤ℤ e.weight) (sym (here d)) lighter);
+      })
+  ends_more (inr pushed) d =
+      let long = length_push old entry in
+      let last : get_or (old ++ entry ∷ []) (length (old ++ entry ∷ []) - 1) d ≡ entry =
+      get_or_push old entry d (length (old ++ entry ∷ []) - 1) (omega (arith, long)) in
+      let same : get_or (old ++ entry ∷ []) (length (old ++ entry ∷ []) - 1) d ≡ get_or entries (index + 1 - 1) d = last ∙ sym (here d) in
+      subst (λ (xs : List KeptState). EndsAlike entries xs (index + 1) d) (sym pushed.0) (record {
+        some = omega (arith, long);
+        word = ap (λ (e : KeptState). e.word) same;
+        lighter =
+            let weight = ap (λ (e : KeptState). e.weight) same in
+            omega (arith, ints, weight);
+      })
+
+  pub rising_more : IsLeastAdded old entry new → AreInOrder entries → AreLeastTo entries old index → AreRising new
+  rising_more (inl stays) order h = subst AreRising (sym stays.0) h.rising
+  rising_more (inr pushed) order h =
+      subst AreRising (sym pushed.0) (all_pairs_push (λ (a b : KeptState). a.word < b.word) old entry h.rising below)
+    where
+      -- the last one so far is below this entry
+      last_below : (d : KeptState) → 1 ≤ index → (get_or old (length old - 1) d).word < entry.word
+      last_below d some =
+          let ends = h.ends d some in
+          let at : get_or entries (index - 1 + 1) d ≡ entry =
+          (let back : index - 1 + 1 ≡ index + 1 - 1 = omega (arith, some) in ap (λ (k : ℕ). get_or entries k d) back) ∙ here d in
+          let word = ap (λ (e : KeptState). e.word) at in
+          let weight = ap (λ (e : KeptState). e.weight) at in
+          let same = ends.word in
+          let lighter = ends.lighter in
+          elim (order (index - 1) d (omega (arith, some, lt))) [
+            | inl less ↦ omega (arith, same, less, word)
+            | inr tied ↦ absurd (pushed.1 (stands d ends.some
+                (let first = tied.0 in omega (arith, same, first, word))
+                (let second = tied.1 in omega (arith, ints, lighter, second, weight))))
+          ]
+        where
+          stands : (d : KeptState) → 1 ≤ length old → (get_or old (length old - 1) d).word ≡ entry.word
+              → (get_or old (length old - 1) d).weight ≤ℤ entry.weight → LastStandsFor old entry
+          stands d some word lighter =
+              let moved : get_or old (length old - 1) d ≡ get_or old (length old - 1) entry =
+              get_or_default old (length old - 1) d entry (omega (arith, some)) in (
+                some,
+                subst (λ (e : KeptState). e.word ≡ entry.word) moved word,
+                subst (λ (e : KeptState). e.weight ≤ℤ entry.weight) moved lighter,
+              )
+
+      none_before : (k : ℕ) → k < length old → index ≡ 0 → ⊥
+      none_before k less none =
+          let there = h.least.among k entry less in
+          let long = length-take index entries in
+          let inside = there.1 in
+          omega (arith, inside, long, none)
+
+      below : (k : ℕ) (d : KeptState) → k < length old → (get_or old k d).word < entry.word
+      below k d less = elim (cases_eq index 0) [
+        | inl none ↦ absurd (none_before k less none)
+        | inr some ↦
+            let last = last_below d (omega (arith, some)) in
+            elim (cases_eq k (length old - 1)) [
+              | inl same ↦
+                  let moved = ap (λ (j : ℕ). (get_or old j d).word) same in omega (arith, moved, last)
+              | inr other ↦
+                  let up = h.rising k (length old - 1) d (omega (arith, less, other)) (omega (arith, less)) in
+                  omega (arith, up, last)
+            ]
+      ]

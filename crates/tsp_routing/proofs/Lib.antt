@@ -1,42 +1,25 @@
--- The files of lemmas of this crate. Crates above may import them.
+-- Lemmas on routes: for the theorems on plans (Plans, CutNeeds, PlanBounds, RunBounds), for the verdict (PlanJudging,
+-- JudgedLists, RunJudging, PlanVerdicts), for q-routes (QRouteRests, RouteProducts), for runs (MemoryWords, GivenTables,
+-- RunSteps, NextEntries, WaysHome, the files Kept.., LeastRuns), and for the examples (SmallCases). tsp_verdict imports a
+-- few on plans.
 mod Prelude
 pub mod Plans
 pub mod CutNeeds
 pub mod PlanBounds
-pub mod RouteRuns
-pub mod RunCharges
 pub mod RunBounds
-pub mod RunTrees
-pub mod PlacedSteps
+pub mod RunJudging
 pub mod JudgedLists
-pub mod RectangleRuns
+pub mod SmallCases
 pub mod KeptStarts
 pub mod WaysHome
-pub mod Words
 pub mod MemoryWords
-pub mod MemorySteps
-pub mod Starts
+pub mod RunSteps
 pub mod NextEntries
-pub mod LeafEntries
-pub mod GivenKeys
 pub mod GivenTables
 pub mod KeptLists
-pub mod KeptBefores
-pub mod SameStates
-pub mod FlatStates
 pub mod KeptCounts
-pub mod Rising
-pub mod LeastKept
-pub mod RunSizes
-pub mod RunsAlike
-pub mod StatesAlike
-pub mod RowHalves
+pub mod LeastRuns
 pub mod RouteProducts
 pub mod PlanJudging
-pub mod RunJudging
 pub mod PlanVerdicts
 pub mod QRouteRests
-pub mod SmallCuts
-pub mod SmallLoads
-pub mod SmallPlanBounds
-pub mod SmallQRoutes

@@ -1,14 +1,18 @@
--- The entry of a next state, or none: by whether the run has seen the customer, and by the completion.
-use Rattle.tsp_routing.proofs.Prelude.{◌≡◌, ◌≢◌, ℕ, ◌+◌, ◌≤◌, Bool, true, false, sym, ap, ◌∙◌, subst, arith, Some, None, ℤ, pos, ◌+ℤ◌, ◌≤ℤ◌, ◌<ℤ◌, both_ways, ints, recursion_from_All, IsCustomer}
-use Rattle.tsp_routing.specs.Runs.{RunRules, RunState, next_state, MayServe, charged, AreCharges}
+-- For src/run_steps.rt: the entry of a next state, or none, by whether the run has seen the customer, and by the
+-- completion; and entries from which nothing goes on, so that they can be passed over.
 use Rattle.tsp_format.specs.Steps.{SubsetRow}
-use Rattle.tsp_routing.specs.KeptStates.{IsCompletion}
-use Rattle.tsp_routing.specs.Memories.{told, Remembers}
-use Rattle.tsp_routing.specs.Starts.{step_weight}
-use Rattle.tsp_routing.specs.declared.kept_state.KeptState.{KeptState}
-use Rattle.tsp_routing.specs.states.KeptLists.{IsNextEntry}
 use Rattle.tsp_routing.proofs.KeptStarts.{pays, completions_tell_kept_states}
 use Rattle.tsp_routing.proofs.MemoryWords.{at_node}
+use Rattle.tsp_routing.proofs.Prelude.{◌≡◌, ◌≢◌, ℕ, ◌+◌, ◌≤◌, Bool, true, false, sym, ap, ◌∙◌, subst, arith, Some, None, ℤ, pos, ◌+ℤ◌, ◌≤ℤ◌, ◌<ℤ◌, both_ways, ints, recursion_from_All, IsCustomer, ◌<◌, List, neg_ℤ, length, ◌-ℤ◌}
+use Rattle.tsp_routing.specs.KeptStates.{IsCompletion}
+use Rattle.tsp_routing.specs.Memories.{told, Remembers}
+use Rattle.tsp_routing.specs.Runs.{RunRules, RunState, next_state, MayServe, charged, AreCharges}
+use Rattle.tsp_routing.specs.Starts.{step_weight}
+use Rattle.tsp_routing.specs.declared.kept_states.KeptState.{KeptState}
+use Rattle.tsp_routing.specs.declared.run_leaf.RunLeaf.{RunLeaf}
+use Rattle.tsp_routing.specs.states.Demands.{load_at}
+use Rattle.tsp_routing.specs.states.KeptLists.{IsNextEntry, rules_of, IsLeafOf}
+use Rattle.tsp_routing.specs.states.RunTables.{link_in, home_in}
 
 -- what the step weighs by the link and the charge
 step_is : (rules : RunRules) (state : RunState) (next : ℕ) (link charge : ℤ) → rules.weight state.last next ≡ link
@@ -63,3 +67,20 @@ next_is rules limit state weight link charge home next is_told entry customer ot
       (completions_tell_kept_states rules limit (next_state rules state next) entry.weight home completion).1
           (omega (arith, ints, under, weight_is)),
     )
+
+-- ---- entries that can be passed over
+
+-- no way home ends below the limit, even if the step pays nothing
+pub none_beyond : (leaf : RunLeaf) (near : ℕ → List ℕ) (rows : List (SubsetRow × ℤ)) (state : RunState) (weight most link home : ℤ)
+    (before last left : ℕ) → IsLeafOf leaf near rows → state.last ≡ before
+    → state.load + load_at leaf.nodes.now.loads.now last + left ≡ leaf.nodes.now.room
+    → IsCustomer leaf.nodes.now.nodes leaf.nodes.now.depot last → left ≤ leaf.nodes.now.room
+    → link ≡ link_in leaf.nodes.now.rows.now before last → home ≡ home_in leaf.homes.now left last
+    → most ≡ (leaf.limit -ℤ link) -ℤ home → most ≤ℤ weight → IsNextEntry (rules_of leaf near rows) leaf.limit state weight last None
+none_beyond leaf near rows state weight most link home before last left leaf_of at full customer fits link_is home_is most_is beyond =
+    let rules = rules_of leaf near rows in
+    let own : rules.weight state.last last ≡ link = ap (λ (v : ℕ). link_in leaf.nodes.now.rows.now v last) at ∙ sym link_is in
+    let completion : IsCompletion rules (state.load + load_at leaf.nodes.now.loads.now last) last home =
+    subst (IsCompletion rules (state.load + load_at leaf.nodes.now.loads.now last) last) (sym home_is)
+    (leaf_of.homes left (omega (arith, leaf.long, fits)) (state.load + load_at leaf.nodes.now.loads.now last) last full customer) in
+    none_at_first rules leaf.limit state weight link home last leaf_of.signs own completion (omega (arith, ints, most_is, beyond))

@@ -1,10 +1,12 @@
--- Crossings of routes are even, the limits of a case hold, and the bound of a certificate is at most the length of each
--- plan.
-use Rattle.tsp_routing.proofs.Prelude.{◌≡◌, ℕ, ◌+◌, ◌-◌, ◌*◌, Bool, true, false, List, [], ◌∷◌, length, ◌≤ℤ◌, inl, inr, refl, arith, Option, None, Some, ap, subst, suc, ◌==◌, ◌&&◌, not, cond, sym, ap₂, ◌∙◌, ◌≤◌, suc_ℤ-*ℤ, zero-*ℤ, *ℤ-zero, *ℤ_comm, cases_lt, both_ways, cases_Bool, and_parts, eqb-true, ints, All-cons, All-contains, recursion_from_All, All-from_recursion, AllByRecursion, concat, All, ℤ, pos, negsuc, ◌+ℤ◌, max, min, ◌*ℤ◌, none_or_one, evenly, sum_below, sum_zero, one_if, difference, sum_int_by-add, entry, weight_between, IsScale, links, length_of, RoutingProblem, sum_int_by, IsPlan, plan_length, crossing, crosses, weight_of, over_sum, size_of_link, IsAbove, IsLeastFound, multiplied, crossings_of, CaseStep, Branch, Leaf, are_case_trees, decide, leaves_of, cases_of, LeafNumbers, Family, family_crossings, family_with, families_with, listed_steps, Crossings, Decision}
+-- For the laws on bounds by q-routes: crossings of routes are even, the limits of a case hold, and the bound of a
+-- certificate is at most the length of each plan. Proofs in tsp_verdict use it, too.
+use Rattle.tsp_routing.proofs.Prelude.{get_or, ◌⊎◌, ◌≡◌, ℕ, ◌+◌, ◌-◌, ◌*◌, Bool, true, false, List, [], ◌∷◌, length, ◌≤ℤ◌, inl, inr, refl, arith, Option, None, Some, ap, subst, suc, ◌==◌, ◌&&◌, not, cond, sym, ap₂, ◌∙◌, ◌≤◌, suc_ℤ-*ℤ, zero-*ℤ, *ℤ-zero, *ℤ_comm, cases_lt, both_ways, cases_Bool, and_parts, eqb-true, ints, recursion_from_All, All-from_recursion, AllByRecursion, concat, All, ℤ, pos, negsuc, ◌+ℤ◌, max, min, ◌*ℤ◌, none_or_one, evenly, sum_below, sum_zero, one_if, difference, sum_int_by-add, entry, weight_between, IsScale, links, length_of, RoutingProblem, sum_int_by, IsPlan, plan_length, crossing, crosses, weight_of, over_sum, size_of_link, multiplied, crossings_of, leaves_of, LeafNumbers, Family, family_crossings, family_with, families_with, Crossings, Decision}
+use Rattle.tsp_cases.specs.Cases.{BoundsKept}
+use Rattle.tsp_cases.proofs.Solutions.{leaves_are_kept, least_found_bounds, one_found}
 use Rattle.tsp_routing.proofs.CutNeeds.{routes_are_q_routes}
 use Rattle.tsp_routing.proofs.Plans.{lengths_are_weights, plan_firsts, plan_seconds, count_of_plan, plans_have_few_routes, all_same, plans_cross_cuts, lone_crossings, fewest_routes, least_at, least_between, split_surplus, between_weight}
-use Rattle.tsp_routing.specs.PlanBounds.{surplus, least_times, low_of, high_of, limits_total, q_route_weight, PlanBoundsBoundPlans, least_product, IsPlanBound, IsQRouteBound, IsFoundByQRoutes, PlanTreesBoundPlans, PlanTreeBoundsAreUnique, IsPlanTreeBound}
-use Rattle.tsp_routing.specs.PlanLinks.{part_crossed, set_at, KeepsLimit, KeepsLimitsOfOne, PlansCrossEvenly, PlansKeepEitherLimit, PlansKeepLeaves, IsFewest, plan_links, IsRoutable, IsCutFamily, IsWithinLimit, IsFilledPlan, AreUnits, load_in, capacity_in_parts, KeepsEachLimit}
+use Rattle.tsp_routing.specs.PlanBounds.{surplus, least_times, low_of, high_of, limits_total, q_route_weight, PlanBoundsBoundPlans, least_product, IsPlanBound, IsQRouteBound, IsFoundByQRoutes, BoundsPlansIfAny, PlanTreesBoundPlans, PlanTreeBoundsAreUnique}
+use Rattle.tsp_routing.specs.PlanLinks.{part_crossed, set_at, KeepsLimit, plans, PlansCrossEvenly, PlansKeepEitherLimit, PlansKeepLeaves, IsFewest, plan_links, IsRoutable, IsCutFamily, IsWithinLimit, IsFilledPlan, AreUnits, load_in, capacity_in_parts, KeepsEachLimit}
 use Rattle.tsp_routing.specs.QRoutes.{IsLeastAmong, IsQRoute, IsBelowQRoutes}
 
 -- ---- parity
@@ -45,34 +47,25 @@ plans_keep_either_limit part depot routes half =
 
 -- ---- the tree
 
-module _ (n : ℕ) (families : List Family) (depot : ℕ) (routes : List (List ℕ)) where
-  -- a branch leaves out no routes
-  branched : (pair : ℕ × ℕ) (case : List Decision) (cases : List (List Decision))
-      → KeepsLimitsOfOne n families depot routes (case ∷ cases)
-      → KeepsLimitsOfOne n families depot routes (decide pair true case ∷ decide pair false case ∷ cases)
-  branched pair case cases (inr later) = inr (inr later)
-  branched pair case cases (inl here) =
-      let keeps = KeepsLimit n families depot routes in
-      elim (plans_keep_either_limit (set_at families (pair.0 - (n + 1))) depot routes pair.1) [
-        | inl few ↦ inl (All-cons keeps (record { pair = pair; taken = true }) case few here)
-        | inr many ↦ inr (inl (All-cons keeps (record { pair = pair; taken = false }) case many here))
-      ]
-
-  kept : (cases : List (List Decision)) (steps : List CaseStep) → are_case_trees (length cases) steps ≡ true
-      → KeepsLimitsOfOne n families depot routes cases
-      → KeepsLimitsOfOne n families depot routes (cases_of (leaves_of cases steps))
-  kept [] steps whole keeps = absurd keeps
-  kept (case ∷ cases) [] whole keeps = absurd (both_ways false refl whole)
-  kept (case ∷ cases) (Branch pair ∷ steps) whole keeps =
-      kept (decide pair true case ∷ decide pair false case ∷ cases) steps whole (branched pair case cases keeps)
-  kept (case ∷ cases) (Leaf numbers ∷ steps) whole (inl here) = inl here
-  kept (case ∷ cases) (Leaf numbers ∷ steps) whole (inr later) = inr (kept cases steps whole later)
+-- routes keep each limit or its opposite
+pub keeps_either : (problem : RoutingProblem) (families : List Family) (routes : List (List ℕ)) (pair : ℕ × ℕ)
+    → (plans problem families).Keeps routes (record { pair = pair; taken = true })
+    ⊎ (plans problem families).Keeps routes (record { pair = pair; taken = false })
+keeps_either problem families routes pair =
+    plans_keep_either_limit (set_at families (pair.0 - (problem.nodes + 1))) problem.depot routes pair.1
 
 pub plans_keep_leaves : PlansKeepLeaves
-plans_keep_leaves n families depot given steps routes whole keeps =
-    kept n families depot routes (given ∷ []) steps whole (inl keeps)
+plans_keep_leaves problem families = leaves_are_kept (List (List ℕ)) (plans problem families) (keeps_either problem families)
 
--- ---- the least of some numbers is one number, and so is the least bound of the leaves
+-- what bounds all plans that keep no limit bounds all plans
+pub every_plan : (problem : RoutingProblem) (families : List Family) (found : Option ℤ)
+    → BoundsKept (plans problem families) [] found → BoundsPlansIfAny problem found
+every_plan problem families (Some bound) bounds = λ routes filled.
+    bounds routes filled (All-from_recursion (KeepsLimit problem.nodes families problem.depot routes) [] tt)
+every_plan problem families None none = λ routes filled.
+    none routes filled (All-from_recursion (KeepsLimit problem.nodes families problem.depot routes) [] tt)
+
+-- ---- the least of some numbers is one number
 
 pub one_least : {X : Type 0} (P : X → Type 0) (f : X → ℤ) (a b : ℤ) → IsLeastAmong P f (Some a) → IsLeastAmong P f (Some b) → a ≡ b
 one_least {X} P f a b p q =
@@ -85,50 +78,6 @@ one_fewest problem a b p q =
     let first = p.least_is.none_less q.least q.least_is.enough in
     let second = q.least_is.none_less p.least p.least_is.enough in
     omega (arith, first, second, p.fewest_is, q.fewest_is)
-
--- ---- whatever is found of a leaf
-
-module _ (found : List Decision × LeafNumbers → Option ℤ → Type 0)
-    (one : (leaf : List Decision × LeafNumbers) (x y : Option ℤ) → found leaf x → found leaf y → x ≡ y)
-    (leaves : List (List Decision × LeafNumbers)) where
-  apart : (a : ℤ) → None ≡ Some a → ⊥
-  apart a same = subst (λ (o : Option ℤ). is_none o) same tt
-    where
-      is_none : Option ℤ → Type 0
-      is_none None = Unit {0}
-      is_none (Some z) = ⊥
-
-  inside : (a b : ℤ) → Some a ≡ Some b → a ≡ b
-  inside a b same = ap (λ o. value a o) same
-    where
-      value : ℤ → Option ℤ → ℤ
-      value d None = d
-      value d (Some z) = z
-
-  at_most : (a b : ℤ) → IsLeastFound found leaves (Some a) → IsLeastFound found leaves (Some b) → a ≤ℤ b
-  at_most a b p q =
-      let there = q.1 in
-      let leaf = there.1 in
-      elim (All-contains (IsAbove found a) leaves leaf p.0 (there.0, there.2, there.3)) [
-        | inl none ↦ absurd (apart b (one leaf None (Some b) none there.4))
-        | inr own ↦ let same = inside own.0 b (one leaf (Some own.0) (Some b) own.1 there.4) in omega (arith, ints, own.2, same)
-      ]
-
-  never_both : (a : ℤ) → IsLeastFound found leaves (Some a) → IsLeastFound found leaves None → ⊥
-  never_both a p none =
-      let there = p.1 in
-      let leaf = there.1 in
-      apart a (one leaf None (Some a)
-      (All-contains (λ l. found l None) leaves leaf none (there.0, there.2, there.3)) there.4)
-
-  pub one_found : (a b : Option ℤ) → IsLeastFound found leaves a → IsLeastFound found leaves b → a ≡ b
-  one_found (Some a) (Some b) p q =
-      let first = at_most a b p q in
-      let second = at_most b a q p in
-      ap (λ (z : ℤ). Some z) (omega (arith, ints, first, second))
-  one_found (Some a) None p q = absurd (never_both a p q)
-  one_found None (Some b) p q = absurd (never_both b q p)
-  one_found None None p q = refl
 
 -- ---- what the limits of a case and the multipliers of the sets give back is at most their sum
 
@@ -343,41 +292,21 @@ module _ (problem : RoutingProblem) (scale : ℤ) (unit light : ℕ) (families :
       first [] some all = absurd (omega (arith, some))
       first (route ∷ others) some all = never route all.0
 
-  -- ---- the leaf whose case the plan keeps
-
-  abbrev found : List Decision × LeafNumbers → Option ℤ → Type 0
-  found = IsFoundByQRoutes problem scale unit light families
-
-  one_kept : (bound : ℤ) (leaves : List (List Decision × LeafNumbers)) → AllByRecursion (IsAbove found bound) leaves
-      → KeepsLimitsOfOne problem.nodes families problem.depot routes (cases_of leaves)
-      → bound ≤ℤ plan_length problem.cost problem.depot routes
-  one_kept bound [] above keeps = absurd keeps
-  one_kept bound (leaf ∷ leaves) (inl never, above) (inl here) = absurd (no_q_route never)
-  one_kept bound (leaf ∷ leaves) (inr has, above) (inl here) =
-      let own = leaf_bounds leaf.0 leaf.1 has.0 has.1 here in
-      omega (arith, ints, own, has.2)
-  one_kept bound (leaf ∷ leaves) above (inr later) = one_kept bound leaves above.1 later
-
-  none_kept : (leaves : List (List Decision × LeafNumbers)) → AllByRecursion (λ leaf. found leaf None) leaves
-      → KeepsLimitsOfOne problem.nodes families problem.depot routes (cases_of leaves) → ⊥
-  none_kept [] never keeps = absurd keeps
-  none_kept (leaf ∷ leaves) never keeps = no_q_route never.0
-
 -- ---- the tree
 
 pub plan_trees_bound_plans : PlanTreesBoundPlans
-plan_trees_bound_plans problem scale unit light families steps (Some bound) routing scale_in units cuts whole is = λ routes filled.
-    let leaves = leaves_of ([] ∷ []) steps in
-    one_kept problem scale unit light families routing scale_in units cuts routes filled bound leaves
-    (recursion_from_All (IsAbove (IsFoundByQRoutes problem scale unit light families) bound) leaves is.0)
-    (plans_keep_leaves problem.nodes families problem.depot [] steps routes whole
-    (All-from_recursion (KeepsLimit problem.nodes families problem.depot routes) [] tt))
-plan_trees_bound_plans problem scale unit light families steps None routing scale_in units cuts whole is = λ routes filled.
-    let leaves = leaves_of ([] ∷ []) steps in
-    none_kept problem scale unit light families routing scale_in units cuts routes filled leaves
-    (recursion_from_All (λ leaf. IsFoundByQRoutes problem scale unit light families leaf None) leaves is)
-    (plans_keep_leaves problem.nodes families problem.depot [] steps routes whole
-    (All-from_recursion (KeepsLimit problem.nodes families problem.depot routes) [] tt))
+plan_trees_bound_plans problem scale unit light families steps found routing scale_in units cuts whole is =
+    every_plan problem families found
+    (least_found_bounds (List (List ℕ)) (plans problem families) (keeps_either problem families)
+    (IsFoundByQRoutes problem scale unit light families) [] steps found whole
+    (λ k d lt own has. at_leaf (get_or (leaves_of ([] ∷ []) steps) k d) own has) is)
+  where
+    at_leaf : (leaf : List Decision × LeafNumbers) (own : Option ℤ) → IsFoundByQRoutes problem scale unit light families leaf own
+        → BoundsKept (plans problem families) leaf.0 own
+    at_leaf leaf (Some bound) has = λ routes filled keeps.
+        leaf_bounds problem scale unit light families routing scale_in units cuts routes filled leaf.0 leaf.1 bound has keeps
+    at_leaf leaf None never = λ routes filled keeps.
+        no_q_route problem scale unit light families routing scale_in units cuts routes filled never
 
 -- ---- one bound
 

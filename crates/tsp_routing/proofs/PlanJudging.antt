@@ -1,4 +1,4 @@
--- Which families are sets of customers, the first that isn't, and the pass over the leaves.
+-- For src/verdict.rt: which families are sets of customers, the first that isn't, and the pass over the leaves.
 use Rattle.tsp_routing.proofs.Prelude.{◌≡◌, ◌≢◌, ℕ, zero, suc, ◌+◌, ◌≤◌, ◌<◌, ◌==◌, Bool, true, false, List, [], ◌∷◌, length, get_or, refl, sym, ap, ◌∙◌, subst, arith, inl, inr, ◌^◌, ◌++◌, length-append, ◌-◌, take, drop, cases_Bool, both_ways, or_left, or_right, eq-eqb, cases_lt, ints, get_or_append_left, get_or_push, get_or_default, get_or-map, length-map, take-append-drop, recursion_from_All, All-from_recursion, All-append, All-weaker, Vec, All, range_with_len, AllByRecursion, ℤ, pos, if◌then◌else◌, ◌≤ℤ◌, Some, replicate, Option, None, neg_ℤ, most_potential, most_demand, IsNode, nodes_to, are_whole, IsFromTo, IsScale, sum_int_by, IsCustomer, RoutingProblem, demand_of, whole_trees, IsAbove, IsLeastFound, LeafNumbers, has, AreSetsOf, lists_of, families_in, HasEachOnce, IsFamily, family_with, families_with, BeginsWithin, branch_pairs, as_leaf_numbers, IsStepOf, split_at, no_numbers_of, listed_steps, Crossings, Decision}
 use Rattle.tsp_format.specs.Steps as listed
 use Rattle.tsp_cases.specs.JudgedLeaves.{IsFoundOfCase}
@@ -8,7 +8,7 @@ use Rattle.tsp_routing.proofs.CutNeeds.{apart_from_pairs, held, no_depot}
 use Rattle.tsp_routing.proofs.RouteProducts.{each_small}
 use Rattle.tsp_routing.specs.PlanLinks.{IsCutFamily}
 use Rattle.tsp_routing.specs.PlanVerdicts.{IsGoodSet, IsFirstBadSet, AreCapacityCuts, most_of_multipliers, ArePlanNumbers, AreGoodBranches}
-use Rattle.tsp_routing.specs.declared.units.Demands.{Demands}
+use Rattle.tsp_routing.specs.declared.demands.Demands.{Demands}
 use Rattle.tsp_routing.specs.states.Demands.{loads_problem}
 use Rattle.tsp_routing.specs.states.Judged.{AreCutNumbers}
 use Rattle.tsp_routing.specs.states.LeafWeights.{IsPlanStep}
@@ -141,13 +141,15 @@ all_cuts demands families crossed many have cost = record {
 pub first_bad : (n depot place : ℕ) (families : List (List (List ℕ))) → place < length families
     → ((other : ℕ) → other < place → IsGoodSet n depot (get_or families other []))
     → (IsGoodSet n depot (get_or families place []) → ⊥) → IsFirstBadSet n depot families (place + 1)
-first_bad n depot place families lt before bad = record {
-  least = omega arith;
-  most = omega (arith, lt);
-  before = λ other less. before other (omega (arith, less));
-  bad = λ other same good. bad (subst (λ (k : ℕ). IsGoodSet n depot (get_or families k []))
-      (let e : other ≡ place = omega (arith, same) in e) good);
-}
+first_bad n depot place families lt before bad =
+    let same : place + 1 - 1 ≡ place = omega arith in
+    record {
+      applies = (
+        (omega arith, omega (arith, lt)),
+        λ good. bad (subst (λ (k : ℕ). IsGoodSet n depot (get_or families k [])) same good),
+      );
+      none_before = λ other less from. before (other - 1) (omega (arith, less, from));
+    }
 
 -- ---- as families of cycles
 
@@ -244,7 +246,7 @@ found_of_plan_leaf Found n families case numbers potentials multipliers own good
       (subst (λ (zs : List ℤ). Found (case, as_leaf_numbers zs multipliers) own) of_nodes is),
 )
 
--- good numbers as they are read, where as many are read as there are nodes and families
+-- good numbers as they are read, if as many are read as there are nodes and families
 pub plan_numbers_read : (n p families f : ℕ) (numbers : List ℤ) → p ≡ n → f ≡ families
     → ArePlanNumbers p f (as_leaf_numbers (take p numbers) (drop p numbers)) → ArePlanNumbers n families (split_at n numbers)
 plan_numbers_read n p families f numbers at many good =

@@ -1,4 +1,5 @@
--- The verdict on a certificate for routes, by that on its leaves, and the plans that it bounds.
+-- For src/verdict.rt and src/run_verdict.rt: the verdict on a certificate for routes, by that on its leaves, and the
+-- plans that it bounds.
 use Rattle.tsp_routing.proofs.Prelude.{◌≡◌, ◌∙◌, ℕ, ◌+◌, ◌≤◌, ◌<◌, ◌*◌, Bool, true, false, List, [], ◌∷◌, length, refl, sym, ap, subst, arith, ℤ, Option, Some, None, recursion_from_All, are_whole, IsScale, RoutingProblem, families_with, listed_steps, no_numbers_of, whole_trees, Crossings, CaseStep, LeafNumbers, leaves_of, Decision}
 use Rattle.std.proofs.Math.Logic.{∥∥₁_elim}
 use Rattle.std.proofs.Props.{props}
@@ -14,15 +15,16 @@ use Rattle.tsp_routing.specs.RunVerdicts.{is_by_runs, AreGoodLeavesOf, IsFirstBa
 use Rattle.tsp_routing.specs.states.Judged.{IsLeafVerdict, entries_in}
 use Rattle.tsp_routing.specs.states.RunJudged.{AreRunsJudged, IsRunLeafVerdict}
 use Rattle.tsp_cases.proofs.Passes.{by_leaves, on_bound}
-use Rattle.tsp_routing.proofs.PlacedSteps.{whole_placed}
+use Rattle.tsp_routing.proofs.RunJudging.{whole_placed}
 use Rattle.tsp_cases.specs.JudgedLeaves.{AreJudgedBy}
 use Rattle.tsp_cases.specs.ListedCases.{AreGoodLeavesBy}
-use Rattle.tsp_routing.proofs.PlanBounds.{one_found, plan_tree_bounds_are_unique, all_crossed, one_light}
+use Rattle.tsp_cases.proofs.Solutions.{one_found}
+use Rattle.tsp_routing.proofs.PlanBounds.{plan_tree_bounds_are_unique, all_crossed, one_light}
 use Rattle.tsp_routing.proofs.RunBounds.{run_bounds_are_unique}
 
 -- ---- the verdict on the leaves, after both passes
 
--- where no leaf is bad, all are good
+-- if no leaf is bad, all are good
 pub all_good : (Found : List Decision × LeafNumbers → Option ℤ → Type 0) (Good : LeafNumbers → Type 0) (n count : ℕ)
     (given : List Decision) (steps : List listed.Step) (judged : TreeVerdict)
     → AreJudgedBy Found Good n count given steps judged → ((leaf : ℕ) → judged ≡ verdict.BadLeaf leaf → ⊥)
@@ -37,13 +39,7 @@ pub verdict_of_judged_runs : (tree : RunTree) (steps : List listed.Step) (judged
     → AreRunsJudged tree (placed_steps tree.problem.nodes tree.family_count steps) judged → IsRunLeafVerdict tree steps judged
 verdict_of_judged_runs tree steps (verdict.Bound found) good few is = (good, few, is.0, is.1)
 verdict_of_judged_runs tree steps (verdict.TooManyStates leaf) good few is = (good, few, is)
-verdict_of_judged_runs tree steps (verdict.BadFamily family) good few is = absurd is
-verdict_of_judged_runs tree steps (verdict.BadMemory customer) good few is = absurd is
-verdict_of_judged_runs tree steps (verdict.BadRow row) good few is = absurd is
-verdict_of_judged_runs tree steps (verdict.BadBranch branch) good few is = absurd is
-verdict_of_judged_runs tree steps (verdict.BranchTwice branch) good few is = absurd is
-verdict_of_judged_runs tree steps (verdict.BadLeaf leaf) good few is = absurd is
-verdict_of_judged_runs tree steps verdict.TooManyLoads good few is = absurd is
+verdict_of_judged_runs tree steps other good few is = absurd is
 
 module _ (problem : RoutingProblem) (scale : ℤ) (unit : ℕ) (families : List (List (List ℕ))) (lists : List (List ℕ))
     (rows : List SubsetRow) (steps : List listed.Step) where
@@ -54,12 +50,6 @@ module _ (problem : RoutingProblem) (scale : ℤ) (unit : ℕ) (families : List 
       → IsGoodMemory problem.nodes problem.depot lists rows → AreGoodBranches problem.nodes (length families) steps
       → IsLeafVerdict problem scale unit light (length families) (families_with crossed families) steps found
       → IsPlanVerdict problem scale unit families lists rows steps found
-  verdict_of_leaves light crossed (verdict.BadFamily family) neither units cuts memory branches is = absurd is
-  verdict_of_leaves light crossed (verdict.BadMemory customer) neither units cuts memory branches is = absurd is
-  verdict_of_leaves light crossed (verdict.BadRow row) neither units cuts memory branches is = absurd is
-  verdict_of_leaves light crossed (verdict.BadBranch branch) neither units cuts memory branches is = absurd is
-  verdict_of_leaves light crossed (verdict.BranchTwice branch) neither units cuts memory branches is = absurd is
-  verdict_of_leaves light crossed (verdict.TooManyStates leaf) neither units cuts memory branches is = absurd is
   verdict_of_leaves light crossed (verdict.BadLeaf leaf) neither units cuts memory branches is = (
     ((crossed, cuts), branches),
     memory,
@@ -84,6 +74,7 @@ module _ (problem : RoutingProblem) (scale : ℤ) (unit : ℕ) (families : List 
       bound = is.2;
     }),
   )
+  verdict_of_leaves light crossed other neither units cuts memory branches is = absurd is
 
   -- ---- by runs
 
@@ -99,11 +90,6 @@ module _ (problem : RoutingProblem) (scale : ℤ) (unit : ℕ) (families : List 
       → IsGoodMemory problem.nodes problem.depot lists rows → AreGoodBranches problem.nodes (length families) steps
       → IsRunLeafVerdict (tree_with problem scale unit families lists rows light crossed) steps found
       → IsPlanVerdict problem scale unit families lists rows steps found
-  verdict_of_runs light crossed (verdict.BadFamily family) either units cuts memory branches is = absurd is
-  verdict_of_runs light crossed (verdict.BadMemory customer) either units cuts memory branches is = absurd is
-  verdict_of_runs light crossed (verdict.BadRow row) either units cuts memory branches is = absurd is
-  verdict_of_runs light crossed (verdict.BadBranch branch) either units cuts memory branches is = absurd is
-  verdict_of_runs light crossed (verdict.BranchTwice branch) either units cuts memory branches is = absurd is
   verdict_of_runs light crossed (verdict.BadLeaf leaf) either units cuts memory branches is = (
     ((crossed, cuts), branches),
     memory,
@@ -136,6 +122,7 @@ module _ (problem : RoutingProblem) (scale : ℤ) (unit : ℕ) (families : List 
       bound = is.3;
     }),
   )
+  verdict_of_runs light crossed other either units cuts memory branches is = absurd is
 
   -- ---- the plans that it bounds
 

@@ -1,4 +1,5 @@
--- What the proofs of this crate use most of other crates, passed on from one place.
+-- Names of other crates, passed on to the files of this crate alone. It defines nothing: add or remove names freely;
+-- `tests/repository/names` sees that each is imported from here.
 pub use Rattle.std.proofs.Common.{Bool, FitsSigned, List, add-one, ap, ap₂, arith, cond, drop, drop-cons, eqb, false, get_or, inl, inr, length, length-append, map, not, of_z, refl, rules, subst, subst₂, suc, sym, take, to_z, true, zero, ℕ, ℤ, [], ◌%◌, ◌&&◌, ◌*◌, ◌++◌, ◌+◌, ◌-◌, ◌/◌, ◌<◌, ◌==◌, ◌^◌, ◌||◌, ◌∙◌, ◌∷◌, ◌≡◌, ◌≢◌, ◌≤◌}
 pub use Rattle.std.proofs.Math.IntN.{suc_ℤ-*ℤ, zero-*ℤ, *ℤ-zero, *ℤ_comm, +ℤ_assoc}
 pub use Rattle.std.proofs.Math.Nat.{add-mul, div-mul-le_self, lt-div-mul-add, mul-le-mul_right, pow-le-pow_right, suc-mul}
@@ -16,7 +17,7 @@ pub use Rattle.tsp_cases.proofs.FamilyCrossings.{over_sum, sets_tell_combs, size
 pub use Rattle.tsp_cases.proofs.Passes.{whole_trees, written}
 pub use Rattle.tsp_cases.proofs.SetSums.{absent, apart_is, places_inside, sets_come_to, wrapped_by}
 pub use Rattle.tsp_cases.specs.CaseTrees.{IsAbove, IsLeastFound, crossings_of, multiplied}
-pub use Rattle.tsp_cases.specs.Cases.{Branch, CaseStep, Leaf, LeafNumbers, are_case_trees, cases_of, decide, leaves_of}
+pub use Rattle.tsp_cases.specs.Cases.{CaseStep, LeafNumbers, leaves_of}
 pub use Rattle.tsp_cases.specs.Crossings.{AreSetsOf, families_in, has, lists_of}
 pub use Rattle.tsp_cases.specs.Families.{Comb, Family, HasEachOnce, IsFamily, comb_with, families_with, family_crossings, family_with}
 pub use Rattle.tsp_cases.specs.ListedCases.{BeginsWithin, IsFirstBadBranch, IsGoodAtBy, IsStepOf, as_leaf_numbers, branch_pairs, listed_steps, no_numbers_of, split_at}

@@ -1,4 +1,4 @@
--- The entries of the table of walks are the least weights on from a node.
+-- For src/least_q_route.rt: the entries of the table of q-routes are the least weights on from a node.
 use Rattle.tsp_routing.proofs.Prelude.{◌≡◌, ℕ, zero, suc, ◌<◌, List, [], ◌∷◌, ◌++◌, length, get_or, refl, arith, ◌≢◌, ◌-◌, ◌*◌, ◌≤◌, ◌==◌, sym, ap, ◌∙◌, subst, inl, inr, ◌+◌, add-one, suc-mul, mul-le-mul_right, cases_Bool, both_ways, eqb-true, eq-eqb, cases_eq, ints, recursion_from_All, All-from_recursion, Option, None, Some, MatchOption, if◌then◌else◌, ℤ, pos, ◌+ℤ◌, ◌≤ℤ◌, ◌⊎◌, neg_ℤ, IsNode, IsFromTo, sum_int_by, length_of, IsCustomer}
 use Rattle.tsp_routing.specs.QRoutes.{IsLeastAmong, BeginsOther, IsQRoute, IsBelowQRoutes, onward_weight, IsQRouteRest, first_or_depot, QRouteEntry, least_from, IsAtMost, IsEntryBelowTo, IsStartBelow, IsLow, IsReal, IsStepTo, IsEntryMetTo, IsMet, IsStartMet}
 use Rattle.tsp_routing.specs.declared.least_q_route.Onward.{Onward}
@@ -219,7 +219,7 @@ found_least P f half value (Some weight) is exact none =
 
 -- ---- rows
 
--- an element more at the end, where all but the first have a property by their places
+-- an element more at the end, if all but the first have a property by their places
 pub entry_pushed : {X : Type 0} (C : ℕ → Type 0) (P : ℕ → X → Type 0) (entries : List X) (own : X) (last : ℕ)
     → length entries ≡ last + 1 → ((k : ℕ) (d : X) → C k → k ≤ last → P k (get_or entries k d))
     → (C (last + 1) → P (last + 1) own)

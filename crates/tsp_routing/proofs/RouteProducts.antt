@@ -1,4 +1,5 @@
--- The sums of a leaf for routes fit 128 bits: multipliers, counts of routes, kept rows.
+-- For src/plan_leaf.rt and the other sums of a leaf for routes: they fit 128 bits, made of multipliers, counts of
+-- routes and kept rows.
 use Rattle.tsp_routing.proofs.Prelude.{ℕ, List, [], ◌∷◌, ℤ, ◌≤ℤ◌, arith, ◌≡◌, ◌∙◌, ◌+◌, ◌*◌, ◌==◌, ◌&&◌, ◌||◌, Bool, true, false, not, cond, refl, sym, ap, ◌^◌, ◌≤◌, ap₂, subst, to_z, of_z, FitsSigned, ◌<◌, drop, length, get_or, drop-cons, add-one, zero, suc, take, ◌++◌, inl, inr, length-append, cases_lt, ints, fits_signed_from_abs, to_z-of_z, get_or_append_left, get_or_push, recursion_from_All, Vec, w64, w128, AllByRecursion, filter, All, pos, neg_ℤ, max, min, if◌then◌else◌, ◌-ℤ◌, ◌*ℤ◌, negsuc, ◌+ℤ◌, int_lt, unsigned_abs, Option, Some, None, most_nodes, most_potential, IsNode, IsFromTo, none_or_one, from_size, product_size, size_of, moved_on, moved_to, weight_between, most_between, sum_int_by, length_of, links, IsCustomer, crosses, IsMoved, sets_come_to, multiplied, crossings_of, has, families_with, family_crossings, comb_with, HasEachOnce, Crossings, Decision, bears_on, places_with, IsApart, inside_both, set_crossings, set_weight}
 use Rattle.tsp_routing.specs.PlanBounds.{low_of, high_of, most_surplus, least_times, limits_total, most_link}
 use Rattle.tsp_routing.specs.PlanVerdicts.{sizes_total, most_of_multipliers}

@@ -1,30 +1,87 @@
--- The judge of leaves by runs: rows with their charges, the numbers of a leaf, and the memories of good lists and rows.
-use Rattle.tsp_routing.proofs.Prelude.{◌≡◌, ◌∙◌, ℕ, zero, suc, ◌+◌, ◌≤◌, ◌<◌, ◌==◌, Bool, true, false, List, [], ◌∷◌, ◌++◌, map, take, drop, length, get_or, refl, sym, ap, subst, arith, inl, inr, if◌then◌else◌, ints, ℤ, pos, ◌+ℤ◌, ◌*ℤ◌, ◌≤ℤ◌, Some, Vec, All, AllByRecursion, recursion_from_All, All-from_recursion, All-weaker, cases_eq, ne_eqb, length-append, length-drop, length-map, get_or-map, most_nodes, IsNode, IsCustomer, as_leaf_numbers, split_at, entry, families_with, Crossings, Decision}
+-- For src/run_verdict.rt: the steps of a certificate with places, rows with their charges, the numbers of a leaf, and
+-- the memories of good lists and rows.
 use Rattle.std.proofs.lemmas.List.{length-take}
 use Rattle.tsp_format.specs.Steps.{SubsetRow}
+use Rattle.tsp_format.specs.Steps as listed
+use Rattle.tsp_format.specs.declared.steps.RowSets.{RowSets}
+use Rattle.tsp_format.specs.declared.steps.TreeStep.{TreeStep}
+use Rattle.tsp_format.specs.states.TreeSteps.{step_of, steps_of, subset_row_of}
 use Rattle.tsp_cases.specs.JudgedLeaves.{IsFoundOfCase}
 use Rattle.tsp_cases.specs.declared.judged.JudgedLeaf.TheVariants as leaves
-use Rattle.tsp_routing.specs.KeptStates.{HasTooManyStates}
-use Rattle.tsp_routing.specs.RunBounds.{leaf_rules, IsRunBound}
-use Rattle.tsp_routing.specs.declared.units.Demands.{Demands}
-use Rattle.tsp_routing.specs.states.Demands.{loads_problem}
-use Rattle.tsp_routing.specs.states.JudgedMemory.{IsNearTable}
-use Rattle.tsp_routing.specs.states.RunJudged.{tree_in, AreTablesFor}
-use Rattle.tsp_format.specs.declared.steps.RowSets.{RowSets}
-use Rattle.tsp_format.specs.states.TreeSteps.{subset_row_of}
-use Rattle.tsp_routing.specs.Memories.{row_keys, keys_of, AreMemories}
-use Rattle.tsp_routing.specs.PlanVerdicts.{ArePlanNumbers, most_of_multipliers, sizes_total}
-use Rattle.tsp_routing.specs.RunTrees.{owner_of, near_of, IsGoodRow, row_at, AreGoodRows, AreGoodLists, rows_kept, IsGoodMemory, charged_rows, AreRunNumbers, RunTree, AreFewNumbers, IsFoundByRuns}
-use Rattle.tsp_routing.specs.Runs.{keeps, RunRules, AreCharges}
-use Rattle.tsp_routing.specs.declared.memory_key.MemoryKey.{MemoryKey}
-use Rattle.tsp_routing.specs.states.GivenMemories.{near_in, free_rows}
-use Rattle.tsp_routing.specs.states.MemoryTables.{key_place_in, IsKeyPlace, AreMemoriesOf}
-use Rattle.tsp_routing.specs.states.RowHalves.{IsSmallRow}
-use Rattle.tsp_routing.specs.states.RunTables.{item_lists, rules_by}
 use Rattle.tsp_routing.proofs.CutNeeds.{no_depot}
 use Rattle.tsp_routing.proofs.JudgedLists.{has_both}
 use Rattle.tsp_routing.proofs.PlanJudging.{few_customers, plan_numbers_small}
+use Rattle.tsp_routing.proofs.Prelude.{◌≡◌, ℕ, zero, suc, ◌+◌, ◌<◌, ◌^◌, List, [], ◌∷◌, ◌++◌, map, drop, length, get_or, refl, sym, ap, ◌∙◌, subst, ℤ, drop_more, append_assoc, map_push, length-map, AllByRecursion, recursion_from_All, All-from_recursion, All, are_whole, IsStepOf, ◌≤◌, ◌==◌, Bool, true, false, take, arith, inl, inr, if◌then◌else◌, ints, pos, ◌+ℤ◌, ◌*ℤ◌, ◌≤ℤ◌, Some, Vec, All-weaker, cases_eq, ne_eqb, length-append, length-drop, get_or-map, most_nodes, IsNode, IsCustomer, as_leaf_numbers, split_at, entry, families_with, Crossings, Decision}
 use Rattle.tsp_routing.proofs.RouteProducts.{sizes_low}
+use Rattle.tsp_routing.specs.KeptStates.{HasTooManyStates}
+use Rattle.tsp_routing.specs.Memories.{row_keys, keys_of, AreMemories}
+use Rattle.tsp_routing.specs.PlanVerdicts.{ArePlanNumbers, most_of_multipliers, sizes_total}
+use Rattle.tsp_routing.specs.RunBounds.{leaf_rules, IsRunBound}
+use Rattle.tsp_routing.specs.RunTrees.{number_place, placed_changes, step_with_places, placed_steps, owner_of, near_of, IsGoodRow, row_at, AreGoodRows, AreGoodLists, rows_kept, IsGoodMemory, charged_rows, AreRunNumbers, RunTree, AreFewNumbers, IsFoundByRuns}
+use Rattle.tsp_routing.specs.Runs.{keeps, RunRules, AreCharges}
+use Rattle.tsp_routing.specs.declared.demands.Demands.{Demands}
+use Rattle.tsp_routing.specs.declared.memories.MemoryKey.{MemoryKey}
+use Rattle.tsp_routing.specs.states.Demands.{loads_problem}
+use Rattle.tsp_routing.specs.states.JudgedMemory.{IsNearTable}
+use Rattle.tsp_routing.specs.states.MemoryTables.{near_in, free_rows, key_place_in, IsKeyPlace, AreMemoriesOf}
+use Rattle.tsp_routing.specs.states.RunJudged.{tree_in, AreTablesFor, IsSmallRow}
+use Rattle.tsp_routing.specs.states.RunTables.{item_lists, rules_by}
+
+pub map_pushed : {X Y : Type 0} (f : X → Y) (done new whole : List Y) (xs : List X) (index : ℕ) (d : X) → index < length xs
+    → new ≡ done ++ f (get_or xs index d) ∷ [] → done ++ map f (drop index xs) ≡ whole → new ++ map f (drop (index + 1) xs) ≡ whole
+map_pushed {X} {Y} f done new whole xs index d lt is before =
+    let own : Y = f (get_or xs index d) in
+    let rest : List Y = map f (drop (index + 1) xs) in
+    let split : map f (drop index xs) ≡ own ∷ rest = ap (λ (ys : List X). map f ys) (drop_more xs index d lt) in
+    ap (λ (ys : List Y). ys ++ rest) is
+    ∙ (append_assoc done (own ∷ []) rest
+    ∙ (sym (ap (λ (ys : List Y). done ++ ys) split) ∙ before))
+
+-- a tree with places is as whole as the one without
+pub whole_placed : (n families : ℕ) (count : ℕ) (steps : List listed.Step) → are_whole count (placed_steps n families steps) ≡ are_whole count steps
+whole_placed n families zero [] = refl
+whole_placed n families zero (step ∷ steps) = refl
+whole_placed n families (suc count) [] = refl
+whole_placed n families (suc count) (listed.Branch a b ∷ steps) = whole_placed n families (suc (suc count)) steps
+whole_placed n families (suc count) (listed.Leaf changes ∷ steps) = whole_placed n families count steps
+
+-- its steps are as long
+pub steps_placed : (n families places : ℕ) (steps : List listed.Step) → All (IsStepOf places) steps
+    → All (IsStepOf places) (placed_steps n families steps)
+steps_placed n families places steps all = All-from_recursion (IsStepOf places) (placed_steps n families steps)
+    (each steps (recursion_from_All (IsStepOf places) steps all))
+  where
+    each : (xs : List listed.Step) → AllByRecursion (IsStepOf places) xs → AllByRecursion (IsStepOf places) (placed_steps n families xs)
+    each [] own = tt
+    each (listed.Branch a b ∷ xs) own = (own.0, each xs own.1)
+    each (listed.Leaf changes ∷ xs) own = (
+      subst (λ (k : ℕ). k < 2 ^ 32) (sym (length-map changes (λ (change : ℕ × ℤ). (number_place n families change.0, change.1)))) own.0,
+      each xs own.1,
+    )
+
+-- one step more
+pub steps_pushed : (n families : ℕ) (done new : List TreeStep) (whole : List listed.Step) (steps : List TreeStep) (index : ℕ)
+    (own : TreeStep) → index < length steps → new ≡ done ++ own ∷ []
+    → step_of own ≡ step_with_places n families (step_of (get_or steps index own))
+    → steps_of done ++ placed_steps n families (steps_of (drop index steps)) ≡ whole
+    → steps_of new ++ placed_steps n families (steps_of (drop (index + 1) steps)) ≡ whole
+steps_pushed n families done new whole steps index own lt is placed before =
+    let rest : List listed.Step = placed_steps n families (steps_of (drop (index + 1) steps)) in
+    let split : placed_steps n families (steps_of (drop index steps)) ≡ step_of own ∷ rest =
+    ap (λ (xs : List TreeStep). placed_steps n families (steps_of xs)) (drop_more steps index own lt)
+    ∙ ap (λ (s : listed.Step). s ∷ rest) (sym placed) in
+    ap (λ (xs : List TreeStep). steps_of xs ++ rest) is
+    ∙ (ap (λ (xs : List listed.Step). xs ++ rest) (map_push step_of done own)
+    ∙ (append_assoc (steps_of done) (step_of own ∷ []) rest
+    ∙ (sym (ap (λ (xs : List listed.Step). steps_of done ++ xs) split) ∙ before)))
+
+-- as many steps
+pub placed_long : (n families : ℕ) (placed steps : List TreeStep) → steps_of placed ≡ placed_steps n families (steps_of steps)
+    → length placed ≡ length steps
+placed_long n families placed steps is =
+    sym (length-map placed step_of)
+    ∙ (ap (λ (xs : List listed.Step). length xs) is
+    ∙ (length-map (steps_of steps) (step_with_places n families) ∙ length-map steps step_of))
 
 -- ---- rows with their charges
 
@@ -198,7 +255,7 @@ small_rows n depot rows few good = λ k d lt.
 
 -- ---- good numbers as they are read
 
--- where as many are read as there are nodes
+-- if as many are read as there are nodes
 pub run_numbers_read : (n p families rows : ℕ) (numbers : List ℤ) → p ≡ n
     → AreRunNumbers p families rows (as_leaf_numbers (take p numbers) (drop p numbers)) → AreRunNumbers n families rows (split_at n numbers)
 run_numbers_read n p families rows numbers same good =

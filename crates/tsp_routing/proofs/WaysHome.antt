@@ -1,4 +1,4 @@
--- The numbers of the table of ways home are completions.
+-- For src/run_leaf.rt: the numbers of its table are completions.
 use Rattle.tsp_routing.proofs.Prelude.{◌≡◌, ◌≢◌, ℕ, ◌+◌, zero, suc, ◌-◌, ◌*◌, ◌≤◌, ◌<◌, List, [], ◌∷◌, ◌++◌, length, get_or, refl, sym, ap, ◌∙◌, subst, arith, inl, inr, ◌⊎◌, ℤ, pos, neg_ℤ, ◌+ℤ◌, ◌≤ℤ◌, ◌<ℤ◌, slice_index_or, Vec, ints, cases_eq, IsNode, IsCustomer, least_at}
 use Rattle.tsp_routing.specs.PlanBounds.{most_link}
 use Rattle.tsp_routing.specs.Runs.{RunRules, MayServe}

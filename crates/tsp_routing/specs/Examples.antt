@@ -1,4 +1,5 @@
--- The rectangle with the sides 3 and 4 as a routing problem, and certificates for it.
+-- The rectangle with the sides 3 and 4 as a routing problem, and certificates for it. Only for src/examples.rt and its
+-- lemmas.
 use Rattle.tsp_routing.specs.Prelude.{ℕ, true, false, List, [], Option, ℤ, pos, negsuc, Step, Branch, Leaf, RoutingProblem, Decision, Family, family_with}
 use Rattle.std.specs.Prelude.{◌∷◌}
 use Rattle.tsp_cases.specs.Examples.{cost_in}
@@ -29,11 +30,11 @@ above set half = record { pair = (set, half); taken = false }
 
 -- ---- walks
 
--- a walk where each customer loads 4, and a route carries 8
+-- a walk in which each customer loads 4, if a route carries 8
 abbrev pub IsQRouteByDemand : List ℕ → Type 0
 IsQRouteByDemand nodes = IsQRoute 4 1 (load_in (rectangle_with (pos 8)) 1 0) (capacity_in_parts (rectangle_with (pos 8)) 1 0) nodes
 
--- a walk in units of 5, where each customer loads 1, and a route carries 7
+-- a walk in units of 5, in which each customer loads 1, if a route carries 7
 abbrev pub IsQRouteInFives : List ℕ → Type 0
 IsQRouteInFives nodes = IsQRoute 4 1 (load_in (rectangle_with (pos 8)) 5 3) (capacity_in_parts (rectangle_with (pos 8)) 5 3) nodes
 
@@ -63,7 +64,7 @@ three_potentials each = Leaf ((2, each) ∷ (3, each) ∷ (4, each) ∷ []) ∷ 
 abbrev pub CertificateHas : ℤ → List (List (List ℕ)) → List Step → Option ℤ → Type 0
 CertificateHas capacity families steps found = IsBoundFound (rectangle_with capacity) (pos 1) 1 families steps found
 
--- A branch on the set 3 4: where a plan crosses it at most twice, its multiplier is -1; where it does at least four
+-- A branch on the set 3 4: if a plan crosses it at most twice, its multiplier is -1; if it does at least four
 -- times, it is 2.
 abbrev pub branch_on_two : List Step
 branch_on_two = Branch 5 1 ∷ Leaf ((5, negsuc 0) ∷ []) ∷ Leaf ((5, pos 3) ∷ []) ∷ []

@@ -1,6 +1,7 @@
 -- Circle 3 of docs/trust.md.
--- Kept states: the states of runs that a programme over states has to keep, by completion bounds. The completions are
--- plain: a way home may visit customers in any order, also back and forth between two of them.
+-- Kept states: the states of runs that label setting has to keep, by completion bounds. The completions are plain: a
+-- way home may visit customers in any order, also back and forth between two of them. The number of kept states decides
+-- whether a certificate is accepted; src/kept_states.rt counts them.
 use Rattle.tsp_routing.specs.Prelude.{ℕ, false, List, [], length, Some, ℤ, All, AllPairs, IsCustomer}
 use Rattle.std.specs.Prelude.{◌≡◌, ◌⊎◌, ◌↔◌, ◌≤◌, ◌+◌, ◌∷◌, ◌+ℤ◌, ◌≤ℤ◌, ◌<ℤ◌}
 use Rattle.tsp_routing.specs.QRoutes.{IsLeastAmong}
@@ -82,7 +83,7 @@ pub record IsLeastKeptRun (rules : RunRules) (limit each : ℤ) : Type 0 where
 
 -- ---- the theorems
 
--- Where there is a completion, a state is kept exactly where its weight so far and the completion are below the limit.
+-- If there is a completion, a state is kept exactly if its weight so far and the completion are below the limit.
 abbrev pub CompletionsTellKeptStates : Type 0
 CompletionsTellKeptStates = (rules : RunRules) (limit : ℤ) (state : RunState) (weight least : ℤ)
     → IsCompletion rules state.load state.last least → (IsKeptState rules limit state weight ↔ ((weight +ℤ least) <ℤ limit))

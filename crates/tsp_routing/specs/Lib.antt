@@ -1,4 +1,6 @@
--- The files of definitions of this crate. Crates above may import them.
+-- Definitions on routes: plans and the sets that they cross (PlanLinks), bounds by q-routes (QRoutes, PlanBounds,
+-- PlanVerdicts), and bounds by runs (Runs, Memories, Starts, KeptStates, RunBounds, RunTrees, RunVerdicts). tsp_verdict
+-- and tsp_judge build on the verdicts and on plans.
 pub mod Prelude
 pub mod states
 pub mod PlanLinks

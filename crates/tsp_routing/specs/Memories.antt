@@ -1,4 +1,6 @@
--- The memory of a run as a word: what it says of the customers and of the rows that its last customer keeps.
+-- The memory of a run as a word: what it says about the customers and the rows that its last customer keeps.
+-- src/memories.rt keeps a `RunState` (Runs.antt) in this form. In no circle of docs/trust.md, because no bound is
+-- defined by it.
 use Rattle.tsp_routing.specs.Prelude.{ℕ, zero, suc, nat_le, Bool, true, false, List, [], map, length, slice_index_or, ℤ, pos, All, IsNode, has}
 use Rattle.std.specs.Prelude.{◌≡◌, ◌+◌, ◌-◌, ◌*◌, ◌≤◌, if◌then◌else◌, ◌∷◌, ◌++◌}
 use Rattle.tsp_routing.specs.Runs.{keeps, RunRules, RunState}

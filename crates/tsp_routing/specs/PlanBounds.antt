@@ -1,5 +1,6 @@
 -- Circle 3 of docs/trust.md.
--- The bound of a certificate for routes, as a theorem: of a leaf by its least walk, and of the tree by its leaves.
+-- The bound of a certificate for routes, as a theorem: a leaf is bounded by its least q-route, and the tree by its
+-- leaves. src/plan_leaf.rt computes it. Also how large the numbers are, on which proofs against overflow rest.
 use Rattle.tsp_routing.specs.Prelude.{All, ℕ, negsuc, int_lt, max, min, not, List, [], length, ℤ, pos, true, Option, Some, None, IsScale, entry, IsLeastBound, weight_between, RoutingProblem, plan_length, length_of, LeafNumbers, CaseStep, are_case_trees, leaves_of, Family, Decision}
 use Rattle.std.specs.Prelude.{◌+◌, ◌^◌, ◌*◌, ◌-◌, ◌==◌, ◌&&◌, if◌then◌else◌, ◌∷◌, ◌+ℤ◌, ◌-ℤ◌, ◌*ℤ◌, ◌≤ℤ◌, ◌≡◌}
 use Rattle.tsp_cases.specs.CaseTrees.{multiplied, combed, IsLeastFound}
@@ -10,7 +11,7 @@ use Rattle.tsp_routing.specs.QRoutes.{IsQRoute, IsLeastAmong}
 abbrev pub most_link : ℕ
 most_link = 1302000000000000000
 
--- the capacity of a route, in parts of units, where a table of two nodes or more has 10,000,000 entries
+-- the capacity of a route, in parts of units, if a table of two nodes or more has 10,000,000 entries
 abbrev pub most_capacity_in_parts : ℕ
 most_capacity_in_parts = 5000000
 
@@ -63,7 +64,7 @@ abbrev pub q_route_weight : ℤ → List ℤ → List Family → List ℤ → (�
 q_route_weight scale potentials families multipliers cost =
     combed (multiplied families multipliers) (weight_between scale potentials cost)
 
--- the bound of a leaf where each route weighs `each` at least: there are `fewest` routes or more, and at most as many
+-- the bound of a leaf if each route weighs `each` at least: there are `fewest` routes or more, and at most as many
 -- as customers
 pub record IsPlanBound (problem : RoutingProblem) (scale : ℤ) (potentials : List ℤ) (families : List Family) (multipliers : List ℤ)
     (case : List Decision) (each bound : ℤ) : Type 0 where
@@ -88,7 +89,7 @@ PlanBoundsBoundPlans = (problem : RoutingProblem) (scale : ℤ) (potentials : Li
 
 -- ---- the bound of a certificate for routes
 
--- the least weight of a walk under the numbers of a leaf; None where there is no walk
+-- the least weight of a walk under the numbers of a leaf; None if there is no walk
 abbrev pub IsLeastQRoute : RoutingProblem → ℤ → ℕ → ℕ → List Family → LeafNumbers → Option ℤ → Type 0
 IsLeastQRoute problem scale unit light families numbers least =
     IsLeastAmong (IsQRoute problem.nodes problem.depot (load_in problem unit light) (capacity_in_parts problem unit light))
@@ -101,19 +102,19 @@ pub record IsQRouteBound (problem : RoutingProblem) (scale : ℤ) (unit light : 
   pub least : IsLeastQRoute problem scale unit light families numbers (Some each)
   pub bound_is : IsPlanBound problem scale numbers.potentials families numbers.multipliers case each bound
 
--- what is found of a leaf: its bound, or none where there is no walk
+-- what is found for a leaf: its bound, or none if there is no walk
 abbrev pub IsFoundByQRoutes : RoutingProblem → ℤ → ℕ → ℕ → List Family → List Decision × LeafNumbers → Option ℤ → Type 0
 IsFoundByQRoutes problem scale unit light families (case, numbers) (Some bound) =
     IsQRouteBound problem scale unit light families case numbers bound
 IsFoundByQRoutes problem scale unit light families (case, numbers) None =
     IsLeastQRoute problem scale unit light families numbers None
 
--- the bound of a tree: the least bound of a leaf; None where no leaf has one
+-- the bound of a tree: the least bound of a leaf; None if no leaf has one
 abbrev pub IsPlanTreeBound : RoutingProblem → ℤ → ℕ → ℕ → List Family → List CaseStep → Option ℤ → Type 0
 IsPlanTreeBound problem scale unit light families steps found =
     IsLeastFound (IsFoundByQRoutes problem scale unit light families) (leaves_of ([] ∷ []) steps) found
 
--- a bound is at most the length of every filled plan; where there is none, there is no filled plan
+-- A bound is at most the length of every filled plan. If there is no bound, there is no filled plan.
 abbrev pub BoundsPlansIfAny : RoutingProblem → Option ℤ → Type 0
 BoundsPlansIfAny problem (Some bound) = BoundsPlans problem bound
 BoundsPlansIfAny problem None = HasNoPlan problem

@@ -1,9 +1,10 @@
 -- Circles 1 and 3 of docs/trust.md.
--- The links of a plan, the sets of customers that routes cross, what a set demands, and how often a plan crosses it: at
--- least, and at most.
-use Rattle.tsp_routing.specs.Prelude.{All, ℕ, List, [], length, ℤ, pos, nat_abs, max, min, Bool, true, false, not, zero, suc, most_nodes, IsNode, nodes_to, links, sum_int_by, RoutingProblem, IsCustomer, IsPlan, plan_length, IsLeastRoutes, CaseStep, are_case_trees, leaves_of, cases_of, family_crossings, Family, Decision}
+-- The links of a plan, the sets of customers that routes cross, what a set demands, and how often a plan crosses it, at
+-- least and at most. Accepted.antt in tsp_judge uses `IsFilledPlan`, a plan without empty routes, and its bounds.
+use Rattle.tsp_routing.specs.Prelude.{All, ℕ, List, [], length, ℤ, pos, nat_abs, max, min, Bool, true, false, not, zero, suc, most_nodes, IsNode, nodes_to, links, sum_int_by, RoutingProblem, IsCustomer, IsPlan, plan_length, IsLeastRoutes, family_crossings, Family, Decision}
 use Rattle.std.specs.Prelude.{◌≡◌, ◌≢◌, ◌∷◌, ◌++◌, ◌≤◌, ◌-◌, ◌+ℤ◌, ◌-ℤ◌, ◌*ℤ◌, ◌≤ℤ◌, ◌+◌, ◌*◌, ◌/◌, ◌==◌, if◌then◌else◌, ◌&&◌, ◌⊎◌}
 use Rattle.tsp_theory.specs.Tree.{weight_of, crossing}
+use Rattle.tsp_cases.specs.Cases.{SolutionKind, LeavesAreKept}
 
 -- the links of a plan: each route goes from the depot through its nodes and back
 abbrev pub plan_links : ℕ → List (List ℕ) → List (ℕ × ℕ)
@@ -11,7 +12,7 @@ plan_links depot [] = []
 plan_links depot (route ∷ routes) = links (depot ∷ route) ++ plan_links depot routes
 
 -- A plan each of whose routes has a customer. `IsPlan` doesn't forbid a route without one: that has one link, from the
--- depot to itself, and where this costs less than 0 there are plans shorter than any bound. No file lists such a route.
+-- depot to itself, and if this costs less than 0 there are plans shorter than any bound. No file lists such a route.
 pub record IsFilledPlan (problem : RoutingProblem) (routes : List (List ℕ)) : Type 0 where
   pub plan : IsPlan problem routes
   pub each : All (λ route. route ≢ []) routes
@@ -71,7 +72,7 @@ pub record AreUnits (problem : RoutingProblem) (unit light : ℕ) : Type 0 where
   pub some : 1 ≤ unit
   pub light_is : pos light ≡ sum_of_customers problem.nodes problem.depot (is_light problem unit)
 
--- the load of a node, in parts of a unit: where `light` customers demand less than a unit, it has `light + 1` parts
+-- the load of a node, in parts of a unit: if `light` customers demand less than a unit, it has `light + 1` parts
 abbrev pub load_in : RoutingProblem → ℕ → ℕ → ℕ → ℕ
 load_in problem unit light node =
     if units_of problem unit node == 0 then 1 else (units_of problem unit node * (light + 1))
@@ -160,7 +161,7 @@ set_at [] place node = false
 set_at (family ∷ families) zero node = family.sets.handle node
 set_at (family ∷ families) (suc place) node = set_at families place node
 
--- A limit is a decision on a set: a pair of n + k for the k-th set, counted from 1, and a number t. Where it is taken,
+-- A limit is a decision on a set: a pair of n + k for the k-th set, counted from 1, and a number t. If it is taken,
 -- routes cross the set at most 2t times, else at least 2t + 2 times.
 abbrev pub IsWithinLimit : ℤ → Bool → ℕ → Type 0
 IsWithinLimit crossed true half = crossed ≤ℤ pos (2 * half)
@@ -175,11 +176,13 @@ KeepsLimit n families depot routes limit =
 abbrev pub KeepsEachLimit : ℕ → List Family → ℕ → List (List ℕ) → List Decision → Type 0
 KeepsEachLimit n families depot routes case = All (KeepsLimit n families depot routes) case
 
--- routes keep those of some of these cases
-abbrev pub KeepsLimitsOfOne : ℕ → List Family → ℕ → List (List ℕ) → List (List Decision) → Type 0
-KeepsLimitsOfOne n families depot routes [] = ⊥
-KeepsLimitsOfOne n families depot routes (case ∷ cases) =
-    KeepsEachLimit n families depot routes case ⊎ KeepsLimitsOfOne n families depot routes cases
+-- filled plans as a kind of solution, whose decisions are such limits
+abbrev pub plans : RoutingProblem → List Family → SolutionKind (List (List ℕ))
+plans problem families = record {
+  IsSolution = IsFilledPlan problem;
+  length_is = plan_length problem.cost problem.depot;
+  Keeps = KeepsLimit problem.nodes families problem.depot;
+}
 
 -- ---- the theorems
 
@@ -193,8 +196,6 @@ abbrev pub PlansKeepEitherLimit : Type 0
 PlansKeepEitherLimit = (part : ℕ → Bool) (depot : ℕ) (routes : List (List ℕ)) (half : ℕ)
     → IsWithinLimit (part_crossed part depot routes) true half ⊎ IsWithinLimit (part_crossed part depot routes) false half
 
--- So where they keep the limits of a case, they keep those of a leaf of the tree that begins with it.
+-- So if they keep the limits of a case, they keep those of a leaf of the tree that begins with it.
 abbrev pub PlansKeepLeaves : Type 0
-PlansKeepLeaves = (n : ℕ) (families : List Family) (depot : ℕ) (given : List Decision) (steps : List CaseStep)
-    (routes : List (List ℕ)) → are_case_trees 1 steps ≡ true → KeepsEachLimit n families depot routes given
-    → KeepsLimitsOfOne n families depot routes (cases_of (leaves_of (given ∷ []) steps))
+PlansKeepLeaves = (problem : RoutingProblem) (families : List Family) → LeavesAreKept (plans problem families)

@@ -1,7 +1,9 @@
 -- Circle 3 of docs/trust.md.
--- What makes a certificate for routes good: its sets, branches and leaves; and its bound by q-routes.
+-- What makes a certificate for routes good (its sets, branches and leaves), and its bound by q-routes. src/verdict.rt
+-- judges by it. RunVerdicts.antt has the whole verdict.
 use Rattle.tsp_routing.specs.Prelude.{All, ℕ, List, unsigned_abs, length, ℤ, pos, [], slice_index_or, Option, Step, ArePotentials, sum_int_by, RoutingProblem, IsCustomer, demand_of, LeafNumbers, families_with, HasEachOnce, BeginsWithin, branch_pairs, IsFirstBadBranch, AreGoodLeavesBy, IsFirstBadLeafBy, listed_steps}
-use Rattle.std.specs.Prelude.{◌+◌, ◌≡◌, ◌≤ℤ◌, ◌≢◌, ◌≤◌, ◌<◌, ◌∷◌, ◌*◌}
+use Rattle.std.specs.Prelude.{◌+◌, ◌-◌, ◌≡◌, ◌≤ℤ◌, ◌≢◌, ◌≤◌, ◌<◌, ◌∷◌, ◌*◌}
+use Rattle.tsp_theory.specs.First.{IsFirstBad}
 use Rattle.tsp_cases.specs.declared.family.Crossings.{Crossings}
 use Rattle.tsp_routing.specs.PlanBounds.{IsPlanTreeBound}
 use Rattle.tsp_routing.specs.PlanLinks.{IsCutFamily, AreUnits, capacity_in_parts}
@@ -50,11 +52,9 @@ pub record IsGoodSet (n depot : ℕ) (sets : List (List ℕ)) : Type 0 where
   pub once : HasEachOnce customers
 
 -- the first family that isn't such a set, counted from 1
-pub record IsFirstBadSet (n depot : ℕ) (families : List (List (List ℕ))) (first : ℕ) : Type 0 where
-  pub least : 1 ≤ first
-  pub most : first ≤ length families
-  pub before : (place : ℕ) → place + 1 < first → IsGoodSet n depot (slice_index_or families place [])
-  pub bad : (place : ℕ) → place + 1 ≡ first → IsGoodSet n depot (slice_index_or families place []) → ⊥
+abbrev pub IsFirstBadSet : ℕ → ℕ → List (List (List ℕ)) → ℕ → Type 0
+IsFirstBadSet n depot families first =
+    IsFirstBad (λ place. IsGoodSet n depot (slice_index_or families (place - 1) [])) families first
 
 -- all families are such sets, and `crossed` says how often a plan crosses each at least
 pub record AreCapacityCuts (problem : RoutingProblem) (families : List (List (List ℕ))) (crossed : List Crossings) : Type 0 where

@@ -1,8 +1,9 @@
--- What the definitions and contracts of this crate use most of other crates, passed on from one place.
+-- Names of other crates, passed on to the files of this crate alone. It defines nothing: add or remove names freely;
+-- `tests/repository/names` sees that each is imported from here.
 pub use Rattle.std.specs.Global.{Vec}
 pub use Rattle.std.specs.List.{All, AllByRecursion, AllPairs, Contains}
 pub use Rattle.std.specs.Prelude.{Bool, IfOk, IfSome, IsTrue, List, None, Option, Some, drop, false, int_lt, length, map, max, min, nat_abs, nat_le, neg_ℤ, negsuc, not, pos, slice_index_or, suc, take, true, unsigned_abs, zero, ℕ, ℤ, []}
-pub use Rattle.tsp_cases.specs.Cases.{CaseStep, LeafNumbers, are_case_trees, cases_of, leaves_of}
+pub use Rattle.tsp_cases.specs.Cases.{CaseStep, LeafNumbers, are_case_trees, leaves_of}
 pub use Rattle.tsp_cases.specs.Crossings.{AreFamiliesOf, AreSetsOf, families_in, has, lists_of}
 pub use Rattle.tsp_cases.specs.Families.{Family, HasEachOnce, families_with, family_crossings, family_with}
 pub use Rattle.tsp_cases.specs.ListedCases.{AreGoodLeavesBy, BeginsWithin, IsFirstBadBranch, IsFirstBadLeafBy, IsStepOf, as_leaf_numbers, branch_pairs, listed_steps}

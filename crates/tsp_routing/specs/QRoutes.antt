@@ -1,5 +1,6 @@
 -- Circle 3 of docs/trust.md.
--- The least walk from the depot and back under a load, and the table by which it is found.
+-- The least q-route: a walk from the depot and back within the capacity. Bounds rest on the first part. The second part
+-- is the table by which src/least_q_route.rt finds the least weight.
 use Rattle.tsp_routing.specs.Prelude.{All, AllByRecursion, Option, Some, None, ℤ, ℕ, List, [], pos, sum_int_by, length_of, RoutingProblem, IsCustomer, links_to}
 use Rattle.std.specs.Prelude.{◌≡◌, ◌≤ℤ◌, ◌≢◌, ◌∷◌, ◌⊎◌, ◌*◌, ◌≤◌, ◌==◌, if◌then◌else◌, ◌+ℤ◌}
 use Rattle.tsp_theory.specs.Tree.{weight_of}
@@ -77,7 +78,7 @@ abbrev pub least_from : QRouteEntry → ℕ → ℤ
 least_from entry from = if entry.next == from then entry.other else entry.least
 
 -- The entry is no more than the weight of a rest on which `next` comes next: its least weight is no more, nor is its
--- other one, where that is about such rests.
+-- other one, if that is about such rests.
 abbrev pub IsAtMost : QRouteEntry → ℕ → ℤ → Type 0
 IsAtMost entry next weight = (entry.least ≤ℤ weight) × (next ≢ entry.next → entry.other ≤ℤ weight)
 

@@ -1,5 +1,6 @@
 -- Circle 3 of docs/trust.md.
--- The bound of a leaf for routes by the least weight of a run: by walks with memory.
+-- The bound of a leaf for routes by the least weight of a run: by walks with memory. src/run_bound.rt computes it, and
+-- a law in src/laws.rt says that no plan is shorter.
 use Rattle.tsp_routing.specs.Prelude.{ℕ, List, ℤ, pos, All, RoutingProblem, plan_length, IsScale, entry, IsLeastBound, Family, Decision, LeafNumbers}
 use Rattle.std.specs.Prelude.{◌≡◌, ◌⊎◌, ◌+◌, ◌*◌, ◌-◌, ◌+ℤ◌, ◌-ℤ◌, ◌*ℤ◌, ◌≤ℤ◌}
 use Rattle.tsp_routing.specs.PlanLinks.{IsRoutable, IsFilledPlan, sum_of_customers, IsCutFamily, KeepsEachLimit, AreUnits, load_in, capacity_in_parts}

@@ -1,4 +1,4 @@
--- Small rules on which runs, charges and the bound of a leaf are evaluated.
+-- Small rules on which runs, charges and the bound of a leaf are evaluated. Only for src/examples.rt and its lemmas.
 use Rattle.tsp_routing.specs.Prelude.{ℕ, Bool, List, [], ℤ, pos, negsuc, RoutingProblem, LeafNumbers}
 use Rattle.std.specs.Prelude.{◌≡◌, ◌∷◌, if◌then◌else◌, ◌==◌}
 use Rattle.tsp_cases.specs.Examples.{cost_in}
@@ -44,7 +44,7 @@ AreRun nodes = IsRunUnder (five_nodes of_three) nodes
 abbrev pub AreNoRun : List ℕ → Type 0
 AreNoRun nodes = AreRun nodes → ⊥
 
--- the run of these customers weighs this much, where the row's parity isn't kept by customer 5, and where it is
+-- the run of these customers weighs this much, if the row's parity isn't kept by customer 5, and if it is
 abbrev pub RunWeighs : List ℕ → ℤ → Type 0
 RunWeighs nodes weight = run_weight (five_nodes of_three) nodes ≡ weight
 
@@ -81,7 +81,7 @@ rectangle_problem = record {
 abbrev pub lone_customers : LeafNumbers
 lone_customers = record { potentials = pos 0 ∷ negsuc 2 ∷ negsuc 4 ∷ negsuc 3 ∷ []; multipliers = [] }
 
--- the bound of the rectangle by these potentials, where the row of all three customers has this charge
+-- the bound of the rectangle by these potentials, if the row of all three customers has this charge
 abbrev pub RectangleHas : ℤ → ℤ → Type 0
 RectangleHas charge bound =
     IsRunBound rectangle_problem (pos 1) 1 0 [] [] lone_customers (λ node. []) ((of_three, charge) ∷ []) bound

@@ -1,7 +1,9 @@
 -- Circle 3 of docs/trust.md.
--- Memories and subset rows of a certificate for routes, and its bound by least runs, as a theorem.
+-- Memories and subset rows of a certificate for routes, and its bound by least runs, as a theorem. Also which lists and
+-- rows are good: src/judged_memory.rt finds the first bad one, which becomes a reason.
 use Rattle.tsp_routing.specs.Prelude.{All, ℕ, nat_le, Bool, true, List, [], map, take, drop, length, ℤ, pos, slice_index_or, Option, Some, None, Step, Branch, Leaf, entry, RoutingProblem, IsCustomer, LeafNumbers, CaseStep, are_case_trees, leaves_of, Family, HasEachOnce, Decision, AreGoodLeavesBy, IsFirstBadLeafBy, listed_steps, IsScale}
 use Rattle.std.specs.Prelude.{◌+◌, ◌-◌, ◌*◌, ◌≡◌, ◌≢◌, ◌≤◌, ◌<◌, ◌≤ℤ◌, ◌*ℤ◌, ◌==◌, ◌∷◌, ◌++◌, ◌⊎◌, if◌then◌else◌}
+use Rattle.tsp_theory.specs.First.{IsFirstBad}
 use Rattle.tsp_cases.specs.CaseTrees.{IsLeastFound}
 use Rattle.tsp_routing.specs.PlanBounds.{BoundsPlansIfAny}
 use Rattle.tsp_routing.specs.PlanLinks.{IsRoutable, IsCutFamily, AreUnits}
@@ -48,7 +50,7 @@ pub record IsGoodRow (n depot : ℕ) (row : SubsetRow) : Type 0 where
   pub inside : All (IsCustomer n depot) (row.set ++ row.further)
   pub once : HasEachOnce (row.set ++ row.further)
 
--- the row at a place; an empty one where there is none
+-- the row at a place; an empty one if there is none
 abbrev pub row_at : List SubsetRow → ℕ → SubsetRow
 row_at rows place = slice_index_or rows place (record { set = []; further = [] })
 
@@ -56,11 +58,8 @@ abbrev pub AreGoodRows : ℕ → ℕ → List SubsetRow → Type 0
 AreGoodRows n depot rows = (place : ℕ) → place < length rows → IsGoodRow n depot (row_at rows place)
 
 -- the first row that isn't such a row, counted from 1
-pub record IsFirstBadRow (n depot : ℕ) (rows : List SubsetRow) (first : ℕ) : Type 0 where
-  pub least : 1 ≤ first
-  pub most : first ≤ length rows
-  pub before : (place : ℕ) → place + 1 < first → IsGoodRow n depot (row_at rows place)
-  pub bad : (place : ℕ) → place + 1 ≡ first → IsGoodRow n depot (row_at rows place) → ⊥
+abbrev pub IsFirstBadRow : ℕ → ℕ → List SubsetRow → ℕ → Type 0
+IsFirstBadRow n depot rows first = IsFirstBad (λ place. IsGoodRow n depot (row_at rows (place - 1))) rows first
 
 -- ---- how much a customer keeps
 
@@ -85,7 +84,7 @@ pub record IsGoodMemory (n depot : ℕ) (lists : List (List ℕ)) (rows : List S
   pub rows_are : AreGoodRows n depot rows
   pub fits : (customer : ℕ) → IsCustomer n depot customer → FitsMemory lists rows customer
 
--- the customer of the first bad list; or, where all lists and rows are good, the first customer that keeps too much
+-- the customer of the first bad list; or, if all lists and rows are good, the first customer that keeps too much
 abbrev pub IsBadMemory : ℕ → ℕ → List (List ℕ) → List SubsetRow → ℕ → Type 0
 IsBadMemory n depot lists rows customer = IsFirstBadList n depot lists customer
     ⊎ (AreGoodLists n depot lists × AreGoodRows n depot rows × IsFirstFull n depot lists rows customer)

@@ -1,6 +1,7 @@
 -- Circle 3 of docs/trust.md.
--- The verdict on a certificate for routes: its bound, or the first reason against it. A certificate that lists no memory
--- and no subset row bounds leaves by q-routes; every other one bounds them by runs.
+-- The verdict on a branches file for routes (`IsPlanVerdict`): its bound, or the first reason against it. A file
+-- without memories and subset rows bounds leaves by q-routes, every other file by runs. `judge_plans` promises the
+-- verdict, and tsp_verdict puts it into the report.
 use Rattle.tsp_routing.specs.Prelude.{Bool, true, false, ℕ, List, [], length, ℤ, Option, Step, RoutingProblem, families_with, AreGoodLeavesBy, IsFirstBadLeafBy, listed_steps}
 use Rattle.std.specs.Prelude.{◌+◌, ◌≡◌, ◌≤◌, ◌*◌}
 use Rattle.tsp_format.specs.Steps.{SubsetRow}
@@ -32,7 +33,7 @@ IsFirstBadLeafOf true n families rows steps leaf = IsFirstBadRunLeaf n families 
 
 -- ---- how many states the leaves keep
 
--- what all leaves share, where these are the parts of a light load and how often plans cross each family at least
+-- what all leaves share, if these are the parts of a light load and how often plans cross each family at least
 abbrev pub tree_with : RoutingProblem → ℤ → ℕ → List (List (List ℕ)) → List (List ℕ) → List SubsetRow → ℕ → List Crossings → RunTree
 tree_with problem scale unit families lists rows light crossed = record {
   problem = problem;
@@ -126,7 +127,7 @@ IsPlanVerdict problem scale unit families lists rows steps (verdict.Bound found)
     × IsPlanBoundFound (is_by_runs lists rows) problem scale unit families lists rows steps found
 IsPlanVerdict problem scale unit families lists rows steps (verdict.BranchTwice branch) = ⊥
 
--- A bound is at most the length of every filled plan; where there is none, there is no filled plan.
+-- A bound is at most the length of every filled plan. If there is no bound, there is no filled plan.
 abbrev pub VerdictBoundsPlans : RoutingProblem → TreeVerdict → Type 0
 VerdictBoundsPlans problem judged = OnBound (BoundsPlansIfAny problem) judged
 

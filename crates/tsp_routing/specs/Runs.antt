@@ -37,7 +37,7 @@ abbrev pub first_state : RunRules → ℕ → RunState
 first_state rules first = record { load = rules.load first; last = first; seen = λ customer. false; odd = λ row. has row.set first }
 
 -- The state after one more customer. It remembers those that it knew, and the one before it, as far as they are near; a
--- row that it keeps is odd where one of two holds: it was odd, or the customer is in its set.
+-- row that it keeps is odd if one of two holds: it was odd, or the customer is in its set.
 abbrev pub next_state : RunRules → RunState → ℕ → RunState
 next_state rules state next = record {
   load = state.load + rules.load next;

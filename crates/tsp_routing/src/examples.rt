@@ -1,12 +1,13 @@
 //! Laws that state values of the definitions in `specs/`, worked out by hand for a rectangle: how
 //! many routes its customers need, their loads, walks, limits, and the bounds of small
-//! certificates.
+//! certificates. No code calls them. If someone makes the same mistake in a definition and in the
+//! code, every contract still holds, but one of these laws fails.
 
 ghost use Rattle.tsp_routing.specs.Prelude.{[], true, false, None, Some, pos, negsuc, Branch, Leaf, has};
 ghost use Rattle.std.specs.Prelude.{◌≡◌, ◌+◌, ◌-◌, ◌*◌, ◌^◌, ◌∷◌, replicate};
 ghost use Rattle.tsp_routing.specs.Examples.{rectangle_with, lone_cut, at_most, above, IsQRouteByDemand, IsQRouteInFives, AreGoodMultipliers, LeafHas, three_potentials, CertificateHas, branch_on_two};
 ghost use Rattle.tsp_routing.specs.PlanBounds.{least_product, least_times, low_of, high_of};
-ghost use Rattle.tsp_routing.specs.PlanLinks.{IsFewest, IsCapacityCut, IsCutFamily, IsWithinLimit, AreUnits, load_in, capacity_in_parts};
+ghost use Rattle.tsp_routing.specs.PlanLinks.{IsFewest, IsCapacityCut, IsCutFamily, IsWithinLimit, AreUnits, load_in, capacity_in_parts, set_at};
 ghost use Rattle.tsp_routing.specs.PlanVerdicts.{AreGoodBranches, IsGoodSet, IsFirstBadPlanBranch, most_of_multipliers, most_entries, HasTooManyLoads};
 ghost use Rattle.tsp_routing.specs.RunExamples.{of_three, of_four, given_row, AreRun, AreNoRun, RunWeighs, KeptRunWeighs, KeepsKeys, HasMember, HasWord, StartWeighs, RectangleHas};
 ghost use Rattle.tsp_routing.specs.RunTrees.{IsGoodList, IsGoodRow, FitsMemory, number_place};
@@ -14,8 +15,8 @@ ghost use Rattle.tsp_routing.specs.KeptStates.{most_states};
 ghost use Rattle.tsp_routing.specs.RunVerdicts.{is_by_runs};
 ghost use Rattle.tsp_routing.specs.Runs.{half};
 
-/// Which certificates are judged by runs, and the places of the numbers of a leaf with 4 nodes and 2
-/// families: rows follow on families, and an index between them is none.
+/// Which certificates are judged by runs, and the places of the numbers of a leaf with 4 nodes and
+/// 2 families: rows follow families, and an index between them has no place.
 pub fn examples_of_places()
     ensures neither { is_by_runs [] [] ≡ false }
     ensures list { is_by_runs ([] ∷ []) [] ≡ true }
@@ -28,8 +29,8 @@ pub fn examples_of_places()
     ensures second_row { number_place 4 2 10006 ≡ 8 }
 {}
 
-/// How many routes carry a demand of 12, how many a set of these customers needs, and how often a
-/// plan crosses the set at least.
+/// How many routes carry a demand of 12, how many a set of these customers needs, and the least
+/// number of times that a plan crosses the set.
 pub fn examples_of_needs()
     ensures fewest { IsFewest (rectangle_with (pos 8)) 2 }
     ensures fewest_of_full { IsFewest (rectangle_with (pos 4)) 3 }
@@ -39,6 +40,16 @@ pub fn examples_of_needs()
     ensures need_of_small_routes { IsCapacityCut (rectangle_with (pos 7)) (has (3 ∷ 4 ∷ [])) 2 }
     ensures crossed { IsCutFamily (rectangle_with (pos 8)) (lone_cut 4 (2 ∷ 3 ∷ 4 ∷ [])) }
     ensures crossed_of_two { IsCutFamily (rectangle_with (pos 8)) (lone_cut 2 (3 ∷ 4 ∷ [])) }
+{}
+
+/// The sets of two families by their place, which counts from 0; after the last there is a set
+/// without nodes.
+pub fn examples_of_sets()
+    ensures first { set_at (lone_cut 2 (3 ∷ 4 ∷ []) ∷ lone_cut 2 (2 ∷ []) ∷ []) 0 3 ≡ true }
+    ensures not_in_the_first { set_at (lone_cut 2 (3 ∷ 4 ∷ []) ∷ lone_cut 2 (2 ∷ []) ∷ []) 0 2 ≡ false }
+    ensures second { set_at (lone_cut 2 (3 ∷ 4 ∷ []) ∷ lone_cut 2 (2 ∷ []) ∷ []) 1 2 ≡ true }
+    ensures not_in_the_second { set_at (lone_cut 2 (3 ∷ 4 ∷ []) ∷ lone_cut 2 (2 ∷ []) ∷ []) 1 3 ≡ false }
+    ensures past_the_last { set_at (lone_cut 2 (3 ∷ 4 ∷ []) ∷ []) 1 3 ≡ false }
 {}
 
 /// The two limits with t = 1, and how often a plan crosses the set 5 at least and at most: by the
@@ -85,8 +96,8 @@ pub fn examples_of_loads()
     ensures load_beside_light { load_in (rectangle_with (pos 8)) 4 3 2 ≡ 4 }
 {}
 
-/// Walks, and lists of nodes that are none: they load too much, turn back, stay at a node, or pass
-/// the depot.
+/// Walks, and lists of nodes that aren't walks: they load too much, turn back, stay at a node, or
+/// pass the depot.
 pub fn examples_of_q_routes()
     ensures two { IsQRouteByDemand (2 ∷ 3 ∷ []) }
     ensures three { ¬ IsQRouteByDemand (2 ∷ 3 ∷ 4 ∷ []) }
@@ -111,7 +122,7 @@ pub fn examples_of_most()
     ensures larger_of_both_signs { ¬ AreGoodMultipliers (pos (2 * 10 ^ 17) ∷ negsuc (10 ^ 17) ∷ []) 2 }
 {}
 
-/// With four nodes the first number of a branch is 4 + k, for family k. It is no node.
+/// With four nodes, the first number of a branch on family k is 4 + k, which isn't a node.
 pub fn examples_of_branches()
     ensures family { AreGoodBranches 4 1 (Branch 5 1 ∷ Leaf [] ∷ Leaf [] ∷ []) }
     ensures second_family { AreGoodBranches 4 2 (Branch 6 1 ∷ Leaf [] ∷ Leaf [] ∷ []) }
@@ -206,7 +217,7 @@ pub fn examples_of_good_lists()
     ensures owner_again { ¬ IsGoodList 5 1 ((2 ∷ 2 ∷ []) ∷ []) 0 }
 {}
 
-/// A customer keeps 64 customers and rows at most, and a leaf 10,000,000 states.
+/// A customer keeps at most 64 customers and rows, and a leaf at most 10,000,000 states.
 pub fn examples_of_full_memories()
     ensures most { FitsMemory ((2 ∷ replicate 64 3) ∷ []) [] 2 }
     ensures more { ¬ FitsMemory ((2 ∷ replicate 65 3) ∷ []) [] 2 }

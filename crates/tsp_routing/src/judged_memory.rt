@@ -1,4 +1,6 @@
-//! Judges what customers remember and subset rows, as a certificate for routes lists them.
+//! Judges the memories and subset rows that a certificate for routes lists. `verdict.rt` calls it
+//! before any leaf is judged. The first fault becomes the reason in the report, so keep the order
+//! of the tests (`AreMemoriesJudged` in `specs/states/JudgedMemory.antt`).
 
 ghost use Rattle.tsp_routing.specs.Prelude.{ℕ, List, [], map, take, drop, length, slice_index_or, All, Vec, IfOk, IsTrue, IsNode, IsCustomer, HasEachOnce, has, most_nodes};
 ghost use Rattle.std.specs.Prelude.{◌≡◌, ◌≤◌, ◌<◌, ◌+◌, ◌++◌, ◌↔◌, if◌then◌else◌};
@@ -8,14 +10,13 @@ ghost use Rattle.tsp_format.specs.states.TreeSteps.{subset_row_of};
 ghost use Rattle.tsp_routing.specs.states.JudgedMemory.{AreListsOf, AreRowsOf, AreListsJudged, AreRowsJudged, IsNearTable, IsKeptWithin, IsFirstFullIn, AreMemoriesJudged};
 ghost use Rattle.tsp_routing.specs.states.RunTables.{item_lists};
 
-use crate::units::Demands;
+use crate::demands::Demands;
 use std::alloc::Global;
 use tsp_cases::mark_nodes;
 use tsp_format::RowSets;
 use tsp_io::{Refused, filled, push};
 
-/// The judgement on memories: what each node remembers, at the place of the node; or the first
-/// fault.
+/// The judgement on memories: what each node remembers, at the node's place, or the first fault.
 #[derive(Drop)]
 pub(crate) enum JudgedMemory {
     /// All lists and rows are good, and no customer keeps too much.
@@ -29,18 +30,18 @@ pub(crate) enum JudgedMemory {
 /// The judgement on rows.
 #[derive(Drop)]
 pub(crate) enum JudgedRows {
-    /// All are good: how many each node keeps.
+    /// All rows are good; this is how many each node keeps.
     Good(Vec<u32>),
-    /// The first bad one, counted from 1.
+    /// The first bad row, counted from 1.
     Bad(usize),
 }
 
-/// What each node remembers; or the first fault of the lists, then of the rows, then the first
+/// What each node remembers, or the first fault: of the lists, then of the rows, and then the first
 /// customer that keeps more than 64 customers and rows.
 ///
 /// # Errors
 ///
-/// Out of memory, of which it takes some for each node and each node of a list or of a row.
+/// If memory runs out. It allocates an entry for each node, and for each node of a list or a row.
 pub(crate) fn judge_memory(
     alloc: Global,
     demands: &Demands,
@@ -69,8 +70,8 @@ pub(crate) fn judge_memory(
     Ok(JudgedMemory::Good(near))
 }
 
-/// The customer of the first list that isn't of different customers, or whose customer has an
-/// earlier one.
+/// The customer of the first bad list: one that doesn't consist of different customers, or whose
+/// customer has an earlier list.
 ///
 /// # Errors
 ///
@@ -93,7 +94,7 @@ fn first_bad_list(
         if owners[owner as usize] {
             return Ok(Some(owner));
         }
-        // Marks from 1 on, since 0 means no mark.
+        // Marks count from 1, because 0 means no mark.
         if !are_customers(demands, &mut marks, index as u32 + 1, list) {
             return Ok(Some(owner));
         }
@@ -102,7 +103,7 @@ fn first_bad_list(
     Ok(None)
 }
 
-/// Whether nodes are customers, none twice. They get the mark, up to the first that comes twice.
+/// Whether the nodes are customers, none of them twice. Marks them, up to the first repeated one.
 fn are_customers(demands: &Demands, marks: &mut [u32], mark: u32, nodes: &[u32]) -> bool
     requires demands { AreDemands demands.now }
     requires inside { All (IsNode demands.now.nodes) nodes.now }
@@ -118,7 +119,7 @@ fn are_customers(demands: &Demands, marks: &mut [u32], mark: u32, nodes: &[u32])
     marks[demands.depot as usize] != mark
 }
 
-/// How many rows each node keeps; or the first bad row.
+/// How many rows each node keeps, or the first bad row.
 ///
 /// # Errors
 ///
@@ -151,7 +152,7 @@ fn is_lone(row: &RowSets) -> bool
     row.set.len() < 2
 }
 
-/// All nodes that keep a row: the set, and then the further ones.
+/// All nodes that keep a row: those of its set, then the others.
 ///
 /// # Errors
 ///
@@ -179,7 +180,7 @@ fn add_nodes(nodes: &mut Vec<u32>, more: &[u32]) -> Result<(), Refused>
     Ok(())
 }
 
-/// Counts one more at each of these nodes, of which none comes twice.
+/// Adds one to the count of each of these nodes, none of which comes twice.
 fn add_ones(counts: &mut [u32], nodes: &[u32])
     requires inside { All (λ node. node < length counts.old) nodes.now }
     requires once { HasEachOnce nodes.now }
@@ -193,7 +194,7 @@ fn add_ones(counts: &mut [u32], nodes: &[u32])
     }
 }
 
-/// What each node remembers, at the place of the node: the nodes behind the first one of its list.
+/// What each node remembers, at the node's place: the nodes after the first one in its list.
 ///
 /// # Errors
 ///
@@ -211,7 +212,7 @@ fn near_by_node(alloc: Global, nodes: u32, lists: &[Vec<u32>]) -> Result<Vec<Vec
     Ok(near)
 }
 
-/// So many lists without nodes.
+/// A number of empty lists.
 ///
 /// # Errors
 ///
@@ -227,7 +228,7 @@ fn no_lists(alloc: Global, count: usize) -> Result<Vec<Vec<u32>>, Refused>
     Ok(lists)
 }
 
-/// The nodes behind the first one.
+/// The nodes after the first one.
 ///
 /// # Errors
 ///

@@ -1,24 +1,40 @@
-//! Label setting: the table of kept states of a leaf, load by load, with a list for each last
-//! customer.
+//! Label setting: the table of kept states (labels) of a leaf, load by load, with a list for each
+//! last customer. `run_bound.rt` calls it. `specs/KeptStates.antt` pins which states are kept and
+//! the limit of 10,000,000, because they decide which certificates are accepted.
+//!
+//! A list has no dominated states: of those with the same memory, only the lightest stays. A
+//! heavier one can be dropped because it would continue exactly as the lighter one does
+//! (`equal_states_go_on_alike` in `laws.rt`).
 
-ghost use Rattle.std.specs.Prelude.{◌≡◌, ◌≤◌, ◌<◌, ◌+◌, ℕ, ℤ, List, length, IfOk, IfSome};
+ghost use Rattle.std.specs.Prelude.{◌≡◌, ◌≤◌, ◌<◌, ◌+◌, ℕ, ℤ, List, length, IfOk, IfSome, ◌≢◌, ◌-◌, ◌*◌, ◌^◌, ◌≤ℤ◌, ◌↔◌};
 ghost use Rattle.tsp_format.specs.Steps.{SubsetRow};
 ghost use Rattle.tsp_routing.specs.KeptStates.{most_states};
+ghost use Rattle.tsp_routing.specs.Prelude.{[], pos, neg_ℤ, slice_index_or, IsTrue, IsNode, IsCustomer};
+ghost use Rattle.tsp_routing.specs.states.Demands.{load_at};
+ghost use Rattle.tsp_routing.specs.states.KeptLists.{count_in_lists, entry_count, AreRisingLists, AreRisingRows, IsStateRowIfFew, AreStateRowsIfFew, rules_of, IsLeafOf, IsStateRow, AreStateRows, IsSizedRow, AreSizedRows, IsKeptList, IsKeptListTo, AreSizedEntries, AreLeastOf, AreRising, AreInOrder, LastStandsFor, IsLeastAdded, list_in};
 ghost use Rattle.tsp_routing.specs.states.RunTables.{item_lists};
-ghost use Rattle.tsp_routing.specs.states.KeptCounts.{count_in_lists, entry_count, AreRisingLists, AreRisingRows, IsStateRowIfFew, AreStateRowsIfFew};
-ghost use Rattle.tsp_routing.specs.states.KeptLists.{rules_of, IsLeafOf, IsStateRow, AreStateRows, IsSizedRow, AreSizedRows};
 
-use crate::kept_list::kept_list;
-use crate::kept_state::KeptState;
-use crate::run_leaf::RunLeaf;
+use crate::run_leaf::{RunLeaf, home_at};
+use crate::run_steps::{Serving, add_nexts, entry_at, first_entry};
 use std::alloc::Global;
-use tsp_io::{Refused, push};
+use tsp_io::{Refused, push, sort};
+use tsp_theory::weight_in;
+
+/// A label: a memory, and the least weight of the starts of runs that end with it. The list that
+/// contains it has its load and its last customer.
+#[derive(Clone, Copy, PartialEq, Eq, PartialOrd, Ord)]
+pub(crate) struct KeptState {
+    pub(crate) word: u64,
+    pub(crate) weight: i128,
+}
+
+// ---- the table of all states
 
 /// The most kept states of a leaf.
 const MOST_STATES: usize = 10_000_000;
 
 /// The kept states: a row for each load from 0 on, with a list for each last customer. `None` if
-/// there are more than 10,000,000.
+/// there are more than 10,000,000 states.
 ///
 /// # Errors
 ///
@@ -45,8 +61,8 @@ pub(crate) fn kept_states(
     Ok(Some(table))
 }
 
-/// The lists of the load that comes next in a table with so many states, which grow by those of
-/// these lists. `None` if they grow above 10,000,000.
+/// The lists for the next load in a table with `count` states. `count` grows by the number of their
+/// states. `None` if it would exceed 10,000,000.
 ///
 /// # Errors
 ///
@@ -83,4 +99,202 @@ fn states_with(
         push(&mut lists, list)?;
     }
     Ok(Some(lists))
+}
+
+// ---- the list of a load and a last customer
+
+/// The list for a last customer and the next load in a table.
+///
+/// # Errors
+///
+/// Out of memory.
+fn kept_list(
+    alloc: Global,
+    leaf: &RunLeaf,
+    table: &[Vec<Vec<KeptState>>],
+    last: u32,
+) -> Result<Vec<KeptState>, Refused>
+    requires last { IsNode leaf.now.nodes.now.nodes last }
+    requires few { length table.now ≤ leaf.now.nodes.now.room }
+    requires sizes { AreSizedRows leaf.now.nodes.now.nodes table.now }
+    ensures exact { IfOk result (λ list. (near : ℕ → List ℕ) (rows : List (SubsetRow × ℤ)) → IsLeafOf leaf.now near rows
+        → AreStateRows (rules_of leaf.now near rows) leaf.now.limit table.now
+        → IsKeptList (rules_of leaf.now near rows) leaf.now.limit (length table.now) last list.items) }
+    ensures rising { IfOk result (λ list. AreRising list.items) }
+    ensures sizes { IfOk result (λ list. AreSizedEntries (length table.now) list.items) }
+{
+    if last == leaf.nodes.depot {
+        return Ok(Vec::new(alloc));
+    }
+    if leaf.nodes.load(last) > table.len() as u64 {
+        return Ok(Vec::new(alloc));
+    }
+    let entries = all_entries(alloc, leaf, table, last)?;
+    let least = least_of(alloc, entries)?;
+    Ok(least)
+}
+
+/// The entries of all starts, which may contain several for one state.
+///
+/// # Errors
+///
+/// Out of memory.
+fn all_entries(
+    alloc: Global,
+    leaf: &RunLeaf,
+    table: &[Vec<Vec<KeptState>>],
+    last: u32,
+) -> Result<Vec<KeptState>, Refused>
+    requires last { IsCustomer leaf.now.nodes.now.nodes leaf.now.nodes.now.depot last }
+    requires own { load_at leaf.now.nodes.now.loads.now last ≤ length table.now }
+    requires few { length table.now ≤ leaf.now.nodes.now.room }
+    requires sizes { AreSizedRows leaf.now.nodes.now.nodes table.now }
+    ensures exact { IfOk result (λ entries. (near : ℕ → List ℕ) (rows : List (SubsetRow × ℤ)) → IsLeafOf leaf.now near rows
+        → AreStateRows (rules_of leaf.now near rows) leaf.now.limit table.now
+        → IsKeptListTo (rules_of leaf.now near rows) leaf.now.limit (length table.now) last leaf.now.nodes.now.nodes entries.items) }
+    ensures sizes { IfOk result (λ entries. AreSizedEntries (length table.now) entries.items) }
+{
+    let mut entries = first_entries(alloc, leaf, last, table.len())?;
+    'befores: for index in 0..leaf.nodes.nodes {
+        add_from(alloc, leaf, table, index + 1, last, &mut entries)?;
+    }
+    Ok(entries)
+}
+
+/// The entry of the start with one customer, if its load is this one.
+///
+/// # Errors
+///
+/// Out of memory.
+fn first_entries(
+    alloc: Global,
+    leaf: &RunLeaf,
+    last: u32,
+    load: usize,
+) -> Result<Vec<KeptState>, Refused>
+    requires last { IsCustomer leaf.now.nodes.now.nodes leaf.now.nodes.now.depot last }
+    requires load { load ≤ leaf.now.nodes.now.room }
+    ensures exact { IfOk result (λ entries. (near : ℕ → List ℕ) (rows : List (SubsetRow × ℤ)) → IsLeafOf leaf.now near rows
+        → IsKeptListTo (rules_of leaf.now near rows) leaf.now.limit load last 0 entries.items) }
+    ensures sizes { IfOk result (λ entries. AreSizedEntries load entries.items) }
+{
+    let mut entries = Vec::new(alloc);
+    if leaf.nodes.load(last) != load as u64 {
+        return Ok(entries);
+    }
+    let Some(entry) = first_entry(leaf, last, leaf.nodes.room - load) else {
+        return Ok(entries);
+    };
+    push(&mut entries, entry)?;
+    Ok(entries)
+}
+
+/// Adds the entries that continue those of one previous customer.
+///
+/// # Errors
+///
+/// Out of memory.
+fn add_from(
+    alloc: Global,
+    leaf: &RunLeaf,
+    table: &[Vec<Vec<KeptState>>],
+    before: u32,
+    last: u32,
+    entries: &mut Vec<KeptState>,
+) -> Result<(), Refused>
+    requires before { IsNode leaf.now.nodes.now.nodes before }
+    requires last { IsCustomer leaf.now.nodes.now.nodes leaf.now.nodes.now.depot last }
+    requires own { load_at leaf.now.nodes.now.loads.now last ≤ length table.now }
+    requires few { length table.now ≤ leaf.now.nodes.now.room }
+    requires sizes { AreSizedRows leaf.now.nodes.now.nodes table.now }
+    ensures exact { IfOk result (λ done. (near : ℕ → List ℕ) (rows : List (SubsetRow × ℤ)) → IsLeafOf leaf.now near rows
+        → AreStateRows (rules_of leaf.now near rows) leaf.now.limit table.now
+        → IsKeptListTo (rules_of leaf.now near rows) leaf.now.limit (length table.now) last (before - 1) entries.old.items
+        → IsKeptListTo (rules_of leaf.now near rows) leaf.now.limit (length table.now) last before entries.new.items) }
+    ensures sizes { IfOk result (λ done. AreSizedEntries (length table.now) entries.old.items
+        → AreSizedEntries (length table.now) entries.new.items) }
+{
+    if before == leaf.nodes.depot {
+        return Ok(());
+    }
+    if before == last {
+        return Ok(());
+    }
+    let left = leaf.nodes.room - table.len();
+    let serving = Serving {
+        before,
+        last,
+        link: weight_in(leaf.nodes.row(before), last),
+        left,
+        home: home_at(leaf.homes, left, last),
+    };
+    let befores = list_at(table, table.len() - leaf.nodes.load(last) as usize, before);
+    add_nexts(alloc, leaf, serving, befores, entries)?;
+    Ok(())
+}
+
+/// The list of a load and a customer.
+pub(crate) fn list_at(table: &[Vec<Vec<KeptState>>], load: usize, node: u32) -> &[KeptState]
+    requires load { load < length table.now }
+    requires node { node < length (item_lists (slice_index_or (item_lists table.now) load [])) }
+    ensures { result.now ≡ list_in table.now load node }
+{
+    table[load][node as usize].as_slice()
+}
+
+/// The lightest entry for each memory, sorted by memory.
+///
+/// # Errors
+///
+/// Out of memory.
+fn least_of(alloc: Global, entries: Vec<KeptState>) -> Result<Vec<KeptState>, Refused>
+    ensures least { IfOk result (λ least. AreLeastOf entries.items least.items) }
+    ensures rising { IfOk result (λ least. AreRising least.items) }
+{
+    let mut sorted = entries;
+    sort(&mut sorted)?;
+    let least = least_in(alloc, &sorted)?;
+    Ok(least)
+}
+
+/// The sorted entries, without those that follow one with the same memory.
+///
+/// # Errors
+///
+/// Out of memory.
+fn least_in(alloc: Global, entries: &[KeptState]) -> Result<Vec<KeptState>, Refused>
+    requires order { AreInOrder entries.now }
+    ensures least { IfOk result (λ least. AreLeastOf entries.now least.items) }
+    ensures rising { IfOk result (λ least. AreRising least.items) }
+{
+    let mut least = Vec::new(alloc);
+    'entries: for index in 0..entries.len() {
+        add_least(&mut least, entry_at(entries, index))?;
+    }
+    Ok(least)
+}
+
+/// Adds an entry, unless the last one has the same memory and weighs no more.
+///
+/// # Errors
+///
+/// Out of memory.
+fn add_least(least: &mut Vec<KeptState>, entry: KeptState) -> Result<(), Refused>
+    ensures { IfOk result (λ done. IsLeastAdded least.old.items entry least.new.items) }
+{
+    if stands_for(least, entry) {
+        return Ok(());
+    }
+    push(least, entry)
+}
+
+/// Whether the last entry of a list has the same memory as `entry`, and weighs no more.
+fn stands_for(least: &[KeptState], entry: KeptState) -> bool
+    ensures { IsTrue result ↔ LastStandsFor least.now entry }
+{
+    if least.is_empty() {
+        return false;
+    }
+    let last = entry_at(least, least.len() - 1);
+    last.word == entry.word && last.weight <= entry.weight
 }

@@ -1,6 +1,7 @@
-//! The least weight of a q-route without 2-cycles: a closed walk from the depot whose load is
-//! within the capacity, and which never goes straight back to the customer it came from. By dynamic
-//! programming over loads and nodes.
+//! The least weight of a q-route without 2-cycles, by dynamic programming over loads and nodes: a
+//! closed walk from the depot whose load is within the capacity, and which never goes straight back
+//! to the customer it came from. `plan_leaf.rt` calls it. `specs/QRoutes.antt` pins the exact
+//! minimum, so only speed is free.
 
 ghost use Rattle.tsp_routing.specs.Prelude.{ℕ, ℤ, length, pos, neg_ℤ, Some, IfOk, IfSome, most_nodes, IsNode, IsFromTo, length_of, IsCustomer, least_at};
 ghost use Rattle.std.specs.Prelude.{◌≡◌, ◌≢◌, ◌⊎◌, ◌≤◌, ◌<◌, ◌+◌, ◌-◌, ◌*◌, ◌^◌, ◌∷◌, ◌+ℤ◌, ◌≤ℤ◌};
@@ -8,14 +9,13 @@ ghost use Rattle.tsp_routing.specs.QRoutes.{IsLeastAmong, QRouteEntry, IsLow, Is
 ghost use Rattle.tsp_routing.specs.PlanBounds.{most_capacity_in_parts};
 ghost use Rattle.tsp_routing.specs.states.Demands.{load_at, AreLinks, onward_entry, entry_at, IsEntryNumber, IsEntrySized, IsRowSized, AreRowsSized, IsRowLow, AreRowsLow, IsRowMet, AreRowsMet, IsNearOrFar, IsChosen};
 
-use crate::kept_weights::LentRows;
+use crate::leaf_weights::LentRows;
 use crate::sums::Sum;
 use std::alloc::Global;
 use tsp_io::{Refused, push, with_capacity};
 use tsp_theory::weight_in;
 
-/// The nodes 1 to `nodes`, one of them the depot, and for each a load, with a place 0 that isn't
-/// read; and the weights between them.
+/// The nodes 1 to `nodes`, including the depot, with their loads and weights. `loads[0]` is unused.
 #[derive(Drop)]
 pub(crate) struct QRoutes<'a, W: LentRows> {
     pub(crate) nodes: u32,
@@ -33,7 +33,7 @@ pub(crate) struct QRoutes<'a, W: LentRows> {
 ///
 /// # Errors
 ///
-/// Out of memory, of which it takes some for each node and each load up to the capacity.
+/// If memory runs out. It allocates an entry for each node and load up to the capacity.
 pub(crate) fn least_q_route<S: Sum, W: LentRows>(
     alloc: Global,
     q_routes: &QRoutes<W>,
@@ -61,7 +61,7 @@ pub(crate) fn least_q_route<S: Sum, W: LentRows>(
 ///
 /// # Errors
 ///
-/// Out of memory, of which it takes some for each node.
+/// If memory runs out. It allocates an entry for each node.
 fn next_row<S: Sum, W: LentRows>(
     alloc: Global,
     q_routes: &QRoutes<W>,
@@ -93,7 +93,7 @@ fn next_row<S: Sum, W: LentRows>(
     Ok(next)
 }
 
-/// The entry of a node for the load that comes next in a table.
+/// The entry of a node for the next load in a table.
 fn entry<S: Sum, W: LentRows>(
     q_routes: &QRoutes<W>,
     node: u32,
@@ -127,8 +127,8 @@ fn entry<S: Sum, W: LentRows>(
     weighed_entry(q_routes, node, known, row)
 }
 
-/// The entry of a node by the entries of the next ones, and by the row of the node, which is filled
-/// if it isn't kept.
+/// The entry of a node, from the entries of the next nodes and the node's row, which is filled if
+/// it isn't kept.
 fn weighed_entry<S: Sum, W: LentRows>(
     q_routes: &QRoutes<W>,
     node: u32,
@@ -154,7 +154,7 @@ fn weighed_entry<S: Sum, W: LentRows>(
     best_entry(q_routes, node, known, row)
 }
 
-/// The entry of a node by the entries of the next ones and the weights to them.
+/// The entry of a node, from the entries of the next nodes and the weights to them.
 fn best_entry<S: Sum, W: LentRows>(
     q_routes: &QRoutes<W>,
     node: u32,
@@ -184,7 +184,7 @@ fn best_entry<S: Sum, W: LentRows>(
     entry_around(q_routes, back, node, q_routes.depot, node, known, row)
 }
 
-/// The entry with the way back to the depot alone.
+/// The entry with only the way back to the depot.
 fn only_back<S: Sum, W: LentRows>(q_routes: &QRoutes<W>, node: u32, row: &[i64]) -> Onward<S>
     requires room { length row.now ≡ q_routes.now.nodes + 1 }
     requires link { IsFromTo (neg_ℤ (pos S.link)) (pos S.link) (least_at row.now q_routes.now.depot) }
@@ -202,8 +202,8 @@ fn only_back<S: Sum, W: LentRows>(q_routes: &QRoutes<W>, node: u32, row: &[i64])
     }
 }
 
-/// The entry with all next nodes but two, the lower one first: the node itself and the depot. So no
-/// loop has to look for them.
+/// The entry with all next nodes except `first` and `last`, which are the node itself and the
+/// depot, the lower one first. So no loop has to test for them.
 fn entry_around<S: Sum, W: LentRows>(
     q_routes: &QRoutes<W>,
     back: Onward<S>,
@@ -243,7 +243,7 @@ fn entry_around<S: Sum, W: LentRows>(
     entry_with(q_routes, middle, node, last, q_routes.nodes, known, row)
 }
 
-/// The entry with the next nodes after one and up to another, which are other customers.
+/// The entry with the next nodes from a range, all of them other customers.
 #[inline]
 fn entry_with<S: Sum, W: LentRows>(
     q_routes: &QRoutes<W>,
@@ -286,7 +286,7 @@ fn entry_with<S: Sum, W: LentRows>(
     best
 }
 
-/// The entry with one next node more, another customer.
+/// The entry with one more next node, another customer.
 #[inline]
 fn entry_by<S: Sum, W: LentRows>(
     q_routes: &QRoutes<W>,
@@ -321,7 +321,7 @@ fn entry_by<S: Sum, W: LentRows>(
     improved(best, next, onward.plus(weight_in(row, next)))
 }
 
-/// The least weight of a walk by the last row, or the sum of none.
+/// The least weight of a walk, from the last row, or the sum of no walk.
 fn start<S: Sum, W: LentRows>(q_routes: &QRoutes<W>, table: &[Vec<Onward<S>>], row: &mut [i64]) -> S
     requires some { 1 ≤ length table.now }
     requires few { length table.now ≤ most_capacity_in_parts + 1 }
@@ -345,8 +345,8 @@ fn start<S: Sum, W: LentRows>(q_routes: &QRoutes<W>, table: &[Vec<Onward<S>>], r
     start_by(q_routes, table[table.len() - 1].as_slice(), row)
 }
 
-/// The least weight of a walk by the entries of the last row and the weights from the depot, or the
-/// sum of none.
+/// The least weight of a walk, from the entries of the last row and the weights from the depot, or
+/// the sum of no walk.
 fn start_by<S: Sum, W: LentRows>(q_routes: &QRoutes<W>, known: &[Onward<S>], row: &[i64]) -> S
     requires room { length row.now ≡ q_routes.now.nodes + 1 }
     requires links { (next : ℕ) → IsNode q_routes.now.nodes next
@@ -368,7 +368,7 @@ fn start_by<S: Sum, W: LentRows>(q_routes: &QRoutes<W>, known: &[Onward<S>], row
     least
 }
 
-/// The lower one of this and the way to one customer and on.
+/// The smaller of `least` and the weight of a walk that starts with this customer.
 fn start_with<S: Sum, W: LentRows>(
     q_routes: &QRoutes<W>,
     least: S,
@@ -402,8 +402,8 @@ fn start_with<S: Sum, W: LentRows>(
 
 // ---- an entry of the table
 
-/// The rest of a walk from a node on: the least weight, the node that comes next then, and the
-/// least weight by another next node.
+/// The rest of a walk from a node on: the least weight, the next node for it, and the least weight
+/// with another next node.
 #[derive(Clone, Copy)]
 pub(crate) struct Onward<S> {
     pub(crate) least: S,
@@ -424,7 +424,7 @@ fn nowhere<S: Sum>() -> Onward<S>
     }
 }
 
-/// The least weight of the rest of a walk that has come from this node, so doesn't go back to it.
+/// The least weight of the rest of a walk that came from this node, and so doesn't go back to it.
 #[inline]
 fn least_onward<S: Sum>(entry: Onward<S>, from: u32) -> S
     ensures value { S.value result ≡ least_from (onward_entry S.value entry) from }
@@ -438,11 +438,11 @@ fn least_onward<S: Sum>(entry: Onward<S>, from: u32) -> S
     }
 }
 
-/// An entry with one next node more. Most nodes change nothing, which one comparison says.
+/// Adds one next node to an entry. For most nodes, one comparison shows that nothing changes.
 ///
 /// # Requires
 ///
-/// The other number is no less than the least.
+/// The second number of the entry is no less than the first.
 #[inline]
 fn improved<S: Sum>(best: Onward<S>, next: u32, weight: S) -> Onward<S>
     requires order { S.value best.least ≤ℤ S.value best.other }

@@ -1,53 +1,48 @@
-//! Lower bounds on the lengths of plans of routes, as theorems and as code.
+//! Judges branches files for routes, and proves that no plan is shorter than the bound.
+//!
+//! [`judge_plans`] is what tsp_verdict calls; `IsPlanVerdict` in `specs/RunVerdicts.antt` pins its
+//! answer, so only speed is free below it.
 //!
 //! A plan leaves a set of customers at least as often as the set needs routes, and crosses it an
 //! even number of times. Each of its routes is a walk within the capacity, a q-route. So the bound
 //! of a tree of cases, with least q-routes at its leaves, holds for every plan.
 //!
 //! A certificate may also list customers to remember, and subset rows. Then each leaf is bounded by
-//! its least run: a q-route that doesn't come back to a customer that it remembers, and that pays
-//! where it serves most of a row's set.
+//! its least run: an ng-route, which doesn't come back to a customer that it remembers, and which
+//! pays for a subset row if it serves most of the row's set.
+//!
+//! Read the files in this order:
+//!
+//! - the certificate: `verdict`, `plan_tree`, `judged_memory`
+//! - demands and loads: `demands`
+//! - the weights of a leaf: `leaf_weights`
+//! - a leaf by q-routes: `plan_leaf`, `least_q_route`, `sums`
+//! - a leaf by runs: `run_verdict`, `run_bound`, `run_leaf`
+//! - label setting for runs: `kept_states`, `run_steps`
+//! - memories as bits: `memories`
+//! - laws and examples: `laws`, `examples`
 //!
 //! ```text
 //! let verdict = judge_plans(alloc, &tree)?;
 //! ```
 #![tactic(auto)]
 
-mod context;
+mod demands;
 mod examples;
-mod first_entry;
-mod given_halves;
 mod judged_memory;
-mod kept_list;
-mod kept_state;
 mod kept_states;
-mod kept_weights;
 mod laws;
-mod leaf_run_bound;
-mod leaf_runs;
 mod leaf_weights;
-mod least_kept;
 mod least_q_route;
-mod least_runs;
 mod memories;
-mod memory_key;
-mod memory_tables;
-mod needs;
-mod next_entries;
-mod next_entry;
-mod placed_steps;
 mod plan_leaf;
-mod plan_numbers;
 mod plan_tree;
 mod run_bound;
-mod run_judge;
 mod run_leaf;
-mod run_nodes;
+mod run_steps;
 mod run_verdict;
 mod sums;
-mod units;
 mod verdict;
-mod ways_home;
 
 pub use examples::{
     examples_of_bounds, examples_of_branches, examples_of_full_memories, examples_of_good_lists,

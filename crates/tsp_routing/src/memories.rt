@@ -1,18 +1,54 @@
-//! The memories of runs as words of 64 bits: of the first customer, and of each next one.
+//! What a run remembers at each customer, as words of 64 bits. `run_verdict.rt` makes the tables
+//! once for all leaves, from a certificate's lists and subset rows, and `run_steps.rt` reads them.
+//! `Remembers` in `specs/Memories.antt` pins what each bit means.
 
-ghost use Rattle.std.specs.Prelude.{◌≡◌, ◌≤◌, ◌<◌, ◌+◌, ◌-◌, ◌*◌, ◌^◌, ℕ, ℤ, List, Bool, length, slice_index_or, true, false, pos, neg_ℤ, ◌+ℤ◌, ◌-ℤ◌, if◌then◌else◌};
-ghost use Rattle.tsp_format.specs.Steps.{IsFromTo};
-ghost use Rattle.tsp_routing.specs.Memories.{memory_word, charge_of};
-ghost use Rattle.tsp_routing.specs.states.MemoryTables.{AreMemoryTables, IsKeyIn};
-ghost use Rattle.tsp_routing.specs.states.MemorySteps.{step_key_of, bit_after, word_after, charge_after};
+ghost use Rattle.std.specs.Prelude.{◌≡◌, ◌≤◌, ◌<◌, ◌+◌, ◌-◌, ◌*◌, ◌^◌, ℕ, ℤ, List, Bool, length, slice_index_or, true, false, pos, if◌then◌else◌, ◌++◌, ◌∷◌};
+ghost use Rattle.tsp_format.specs.Steps.{SubsetRow};
+ghost use Rattle.tsp_format.specs.states.TreeSteps.{subset_row_of};
+ghost use Rattle.tsp_routing.specs.Memories.{memory_word, charge_of, AreMemories};
+ghost use Rattle.tsp_routing.specs.Prelude.{[], map, IfOk, Vec, All, most_nodes, IsNode, has};
+ghost use Rattle.tsp_routing.specs.Runs.{keeps};
+ghost use Rattle.tsp_routing.specs.states.MemoryTables.{near_in, free_rows, key_of_node, kept_keys, AreKeysOf, ArePlacesTo, step_key_of, AreMemoryTables, IsKeyIn, AreMemoriesOf};
+ghost use Rattle.tsp_routing.specs.states.RunTables.{rules_by};
 
-use crate::memory_key::{MemoryKey, StepKey};
 use std::alloc::Global;
-use tsp_io::{Refused, push, with_capacity};
+use tsp_format::RowSets;
+use tsp_io::{Refused, filled, push, with_capacity};
 
-/// What each of the nodes 1 to `nodes` keeps, of the nodes and of `count` rows, and for each node
-/// the bits of all keys; 64 for a key that it doesn't keep. The lists have a place 0 that isn't
-/// read.
+/// What a memory has a bit for: a customer, or the parity of a subset row. Row j of n nodes has the
+/// key n + j.
+#[derive(Clone, Copy)]
+pub(crate) struct MemoryKey {
+    pub(crate) key: u32,
+    /// Whether it is a row whose set contains the customer that keeps it.
+    pub(crate) is_member: bool,
+}
+
+/// A key of a customer, and where its bit is before the step to the customer. If the previous
+/// customer doesn't keep the key, there is no such bit, and it counts as unset.
+#[derive(Clone, Copy)]
+pub(crate) struct StepKey {
+    /// The bit of the key in the memory before the step; 64 if it isn't read.
+    pub(crate) place: u8,
+    /// Whether the step flips the bit.
+    pub(crate) flips: bool,
+    /// What the step pays if the bit is set.
+    pub(crate) charge: i64,
+}
+
+/// A key that both customers of a step keep.
+#[derive(Clone, Copy)]
+pub(crate) struct PassedKey {
+    /// The bit of the key in the memory before the step.
+    pub(crate) place: u8,
+    /// A word with the bit that the key has after the step.
+    pub(crate) mask: u64,
+}
+
+// ---- the words of memories
+
+/// Which keys each of the nodes 1 to `nodes` keeps, and the bit of each key at each node (64 if the
+/// node doesn't keep it). There are `count` rows. Place 0 of the lists is unused.
 #[derive(Drop)]
 pub(crate) struct Memories {
     pub(crate) nodes: u32,
@@ -22,22 +58,15 @@ pub(crate) struct Memories {
     ghost tables: { AreMemoryTables nodes count keys.items places.items },
 }
 
-/// The memory after a step of a run, and what the step pays.
-#[derive(Clone, Copy)]
-pub(crate) struct MemoryStep {
-    pub(crate) word: u64,
-    pub(crate) charge: i128,
-}
-
 impl Memories {
     ghost use Rattle.tsp_routing.specs.Prelude.{map, length, IfOk, IsNode};
     ghost use Rattle.std.specs.Prelude.{◌≡◌, ◌≤◌, ◌+◌};
     ghost use Rattle.tsp_routing.specs.Runs.{RunRules, RunState, first_state};
     ghost use Rattle.tsp_routing.specs.Memories.{told, Remembers};
     ghost use Rattle.tsp_routing.specs.states.MemoryTables.{keys_in, key_places_in, key_place_in, AreMemoriesOf};
-    ghost use Rattle.tsp_routing.specs.states.MemorySteps.{step_key_of};
+    ghost use Rattle.tsp_routing.specs.states.MemoryTables.{step_key_of};
 
-    /// What a customer keeps.
+    /// The keys that a customer keeps.
     fn keys(&self, customer: u32) -> &[MemoryKey]
         requires { IsNode self.now.nodes customer }
         ensures { result.now ≡ keys_in self.now.keys.items customer }
@@ -63,7 +92,7 @@ impl Memories {
         self.places[customer as usize].as_slice()
     }
 
-    /// Whether a memory after a customer has seen another, or is odd at a row.
+    /// Whether a memory at a customer has seen another customer, or is odd at a row.
     #[inline]
     pub(crate) fn tells(&self, last: u32, word: u64, key: u32) -> bool
         requires last { IsNode self.now.nodes last }
@@ -91,7 +120,7 @@ impl Memories {
         word
     }
 
-    /// What a step from one customer to another makes of each key.
+    /// What a step from one customer to another does to each key.
     ///
     /// # Errors
     ///
@@ -129,7 +158,7 @@ fn key_at(keys: &[MemoryKey], index: usize) -> MemoryKey
     keys[index]
 }
 
-/// What a step makes of a key.
+/// What a step does to a key.
 #[inline]
 fn step_key(nodes: u32, charges: &[i64], places: &[u8], last: u32, key: MemoryKey) -> StepKey
     requires key { IsKeyIn nodes (length charges.now) key }
@@ -148,7 +177,7 @@ fn step_key(nodes: u32, charges: &[i64], places: &[u8], last: u32, key: MemoryKe
     }
 }
 
-/// What a step pays for a key that is told.
+/// What a step pays for a key whose bit is set.
 #[inline]
 fn charge_in(nodes: u32, charges: &[i64], key: MemoryKey) -> i64
     requires { IsKeyIn nodes (length charges.now) key }
@@ -160,31 +189,7 @@ fn charge_in(nodes: u32, charges: &[i64], key: MemoryKey) -> i64
     0
 }
 
-/// The memory after a step, and what the step pays.
-pub(crate) fn step(steps: &[StepKey], word: u64) -> MemoryStep
-    requires { length steps.now ≤ 64 }
-    ensures word { (bits : List Bool) → length bits ≤ 64 → word ≡ memory_word bits → result.word ≡ word_after steps.now bits }
-    ensures charge { (bits : List Bool) → length bits ≤ 64 → word ≡ memory_word bits → result.charge ≡ charge_after steps.now bits }
-    ensures size { IsFromTo (neg_ℤ (pos (2 ^ 70))) (pos (2 ^ 70)) result.charge }
-{
-    let mut step = MemoryStep { word: 0, charge: 0 };
-    'bits: for index in 0..steps.len() {
-        let key = step_from_last(steps, index);
-        step = with_key(step, key, has_bit(word, key.place));
-    }
-    step
-}
-
-/// The key so many places before the last one.
-#[inline]
-fn step_from_last(steps: &[StepKey], back: usize) -> StepKey
-    requires { back < length steps.now }
-    ensures { (default : StepKey) → result ≡ slice_index_or steps.now (length steps.now - 1 - back) default }
-{
-    steps[steps.len() - 1 - back]
-}
-
-/// The key so many places before the last one.
+/// The key this many places before the last one.
 #[inline]
 fn key_from_last(keys: &[MemoryKey], back: usize) -> MemoryKey
     requires { back < length keys.now }
@@ -195,7 +200,7 @@ fn key_from_last(keys: &[MemoryKey], back: usize) -> MemoryKey
 
 /// Whether a word has a bit.
 #[inline]
-fn has_bit(word: u64, place: u8) -> bool
+pub(crate) fn has_bit(word: u64, place: u8) -> bool
     ensures { (bits : List Bool) → length bits ≤ 64 → word ≡ memory_word bits → result ≡ slice_index_or bits place false }
 {
     if place >= 64 {
@@ -204,26 +209,192 @@ fn has_bit(word: u64, place: u8) -> bool
     (word >> place as u32) & 1 == 1
 }
 
-/// A word with one bit more, below all others.
+/// A word with one more bit, below all others.
 #[inline]
-fn with_bit(word: u64, bit: bool) -> u64
+pub(crate) fn with_bit(word: u64, bit: bool) -> u64
     requires { word < 2 ^ 63 }
     ensures { result ≡ (if bit then 1 else 0) + 2 * word }
 {
     2 * word + u64::from(bit)
 }
 
-/// A step with one key more.
-#[inline]
-fn with_key(step: MemoryStep, key: StepKey, is_told: bool) -> MemoryStep
-    requires word { step.word < 2 ^ 63 }
-    requires charge { IsFromTo (neg_ℤ (pos (2 ^ 70))) (pos (2 ^ 70)) step.charge }
-    ensures word { result.word ≡ (if bit_after key is_told then 1 else 0) + 2 * step.word }
-    ensures charge { result.charge ≡ step.charge +ℤ (if is_told then key.charge else pos 0) }
-    ensures size { IsFromTo (step.charge -ℤ pos (2 ^ 63)) (step.charge +ℤ pos (2 ^ 63)) result.charge }
+// ---- the tables, from a certificate's lists and rows
+
+/// The tables of what nodes remember, and of rows. A node's list is at its place; place 0 is
+/// unused.
+///
+/// # Errors
+///
+/// If memory runs out. It allocates an entry for each node, and for each node or row that it keeps.
+pub(crate) fn memories_of(
+    alloc: Global,
+    nodes: u32,
+    near: &[Vec<u32>],
+    rows: &[RowSets],
+) -> Result<Memories, Refused>
+    requires nodes { nodes ≤ most_nodes }
+    requires rows { length rows.now ≤ 10000 }
+    requires lists { length near.now ≡ nodes + 1 }
+    requires memories { AreMemories nodes (near_in near.now) (free_rows rows.now) }
+    ensures nodes { IfOk result (λ memories. memories.nodes ≡ nodes) }
+    ensures rows { IfOk result (λ memories. memories.count ≡ length rows.now) }
+    ensures are { IfOk result (λ memories. (depot : ℕ) (loads : List ℕ) (room : ℕ) (links : List (Vec ℤ)) (priced : List (SubsetRow × ℤ))
+        → map (λ (row : SubsetRow × ℤ). row.0) priced ≡ map subset_row_of rows.now
+        → AreMemoriesOf (rules_by nodes depot loads room links (near_in near.now) priced) (length rows.now)
+        memories.keys.items memories.places.items) }
 {
-    MemoryStep {
-        word: with_bit(step.word, is_told != key.flips),
-        charge: step.charge + if is_told { i128::from(key.charge) } else { 0 },
+    let count = rows.len() as u32;
+    let mut keys = with_capacity(alloc, nodes as usize + 1)?;
+    push(&mut keys, Vec::new(alloc))?;
+    let mut places = with_capacity(alloc, nodes as usize + 1)?;
+    push(&mut places, Vec::new(alloc))?;
+    'nodes: for index in 0..nodes {
+        let own = keys_of(alloc, nodes, near_at(near, index + 1), rows, index + 1)?;
+        let own_places = places_of(alloc, &own, nodes + count)?;
+        push(&mut keys, own)?;
+        push(&mut places, own_places)?;
     }
+    Ok(Memories {
+        nodes,
+        count,
+        keys,
+        places,
+    })
+}
+
+/// The customers that a node remembers.
+fn near_at(near: &[Vec<u32>], node: u32) -> &[u32]
+    requires { node < length near.now }
+    ensures { result.now ≡ near_in near.now node }
+{
+    near[node as usize].as_slice()
+}
+
+/// The keys that a node keeps.
+///
+/// # Errors
+///
+/// Out of memory.
+fn keys_of(
+    alloc: Global,
+    nodes: u32,
+    near: &[u32],
+    rows: &[RowSets],
+    node: u32,
+) -> Result<Vec<MemoryKey>, Refused>
+    requires nodes { nodes ≤ most_nodes }
+    requires rows { length rows.now ≤ 10000 }
+    requires near { All (IsNode nodes) near.now }
+    ensures { IfOk result (λ keys. (lists : ℕ → List ℕ) → lists node ≡ near.now → AreKeysOf nodes lists rows.now node keys.items) }
+{
+    let mut keys = Vec::new(alloc);
+    add_near(&mut keys, near)?;
+    add_rows(&mut keys, nodes + 1, rows, node)?;
+    Ok(keys)
+}
+
+/// Adds the keys of customers that are remembered.
+///
+/// # Errors
+///
+/// Out of memory.
+fn add_near(keys: &mut Vec<MemoryKey>, near: &[u32]) -> Result<(), Refused>
+    ensures { IfOk result (λ done. keys.new.items ≡ keys.old.items ++ map key_of_node near.now) }
+{
+    'customers: for index in 0..near.len() {
+        push(keys, near_key(near, index))?;
+    }
+    Ok(())
+}
+
+/// The key of a customer of a list.
+#[inline]
+fn near_key(near: &[u32], index: usize) -> MemoryKey
+    requires { index < length near.now }
+    ensures { result ≡ key_of_node (slice_index_or near.now index 0) }
+{
+    MemoryKey {
+        key: near[index],
+        is_member: false,
+    }
+}
+
+/// Adds the keys of those rows that a customer keeps. The first row has the key `first`.
+///
+/// # Errors
+///
+/// Out of memory.
+fn add_rows(
+    keys: &mut Vec<MemoryKey>,
+    first: u32,
+    rows: &[RowSets],
+    node: u32,
+) -> Result<(), Refused>
+    requires first { first ≤ most_nodes + 1 }
+    requires rows { length rows.now ≤ 10000 }
+    ensures { IfOk result (λ done. keys.new.items ≡ keys.old.items ++ kept_keys first rows.now node) }
+{
+    'rows: for index in 0..rows.len() {
+        add_row(keys, first + index as u32, &rows[index], node)?;
+    }
+    Ok(())
+}
+
+/// Adds the key of a row if a customer keeps it.
+///
+/// # Errors
+///
+/// Out of memory.
+fn add_row(keys: &mut Vec<MemoryKey>, key: u32, row: &RowSets, node: u32) -> Result<(), Refused>
+    ensures { IfOk result (λ done. keys.new.items ≡ keys.old.items ++ kept_keys key (row.now ∷ []) node) }
+{
+    let is_member = has_node(&row.set, node);
+    if !is_kept(is_member, row, node) {
+        return Ok(());
+    }
+    push(keys, MemoryKey { key, is_member })?;
+    Ok(())
+}
+
+/// Whether a node keeps the parity of a row, given whether it is in the row's set.
+fn is_kept(is_member: bool, row: &RowSets, node: u32) -> bool
+    requires { is_member ≡ has row.now.set.items node }
+    ensures { result ≡ keeps (subset_row_of row.now) node }
+{
+    is_member || has_node(&row.further, node)
+}
+
+/// Whether a list contains a node.
+fn has_node(nodes: &[u32], node: u32) -> bool
+    ensures { result ≡ has nodes.now node }
+{
+    nodes.contains(&node)
+}
+
+/// The place of each key from 0 to `last` in a list; 64 if it isn't there.
+///
+/// # Errors
+///
+/// Out of memory.
+fn places_of(alloc: Global, keys: &[MemoryKey], last: u32) -> Result<Vec<u8>, Refused>
+    requires last { last ≤ most_nodes + 10000 }
+    requires few { length keys.now ≤ 64 }
+    requires keys { All (λ (key : MemoryKey). key.key ≤ last) keys.now }
+    ensures { IfOk result (λ places. ArePlacesTo (map (λ (key : MemoryKey). key.key) keys.now) (length keys.now) last places.items) }
+{
+    let mut places = filled(alloc, 64, last as usize + 1)?;
+    'keys: for index in 0..keys.len() {
+        let key = key_number_at(keys, index);
+        places[key as usize] = index as u8;
+    }
+    Ok(places)
+}
+
+/// The number of a key in a list.
+#[inline]
+fn key_number_at(keys: &[MemoryKey], index: usize) -> u32
+    requires { index < length keys.now }
+    ensures { (default : MemoryKey) → result ≡ (slice_index_or keys.now index default).key }
+{
+    keys[index].key
 }

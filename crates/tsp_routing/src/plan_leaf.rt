@@ -1,34 +1,39 @@
-//! The bound of a leaf of a certificate for routes: from the least weight of a q-route, what the
-//! multipliers give back within the limits of the case, and the number of routes.
+//! The bound of a leaf for routes by q-routes: from the least weight of a q-route, what the
+//! multipliers give back within the limits of the case, and the number of routes. `verdict.rt` asks
+//! for it if there are no memories and no subset rows; bounds by runs use the sums, too.
+//! `IsPlanBound` in `specs/PlanBounds.antt` pins the bound, and `ArePlanNumbers` in
+//! `specs/PlanVerdicts.antt` the limits of potentials and multipliers.
 
-ghost use Rattle.tsp_routing.specs.Prelude.{All, ℕ, ℤ, length, true, pos, neg_ℤ, IfOk, IfSome, List, unsigned_abs, [], most_nodes, most_potential, IsNode, IsFromTo, IsBoundSized, entry, IsScale, IsLeastBound, ArePotentials, RoutingProblem, Family, families_with, as_leaf_numbers, Decision, lent_in};
-ghost use Rattle.std.specs.Prelude.{◌≡◌, ◌≤◌, ◌+◌, ◌-◌, ◌^◌, ◌-ℤ◌, ◌*ℤ◌, ◌*◌, ◌<◌, ◌≤ℤ◌, ◌==◌, if◌then◌else◌, ◌∷◌};
-ghost use Rattle.tsp_cases.specs.states.OpenCases.{stack_of, IsOpenCase, decisions_in};
+ghost use Rattle.std.specs.Prelude.{◌≡◌, ◌≤◌, ◌+◌, ◌-◌, ◌^◌, ◌-ℤ◌, ◌*ℤ◌, ◌*◌, ◌<◌, ◌≤ℤ◌, ◌==◌, if◌then◌else◌, ◌∷◌, ◌↔◌};
 ghost use Rattle.tsp_cases.specs.states.Kept.{AreMoved};
+ghost use Rattle.tsp_cases.specs.states.OpenCases.{stack_of, IsOpenCase, decisions_in};
+ghost use Rattle.tsp_routing.specs.PlanBounds.{limits_total, least_product, IsPlanBound, low_of, high_of, least_times, IsFoundByQRoutes, IsLeastQRoute, most_capacity_in_parts, most_surplus};
 ghost use Rattle.tsp_routing.specs.PlanLinks.{IsFewest, sum_of_customers};
 ghost use Rattle.tsp_routing.specs.PlanVerdicts.{ArePlanNumbers, most_of_multipliers, sizes_total};
-ghost use Rattle.tsp_routing.specs.PlanBounds.{limits_total, least_product, IsPlanBound, low_of, high_of, least_times, IsFoundByQRoutes, IsLeastQRoute, most_capacity_in_parts, most_surplus};
+ghost use Rattle.tsp_routing.specs.Prelude.{All, ℕ, ℤ, length, true, pos, neg_ℤ, IfOk, IfSome, List, unsigned_abs, [], most_nodes, most_potential, IsNode, IsFromTo, IsBoundSized, entry, IsScale, IsLeastBound, ArePotentials, RoutingProblem, Family, families_with, as_leaf_numbers, Decision, lent_in, IsTrue, take, drop};
 ghost use Rattle.tsp_routing.specs.states.Demands.{loads_problem};
-ghost use Rattle.tsp_routing.specs.states.LeafWeights.{numbers_total};
 ghost use Rattle.tsp_routing.specs.states.Judged.{IsFewCrossed};
+ghost use Rattle.tsp_routing.specs.states.LeafWeights.{numbers_total};
 
-use crate::context::PlanContext;
-use crate::kept_weights::{KeptWeights, kept_rows};
-use crate::leaf_weights::LeafWeights;
+use crate::leaf_weights::{KeptWeights, LeafWeights, kept_rows};
 use crate::least_q_route::{QRoutes, least_q_route};
+use crate::plan_tree::PlanContext;
 use std::alloc::Global;
-use tsp_cases::{Crossings, Decision, MultipliedFamilies, OpenCase, fill_moved, take_multipliers};
+use tsp_cases::{
+    Crossings, Decision, MultipliedFamilies, OpenCase, copy_within, fill_moved, take_multipliers,
+};
+use tsp_format::MOST_POTENTIAL;
 use tsp_io::{Refused, filled};
 use tsp_theory::Costs;
 
-/// A leaf, whose numbers are good.
+/// A leaf with good numbers.
 #[derive(Drop)]
 pub(crate) struct PlanLeaf<'a, C: Costs> {
     /// What it shares with all other leaves.
     pub(crate) context: &'a PlanContext<'a, C>,
     pub(crate) potentials: &'a [i64],
     pub(crate) multipliers: &'a [i64],
-    /// By node, the potential less the multipliers of the node's sets; place 0 isn't read.
+    /// For each node, its potential less the multipliers of its sets; place 0 is unused.
     pub(crate) moved: &'a [i64],
     ghost numbers: { ArePlanNumbers context.now.demands.nodes (length context.now.crossed.now)
         (as_leaf_numbers potentials.now multipliers.now) },
@@ -81,8 +86,8 @@ pub(crate) fn leaf_bound<C: Costs>(
 ///
 /// # Errors
 ///
-/// Out of memory, of which it takes some for each pair of up to 5,000 nodes, and for each node and
-/// load.
+/// If memory runs out. It allocates an entry for each pair of up to 5,000 nodes, and for each node
+/// and load.
 fn least_of_q_routes<C: Costs>(
     alloc: Global,
     leaf: &PlanLeaf<C>,
@@ -117,11 +122,11 @@ fn least_of_q_routes<C: Costs>(
     least_q_route::<i128, KeptWeights<C>>(alloc, &q_routes, room, row)
 }
 
-/// By node, the potential less the multipliers of its sets, wrapped to 64 bits.
+/// For each node, its potential less the multipliers of its sets, wrapped to 64 bits.
 ///
 /// # Errors
 ///
-/// Out of memory, of which it takes some for each node.
+/// If memory runs out. It allocates an entry for each node.
 pub(crate) fn moved_of<C: Costs>(
     alloc: Global,
     context: &PlanContext<C>,
@@ -148,8 +153,8 @@ pub(crate) fn moved_of<C: Costs>(
 
 // ---- from the least weight of a q-route to the bound of a leaf
 
-/// What a leaf gives back to all plans, the potential of the depot, and how many routes there are
-/// at least.
+/// What a leaf adds to the weight of every plan to get its bound, the potential of the depot, and
+/// the least number of routes.
 #[derive(Clone, Copy)]
 pub(crate) struct LeafSum {
     pub(crate) nodes: u32,
@@ -166,7 +171,7 @@ pub(crate) struct LeafSum {
     ghost few: { fewest ≤ most_nodes },
 }
 
-/// The bound of a leaf if each route weighs `each` at the least.
+/// The bound of a leaf if each route weighs at least `each`.
 fn plan_bound(sum: LeafSum, each: i128) -> i128
     requires { IsFromTo (neg_ℤ (pos (2 ^ 83))) (pos (2 ^ 83)) each }
     ensures bound { (problem : RoutingProblem) (potentials : List ℤ) (families : List Family) (multipliers : List ℤ)
@@ -182,7 +187,7 @@ fn plan_bound(sum: LeafSum, each: i128) -> i128
     rounded_up(sum.scale, sum.back + routes)
 }
 
-/// The lower one of a number times each of two counts.
+/// The smaller product of a number with two counts.
 fn of_routes(fewest: u32, most: u32, surplus: i128) -> i128
     requires fewest { fewest ≤ most_nodes }
     requires most { most ≤ most_nodes }
@@ -205,28 +210,28 @@ pub(crate) fn times(count: u32, number: i128) -> i128
     i128::from(count) * number
 }
 
-/// The least whole number that at a scale is no less than a sum.
+/// The least integer that, times the scale, is at least the sum.
 pub(crate) fn rounded_up(scale: i64, sum: i128) -> i128
     requires scale { IsScale scale }
     requires size { IsFromTo (neg_ℤ (pos (2 ^ 100))) (pos (2 ^ 100)) sum }
     ensures value { IsLeastBound scale sum result }
     ensures size { IsBoundSized result }
 {
-    // Euclid's quotient rounds down, so that of the negative sum rounds up.
+    // Euclidean division rounds down, so dividing the negated sum rounds up.
     -(-sum).div_euclid(i128::from(scale))
 }
 
 // ---- what the multipliers of sets and the potentials of customers give back
 
-/// How often each plan crosses a set at the least, and at the most.
+/// The least and the largest number of times that a plan crosses a set.
 #[derive(Clone, Copy)]
 struct Limits {
     low: u64,
     high: u64,
 }
 
-/// What the multipliers of sets give back: one of at least 0 times the least number of crossings
-/// that the case allows, one below 0 times the most.
+/// What the multipliers of sets give back: a multiplier of at least 0 times the least number of
+/// crossings in this case, a negative one times the largest.
 pub(crate) fn limits_total(
     case: &OpenCase,
     nodes: u32,
@@ -310,8 +315,8 @@ fn of_customer(depot: u32, node: u32, potential: i64) -> i128
 
 // ---- how often the limits of a case let plans cross a set
 
-/// How often plans of a case cross a set at the least, if they do so as often as this anyway. Of
-/// the decisions, the last one last, those on this place count.
+/// The least number of times that plans of a case cross a set. `own` is the least number without
+/// the case. Only the decisions on this place count.
 fn lowest(place: u32, decisions: &[Decision], own: u64) -> u64
     requires { own ≤ 2 ^ 33 }
     ensures value { result ≡ low_of place (stack_of decisions.now) own }
@@ -324,7 +329,7 @@ fn lowest(place: u32, decisions: &[Decision], own: u64) -> u64
     low
 }
 
-/// The least number of crossings with one limit more.
+/// The least number of crossings with one more limit.
 fn raised(place: u32, limit: Decision, own: u64) -> u64
     requires { own ≤ 2 ^ 33 }
     ensures value { result ≡ low_of place (limit ∷ []) own }
@@ -337,7 +342,8 @@ fn raised(place: u32, limit: Decision, own: u64) -> u64
     if low < own { own } else { low }
 }
 
-/// How often they cross it at the most, if they do so no more often than this anyway.
+/// The largest number of times that plans of a case cross a set. `own` is the largest number
+/// without the case.
 fn highest(place: u32, decisions: &[Decision], own: u64) -> u64
     ensures value { result ≡ high_of place (stack_of decisions.now) own }
     ensures most { result ≤ own }
@@ -349,7 +355,7 @@ fn highest(place: u32, decisions: &[Decision], own: u64) -> u64
     high
 }
 
-/// The greatest number of crossings with one limit more.
+/// The largest number of crossings with one more limit.
 fn lowered(place: u32, limit: Decision, own: u64) -> u64
     ensures value { result ≡ high_of place (limit ∷ []) own }
     ensures most { result ≤ own }
@@ -359,4 +365,52 @@ fn lowered(place: u32, limit: Decision, own: u64) -> u64
     }
     let high = 2 * u64::from(limit.pair.1);
     if high < own { high } else { own }
+}
+
+// ---- whether the potentials and multipliers of a leaf are within their limits
+
+/// The most that the sizes of multipliers sum to.
+const MOST_MULTIPLIERS: i64 = 300_000_000_000_000_000;
+
+/// Copies the numbers of a leaf (of the nodes, then of the families) if they are good, and returns
+/// whether they are: no potential is above 10^15 in size, and the sizes of the multipliers sum to
+/// at most 3 * 10^17.
+pub(crate) fn judge_numbers(
+    numbers: &[i128],
+    potentials: &mut [i64],
+    multipliers: &mut [i64],
+) -> bool
+    requires long { length numbers.now ≡ length potentials.old + length multipliers.old }
+    ensures good { IsTrue result ↔ ArePlanNumbers (length potentials.old) (length multipliers.old)
+        (as_leaf_numbers (take (length potentials.old) numbers.now) (drop (length potentials.old) numbers.now)) }
+    ensures potentials { result ≡ true → potentials.new ≡ take (length potentials.old) numbers.now }
+    ensures multipliers { result ≡ true → multipliers.new ≡ drop (length potentials.old) numbers.now }
+    ensures potentials_len { length potentials.new ≡ length potentials.old }
+    ensures multipliers_len { length multipliers.new ≡ length multipliers.old }
+{
+    let (of_nodes, of_families) = numbers.split_at(potentials.len());
+    if !copy_within(of_nodes, -MOST_POTENTIAL, MOST_POTENTIAL, potentials) {
+        return false;
+    }
+    if !copy_within(
+        of_families,
+        -MOST_MULTIPLIERS,
+        MOST_MULTIPLIERS,
+        multipliers,
+    ) {
+        return false;
+    }
+    sizes_total(multipliers) <= i128::from(MOST_MULTIPLIERS)
+}
+
+/// The sum of the sizes of multipliers.
+fn sizes_total(multipliers: &[i64]) -> i128
+    requires { All (IsFromTo (neg_ℤ (pos most_of_multipliers)) (pos most_of_multipliers)) multipliers.now }
+    ensures { result ≡ sizes_total multipliers.now }
+{
+    let mut sum = 0;
+    'multipliers: for multiplier in multipliers {
+        sum += i128::from(multiplier.unsigned_abs());
+    }
+    sum
 }

@@ -1,4 +1,5 @@
-//! Sums of the weights of walks, in 64 bits if weights are small, else in 128.
+//! Sums of the weights of walks, in 64 bits if weights are small, otherwise in 128, for
+//! `least_q_route.rt`. Both are exact, so the choice affects only speed.
 
 ghost use Rattle.std.proofs.Common.{rules};
 ghost use Rattle.std.specs.Prelude.{◌≡◌, ◌≤◌, ◌<◌, ◌+◌, ◌*◌, ◌^◌, ℕ, ℤ, pos, neg_ℤ, ◌+ℤ◌, int_lt, MatchOption};
@@ -6,12 +7,13 @@ ghost use Rattle.tsp_format.specs.Steps.{IsFromTo};
 ghost use Rattle.tsp_routing.specs.QRoutes.{IsReal};
 ghost use Rattle.tsp_routing.specs.PlanBounds.{most_link, most_capacity_in_parts};
 
-/// The most that a weight is in size if sums fit 64 bits: then 5,000,000 of them do.
+/// The largest size of a weight for which sums fit 64 bits: sums of up to 5,000,000 such weights
+/// do.
 pub(crate) const MOST_NARROW: i64 = 1 << 38;
 
-/// A sum of weights of at most `link` in size. Sums that walks have are at most `half`; those above
-/// it, which are near twice as much, mean that there is no walk. So no sum with none has to be told
-/// from others.
+/// A sum of weights, each at most `link` in size. The sums of walks are at most `half`; a larger
+/// sum, of nearly twice as much, means that there is no walk. So adding to the sum of no walk needs
+/// no test.
 pub(crate) trait Sum: Copy {
     ghost value: { Self → ℤ };
 

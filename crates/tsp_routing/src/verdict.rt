@@ -1,4 +1,6 @@
-//! Judges a certificate for routes: its families and memories, then its branches, then its leaves.
+//! Judges a branches file for routes: its families and memories, then its branches, then its
+//! leaves. tsp_verdict calls `judge_plans`. This order decides the reason in a report, so keep it
+//! (`IsPlanVerdict` in `specs/RunVerdicts.antt`).
 
 ghost use Rattle.tsp_routing.specs.Prelude.{All, true, [], length, nat_abs, IfOk, map, ℕ, ℤ, families_with, family_with, families_in, AreSetsOf, lists_of, are_whole, IsStepOf, lent_in};
 ghost use Rattle.std.specs.Prelude.{◌≡◌, ◌≤◌, ◌<◌, ◌+◌, ◌*◌, ◌^◌};
@@ -17,14 +19,12 @@ ghost use Rattle.tsp_routing.specs.states.Judged.{AreCutsJudged, AreCutNumbers, 
 ghost use Rattle.tsp_routing.specs.states.JudgedMemory.{IsNearTable};
 ghost use Rattle.tsp_routing.specs.states.RunTables.{item_lists};
 
-use crate::context::PlanContext;
+use crate::demands::{Demands, unit_loads};
 use crate::judged_memory::{JudgedMemory, judge_memory};
 use crate::laws::{plan_trees_bound_plans, run_trees_bound_plans};
-use crate::plan_leaf::{PlanLeaf, leaf_bound, moved_of};
-use crate::plan_numbers::judge_numbers;
-use crate::plan_tree::PlanTree;
+use crate::plan_leaf::{PlanLeaf, judge_numbers, leaf_bound, moved_of};
+use crate::plan_tree::{PlanContext, PlanTree};
 use crate::run_verdict::run_leaf_verdict;
-use crate::units::{Demands, unit_loads};
 use std::alloc::Global;
 use tsp_cases::{
     Crossings, Decision, Families, JudgedLeaf, LeafJudge, OpenCase, TreeVerdict, WholeTree,
@@ -37,19 +37,19 @@ use tsp_theory::Costs;
 /// The most entries of a table by node and load.
 pub(crate) const MOST_ENTRIES: u128 = 10_000_000;
 
-/// Judges a certificate for routes: its bound, or what is bad in it first.
+/// Judges a branches file for routes: returns its bound, or the first reason against it.
 ///
-/// In this order: a family that isn't a single set of customers, a bad list of what a customer
-/// remembers, a bad subset row, a customer that keeps too much, a branch that isn't on a family, a
-/// leaf that isn't good, too many loads, a leaf with too many kept states. The bound is at most the
-/// length of every plan whose routes each have a customer, and sums with it fit 128 bits. If no
-/// leaf has a bound, there is no such plan.
+/// The reasons, in this order: a family that isn't a single set of customers, a bad list of what a
+/// customer remembers, a bad subset row, a customer that keeps too much, a branch that isn't on a
+/// family, a bad leaf, too many loads, a leaf with too many kept states. The bound is at most the
+/// length of every plan without empty routes, and sums with it fit 128 bits. If no leaf has a
+/// bound, there is no such plan.
 ///
 /// # Errors
 ///
-/// Out of memory, of which it takes some for each node, each family, each decision of a case, each
-/// pair of up to 5,000 nodes, and each node and load. With lists or rows also for each step, each
-/// node and row, and each kept state of a leaf.
+/// If memory runs out. It allocates an entry for each node, each family, each decision of a case,
+/// each pair of up to 5,000 nodes, and each node and load; with lists or rows, also for each step,
+/// each node and row, and each kept state of a leaf.
 pub fn judge_plans<C: Costs>(alloc: Global, tree: &PlanTree<C>) -> Result<TreeVerdict, Refused>
     ensures verdict { IfOk result (IsPlanVerdict (routing_with (C.nodes tree.now.costs.now) (C.at tree.now.costs.now)
         tree.now.depot tree.now.demands.now tree.now.capacity) tree.now.scale (nat_abs tree.now.unit)
@@ -64,7 +64,7 @@ pub fn judge_plans<C: Costs>(alloc: Global, tree: &PlanTree<C>) -> Result<TreeVe
     judged_plans(alloc, tree)
 }
 
-/// Does what [`judge_plans`] does. That the bound holds for plans is added there, by the laws.
+/// [`judge_plans`] without the laws by which it promises that the bound holds for plans.
 ///
 /// # Errors
 ///
@@ -189,7 +189,7 @@ pub(crate) fn entries(nodes: u32, room: u64) -> u128
     u128::from(nodes) * (u128::from(room) + 1)
 }
 
-/// The least of what is found of the leaves, or the first one that isn't good.
+/// The least bound of a leaf, or the first bad leaf.
 ///
 /// # Errors
 ///
@@ -234,17 +234,19 @@ fn judge_all<C: Costs>(
 /// The judgement on the families of a certificate for routes: all of them, or the first bad one.
 #[derive(Drop)]
 pub(crate) enum JudgedCuts<'a> {
-    /// Each is one set of customers: the families, and how often a plan crosses each at the least.
+    /// Each family is one set of customers: the families, and the least number of times that a plan
+    /// crosses each.
     Good(Families<'a>, Vec<Crossings>),
-    /// The first one that isn't, counted from 1.
+    /// The first other family, counted from 1.
     Bad(usize),
 }
 
-/// The families, or the first one that isn't one set of customers with none twice, counted from 1.
+/// The families, or the first one, counted from 1, that isn't a single set of customers without
+/// repetition.
 ///
 /// # Errors
 ///
-/// Out of memory, of which it takes some for each node and for each family.
+/// If memory runs out. It allocates an entry for each node and for each family.
 fn judge_cuts<'a>(
     alloc: Global,
     demands: &Demands,
@@ -258,14 +260,14 @@ fn judge_cuts<'a>(
     let mut marks = filled(alloc, 0, demands.nodes as usize + 1)?;
     let mut crossed = Vec::new(alloc);
     'families: for number in 0..lent.len() {
-        // Marks from 1 on, since 0 means no mark.
+        // Marks count from 1, because 0 means no mark.
         let found = cut_crossings(demands, &mut marks, number as u32 + 1, &lent[number]);
         let Some(own) = found else {
             return Ok(JudgedCuts::Bad(number + 1));
         };
         push(&mut crossed, own)?;
     }
-    // `Families` wants numbers that hold for cycles. Plans have their own, which are in `crossed`.
+    // `Families` requires numbers that hold for cycles. Those for plans are in `crossed`.
     let known = filled(alloc, Crossings { least: 2, most: 3 }, lent.len())?;
     let families = Families {
         nodes: demands.nodes,
@@ -275,8 +277,8 @@ fn judge_cuts<'a>(
     Ok(JudgedCuts::Good(families, crossed))
 }
 
-/// How often a plan crosses the set that these are at the least: twice for each route that it
-/// needs. `None` if they aren't one set of customers with none twice.
+/// The least number of times that a plan crosses these sets, if they are a single set of customers
+/// without repetition: twice for each route that the set needs. `None` if they aren't.
 fn cut_crossings(
     demands: &Demands,
     marks: &mut [u32],
@@ -312,7 +314,7 @@ fn cut_crossings(
 
 // ---- the judge of the leaves of a certificate for routes
 
-/// The numbers of a leaf, and a row, which are written over by the next one.
+/// The numbers of a leaf, and a row, which the next leaf overwrites.
 #[derive(Drop)]
 pub(crate) struct PlanScratch {
     pub(crate) potentials: Vec<i64>,
@@ -320,7 +322,8 @@ pub(crate) struct PlanScratch {
     pub(crate) row: Vec<i64>,
 }
 
-/// Judges leaves by least q-routes if there are `few` loads; else only finds the first bad leaf.
+/// Judges leaves by least q-routes if there are `few` loads; otherwise only finds the first bad
+/// leaf.
 #[derive(Drop)]
 pub(crate) struct PlanJudge<'a, C: Costs> {
     pub(crate) context: &'a PlanContext<'a, C>,
@@ -369,7 +372,7 @@ impl<C: Costs> LeafJudge for PlanJudge<'_, C> {
         numbers: &[i128],
         memory: &mut PlanScratch,
     ) -> Result<JudgedLeaf, Refused> {
-        // The context is lent again, since the case changes before the next leaf.
+        // Reborrowed: the leaf borrows the case, which changes before the next leaf.
         judge_leaf(alloc, &*self.context, self.few, case, numbers, memory)
     }
 }

@@ -92,7 +92,7 @@ one_node_bound n cost scale potentials a b p q =
     one_bound scale (weight_of w p.tree -ℤ (pos 2 *ℤ total potentials)) a b p.bound_is
     (subst (λ (z : ℤ). IsLeastBound scale (z -ℤ (pos 2 *ℤ total potentials)) b) same q.bound_is)
 
--- ---- a cycle from node 1 on is a 1-tree, so a least 1-tree weighs no more
+-- ---- a cycle from node 1 on is a 1-tree, so a minimum 1-tree weighs no more
 
 -- each node with the one after it
 abbrev pub path : ℕ → List ℕ → List (ℕ × ℕ)
@@ -156,7 +156,7 @@ has_each n nodes t x in_x = elim (cases_Bool (list_any (eqb x) nodes)) [
 
 -- ---- a path crosses each part of its nodes
 
--- where the path does not cross, its nodes are on one side
+-- if the path does not cross, its nodes are on one side
 one_side : (part : ℕ → Bool) (side : Bool) (a : ℕ) (nodes : List ℕ) → part a ≡ side
     → list_any (crosses part) (path a nodes) ≡ false → AllByRecursion (λ y. part y ≡ side) nodes
 one_side part side a [] h e = tt
@@ -223,7 +223,7 @@ tour_tree_weight w symmetric b c cs =
     let back : w (last_of c cs) 1 ≡ w 1 (last_of c cs) = symmetric (last_of c cs) 1 in
     omega (arith, ints, same, back)
 
--- a least 1-tree weighs no more than a tour
+-- a minimum 1-tree weighs no more than a tour
 pub tree_below_tour : (n : ℕ) (w : ℕ → ℕ → ℤ) (pairs : List (ℕ × ℕ)) (nodes : List ℕ) → 3 ≤ n → ((a b : ℕ) → w a b ≡ w b a)
     → IsLeastOneTree n w pairs
     → AreInner n nodes → weight_of w pairs ≤ℤ tour_weight w nodes
@@ -525,7 +525,7 @@ has_node n nodes node laws cycle h =
 
 -- ---- the bound
 
--- a least 1-tree weighs no more than a cycle
+-- a minimum 1-tree weighs no more than a cycle
 pub tree_below_cycle : (n : ℕ) (w : ℕ → ℕ → ℤ) (pairs : List (ℕ × ℕ)) (before after : List ℕ) → 3 ≤ n
     → ((a b : ℕ) → w a b ≡ w b a) → IsLeastOneTree n w pairs
     → IsCycle n (before ++ 1 ∷ after) → weight_of w pairs ≤ℤ length_of w (before ++ 1 ∷ after)

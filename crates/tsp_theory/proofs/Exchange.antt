@@ -1,5 +1,5 @@
 -- The exchange: among pairs that join all nodes, one that leaves a part can be replaced by any other that leaves it.
--- Step 2 of the cut argument rests on it.
+-- Step 2 of the cut argument in docs/proof.md rests on it.
 use Rattle.tsp_theory.proofs.Prelude.{◌≡◌, ℕ, ◌+◌, Bool, true, false, not, ◌&&◌, ◌||◌, ◌==◌, cond, List, [], ◌∷◌, ◌++◌, length, length-append, get_or, ℤ, ◌≤ℤ◌, ◌⊎◌, inl, inr, refl, arith, ap, ap₂, sym, ◌∙◌, subst, cases_Bool, cases_eq, and_from, and_left, and_right, or_left, or_right, or_from, or_cases, or_parts, both_ways, false_from_ne_true, not-true, cond_both, eqb-true, eq-eqb, ne_eqb, get_or_append_left, get_or-append-add, All-nil, All-cons, All-head, All-tail, All-append, All-weaker, IsPermutation-refl, IsPermutation-sym, IsPermutation-trans, IsPermutation-cons, IsPermutation-append_right, IsPermutation-middle, IsPermutation-filter_both, All-permutation, All, list_any, filter}
 use Rattle.std.proofs.lemmas.List.Folds.{list_any_none}
 use Rattle.std.specs.List.Sorted.{IsPermutation}
@@ -165,7 +165,7 @@ cut_or_tied (e ∷ es) a b = elim (cut_or_tied es a b) [
 abbrev differ : Bool → Bool → Bool
 differ x y = cond x (not y) y
 
--- where a pair ties two nodes that a cut has apart, a part that has both or neither and that the earlier pairs don't
+-- if a pair ties two nodes that a cut has apart, a part that has both or neither and that the earlier pairs don't
 -- leave isn't left by the pair
 -- plan: if the pair left the part, nothing would leave the part by which it differs from the cut (`uncrossed_both`)
 tied_by : (a b : ℕ) (earlier : List (ℕ × ℕ)) (t : ℕ × ℕ) → IsCut earlier a b → AreTied (t ∷ earlier) a b → (part : ℕ → Bool)

@@ -1,4 +1,5 @@
--- The proofs of the theorems, in the order of docs/proof.md: sums, then the exchange and least trees, then cycles.
+-- The proofs of the theorems, in the order of docs/proof.md: sums, then the exchange and least trees, then cycles; and
+-- the law on the first of several things (First).
 mod Prelude
 pub mod Sums
 pub mod Neighbours
@@ -6,3 +7,4 @@ pub mod Cycles
 pub mod Exchange
 pub mod Trees
 pub mod SmallTrees
+pub mod First

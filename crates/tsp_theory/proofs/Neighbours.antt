@@ -1,4 +1,5 @@
--- Step 5 of the cut argument: how often a cycle uses a pair or crosses a part, and bounds with numbers on pairs.
+-- Step 5 of the cut argument in docs/proof.md: how often a cycle uses a pair or crosses a part, and bounds with numbers
+-- on pairs.
 use Rattle.tsp_theory.proofs.Prelude.{◌≡◌, ℕ, Bool, true, false, not, cond, List, [], ◌∷◌, ℤ, ◌+ℤ◌, ◌≤ℤ◌, ◌⊎◌, inl, inr, refl, arith, ap, sym, ◌∙◌, ◌≢◌, zero, suc, ◌≤◌, ◌==◌, ◌&&◌, ◌||◌, subst, length, ap₂, subst₂, cases_Bool, both_ways, cases_eq, false_from_ne_true, and_parts, and_from, or_cases, or_left, or_right, eqb-true, eq-eqb, ne_eqb, ints, All-from_recursion, All-contains, recursion_from_All, AllByRecursion, Contains, AllPairs, list_any, pos, if◌then◌else◌, ◌-ℤ◌, ◌*ℤ◌}
 use Rattle.std.proofs.Math.Bool.{or_comm}
 use Rattle.std.proofs.lemmas.Bool.Decides.{nat_tests}
@@ -114,7 +115,7 @@ count_none test (x ∷ xs) h = elim (cases_Bool (test x)) [
   | inr f ↦ omega (arith, ints, ap one_if f, count_none test xs (sym (ap (λ b. b || list_any test xs) f) ∙ h))
 ]
 
--- a number for each that passes: none, or that number, where none or one does
+-- a number for each that passes: none, or that number, if none or one does
 pub sum_counted : {X : Type 0} (test : X → Bool) (z : ℤ) (xs : List X)
     → ((count test xs ≡ pos 0) → sum_int_by (λ x. if test x then z else pos 0) xs ≡ pos 0)
     × ((count test xs ≡ pos 1) → sum_int_by (λ x. if test x then z else pos 0) xs ≡ z)
@@ -287,7 +288,7 @@ count_others nodes pair h =
     count_none (is_same_pair pair) (links nodes)
     (false_from_ne_true (list_any (is_same_pair pair) (links nodes)) (λ t. h (neighbours_found nodes pair t)))
 
--- ---- a least 1-tree under weights with numbers on taken and avoided pairs bounds each cycle
+-- ---- a minimum 1-tree under weights with numbers on taken and avoided pairs bounds each cycle
 
 -- ---- adjusted weights are symmetric
 

@@ -1,4 +1,4 @@
--- Least 1-trees of four nodes, for the rows of src/examples.rt that can't be settled by evaluation alone.
+-- Minimum 1-trees of four nodes, for the rows of src/examples.rt that can't be settled by evaluation alone.
 use Rattle.tsp_theory.proofs.Prelude.{◌≡◌, ◌≢◌, ℕ, zero, suc, ◌==◌, true, false, List, [], ◌∷◌, rules, arith, refl, sym, subst, ℤ, ◌≤ℤ◌, both_ways, eq-eqb, eqb-true}
 use Rattle.tsp_theory.specs.Tree.{weight_of, IsInner, IsLeastOneTree, and_node, IsLeastLeaving, grown_by, AreNearest, IsWholeGrowth, tree_of}
 use Rattle.tsp_theory.specs.Bounds.{weight_between, IsBoundOfPotentials, IsNodeBound}
@@ -16,7 +16,7 @@ inner P two three four (suc (suc (suc zero))) within = three
 inner P two three four (suc (suc (suc (suc zero)))) within = four
 inner P two three four (suc (suc (suc (suc (suc x))))) within = absurd (omega (arith, within.1))
 
--- the weights of a growth from node 2 to 3 and from p to 4, where 2 and then `second` are nearest to node 1
+-- the weights of a growth from node 2 to 3 and from p to 4, if 2 and then `second` are nearest to node 1
 pub record GrowsSo (w : ℕ → ℕ → ℤ) (second p : ℕ) : Type 0 where
   pub second_in : IsInner 4 second
   pub differ : 2 ≢ second

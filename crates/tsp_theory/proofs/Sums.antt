@@ -1,4 +1,5 @@
--- Sums over lists, nodes and links, how large they get in 64 and 128 bits, and division by the scale, rounded up.
+-- Sums over lists, nodes and links, how large they get in 64 and 128 bits, and division by the scale, rounded up. The
+-- proofs of all bounds, here and in crates above, rest on it.
 use Rattle.tsp_theory.proofs.Prelude.{◌≡◌, ℕ, zero, suc, List, [], ◌∷◌, refl, arith, ◌≢◌, ◌-◌, ◌<◌, ◌≤◌, length, get_or, sym, ap, ◌∙◌, ◌+◌, ◌*◌, to_z, of_z, subst, ◌/◌, ◌^◌, ◌==◌, inl, inr, cases_eq, eq-eqb, ne_eqb, ints, unsigned_abs-mul, fits_signed_mul, to_z-of_z, by_lt_z, int_wrap_fits, int_wrap-add_left, recursion_from_All, All-weaker, sum_by-IsPermutation, IsPermutation-refl, IsPermutation-remove, IsPermutation-cons, IsPermutation-sym, IsPermutation-trans, Contains-permutation, length_permutation, w64, w128, int_div_euclid, int_rem_euclid, int_wrap, sum_by, AllByRecursion, AllPairs, Contains, range_with_len, remove, ℤ, pos, negsuc, ◌+ℤ◌, ◌*ℤ◌, ◌≤ℤ◌, neg_ℤ, ◌↔◌, IsTrue, int_le, unsigned_abs, FitsSigned, ◌-ℤ◌, ◌<ℤ◌, if◌then◌else◌, IsNode, nodes_to}
 use Rattle.std.proofs.Math.IntN.{suc_ℤ-*ℤ, zero-*ℤ, *ℤ-zero, +ℤ_assoc, +ℤ_idr, pos-*ℤ-pos, pos-*ℤ-negsuc}
 use Rattle.std.proofs.Math.Nat.{mul-le-mul, mul-suc, div-le_self}

@@ -1,4 +1,5 @@
--- Step 2 of the cut argument: least joins, found one after the other, make a least tree and a least 1-tree.
+-- Step 2 of the cut argument in docs/proof.md: least joins, found one after the other, make a least tree and a minimum
+-- 1-tree.
 use Rattle.tsp_theory.proofs.Prelude.{◌≡◌, ℕ, zero, suc, ◌+◌, ◌≤◌, ◌==◌, Bool, true, false, List, [], ◌∷◌, ◌++◌, length, append_assoc, append-nil, ℤ, ◌+ℤ◌, ◌≤ℤ◌, inl, inr, refl, arith, ap, sym, ◌∙◌, subst, ◌≢◌, ◌<◌, not, ◌||◌, cond, map, ltb, take, drop, to_z, of_z, cases_eq, both_ways, true_from_ne_false, eqb-true, cases_Bool, ne_eqb, ltb-true, ltb-false, eqb-false, cond_both, or_left, or_parts, eq-eqb, ints, to_z-of_z, length-map, get_or-set_same, get_or-set_other, All-nil, All-cons, All-head, All-tail, All-push, All-weaker, recursion_from_All, All-from_recursion, All-permutation, length_permutation, w64, All, list_any, AllByRecursion, filter, ◌<ℤ◌, int_lt, FitsSigned}
 use Rattle.std.proofs.Math.ListN.{set}
 use Rattle.std.proofs.Math.Seq.{take-append_seam}
@@ -62,7 +63,7 @@ growth_is_forest n w added some growth = record {
   count = growth.count;
 }
 
--- ---- beside the earlier pairs least joins join all nodes where as many others do, and weigh no more than those
+-- ---- beside the earlier pairs least joins join all nodes if as many others do, and weigh no more than those
 
 joins_least : (Node : ℕ → Type 0) (w : ℕ → ℕ → ℤ) → ((a b : ℕ) → w a b ≡ w b a) → (added earlier xs : List (ℕ × ℕ))
     → AreLeastJoins Node w earlier added
@@ -133,7 +134,7 @@ pub forest_least : (n : ℕ) (w : ℕ → ℕ → ℤ) → ((a b : ℕ) → w a 
 forest_least n w symmetric added xs forest size of joins =
     (joins_least (IsInner n) w symmetric added [] xs forest.joins size of joins).0
 
--- ---- least joins with the two nearest nodes, and so a growth with them, are a least 1-tree
+-- ---- least joins with the two nearest nodes, and so a growth with them, are a minimum 1-tree
 
 -- both ends are nodes, and they differ
 abbrev pub IsLink : (ℕ → Type 0) → ℕ × ℕ → Type 0

@@ -1,6 +1,6 @@
 -- Circle 3 of docs/trust.md.
--- The lower bounds that numbers on nodes give: by least 1-trees under potentials, with numbers on pairs or without, and
--- by duals of an assignment. The statements of the theorems are here, too; src/laws.rt proves them.
+-- The lower bounds that numbers on nodes give: by minimum 1-trees under potentials, with or without numbers on pairs,
+-- and by duals of an assignment. The theorems are stated here, too; src/laws.rt proves them.
 use Rattle.std.specs.List.{All, AllPairs}
 use Rattle.std.specs.Prelude.{◌≡◌, ◌≢◌, ℕ, ◌-◌, ◌^◌, ◌*◌, ◌≤◌, List, length, slice_index_or, ℤ, pos, neg_ℤ, ◌*ℤ◌, ◌≤ℤ◌, ◌+◌, ◌+ℤ◌, ◌-ℤ◌, ◌==◌, ◌&&◌, ◌||◌, Bool, false, if◌then◌else◌, [], ◌<ℤ◌}
 use Rattle.tsp_format.specs.Limits.{most_scale, most_potential, most_triples, most_multiplier, most_weight}
@@ -65,7 +65,7 @@ pub record AreMultipliers (triples : List (ℕ × ℕ × ℤ)) : Type 0 where
 abbrev pub IsSumSized : ℕ → ℤ → Type 0
 IsSumSized count sum = IsFromTo (neg_ℤ (pos (count * 2 ^ 63))) (pos (count * 2 ^ 63)) sum
 
--- ---- the weights between nodes under potentials, and the bound of a least 1-tree
+-- ---- the weights between nodes under potentials, and the bound of a minimum 1-tree
 
 -- the weight between two nodes: the cost times the scale, and the potentials of both
 abbrev pub weight_between : ℤ → List ℤ → (ℕ → ℕ → ℤ) → ℕ → ℕ → ℤ
@@ -75,11 +75,11 @@ weight_between scale potentials cost i j = (scale *ℤ cost i j) +ℤ (entry pot
 abbrev pub most_between : ℕ
 most_between = most_scale * most_weight + 2 * most_potential
 
--- the bound of a 1-tree of this weight: each potential is taken off twice, since a cycle has each node in two links
+-- the bound of a 1-tree of this weight: each potential is taken off twice, because a cycle has each node in two links
 abbrev pub IsBoundOfPotentials : ℤ → List ℤ → ℤ → ℤ → Type 0
 IsBoundOfPotentials scale potentials weight bound = IsLeastBound scale (weight -ℤ (pos 2 *ℤ total potentials)) bound
 
--- the bound of potentials: that of a least 1-tree
+-- the bound of potentials: that of a minimum 1-tree
 pub record IsNodeBound (n : ℕ) (cost : ℕ → ℕ → ℤ) (scale : ℤ) (potentials : List ℤ) (bound : ℤ) : Type 0 where
   pub tree : List (ℕ × ℕ)
   pub least : IsLeastOneTree n (weight_between scale potentials cost) tree
@@ -91,7 +91,7 @@ NodeBoundsBoundCycles = (n : ℕ) (cost : ℕ → ℕ → ℤ) (scale : ℤ) (po
     → 3 ≤ n → IsSymmetric cost → IsScale scale → length potentials ≡ n → IsNodeBound n cost scale potentials bound
     → IsCycle n nodes → bound ≤ℤ length_of cost nodes
 
--- ---- the bound of a least 1-tree under potentials
+-- ---- the bound of a minimum 1-tree under potentials
 
 -- ---- triples: two nodes with a number
 
@@ -103,7 +103,7 @@ pair_of triple = (triple.0, triple.1)
 abbrev pub is_same_pair : ℕ × ℕ → ℕ × ℕ → Bool
 is_same_pair p q = ((p.0 == q.0) && (p.1 == q.1)) || ((p.1 == q.0) && (p.0 == q.1))
 
--- the number of a triple on two nodes: 0 where its pair is another one
+-- the number of a triple on two nodes: 0 if its pair is another one
 abbrev pub number_on : ℕ × ℕ × ℤ → ℕ → ℕ → ℤ
 number_on triple i j = if is_same_pair (pair_of triple) (i, j) then triple.2 else pos 0
 
@@ -135,12 +135,12 @@ abbrev pub UsesNone : List (ℕ × ℕ × ℤ) → List ℕ → Type 0
 UsesNone triples nodes = All (λ triple. AreNeighbours nodes (pair_of triple) → ⊥) triples
 
 -- the bound of an adjusted 1-tree of this weight: each potential is taken off twice, and the numbers of the taken pairs
--- are given back, since a cycle has each node in two of its links and each taken pair in one
+-- are given back, because a cycle has each node in two of its links and each taken pair in one
 abbrev pub IsAdjustedBoundOf : ℤ → List ℤ → List (ℕ × ℕ × ℤ) → ℤ → ℤ → Type 0
 IsAdjustedBoundOf scale potentials taken weight bound =
     IsLeastBound scale ((weight -ℤ (pos 2 *ℤ total potentials)) +ℤ triples_total taken) bound
 
--- the bound of potentials and of numbers on taken and avoided pairs: that of a least 1-tree
+-- the bound of potentials and of numbers on taken and avoided pairs: that of a minimum 1-tree
 pub record IsAdjustedBound (n : ℕ) (cost : ℕ → ℕ → ℤ) (scale : ℤ) (potentials : List ℤ) (taken avoided : List (ℕ × ℕ × ℤ))
     (bound : ℤ) : Type 0 where
   pub tree : List (ℕ × ℕ)
@@ -150,7 +150,7 @@ pub record IsAdjustedBound (n : ℕ) (cost : ℕ → ℕ → ℤ) (scale : ℤ) 
 
 -- ---- the theorems
 
--- Under symmetric weights a least 1-tree weighs no more than a cycle: the cycle's links are a 1-tree.
+-- Under symmetric weights a minimum 1-tree weighs no more than a cycle: the cycle's links are a 1-tree.
 abbrev pub LeastOneTreesAreBelowCycles : Type 0
 LeastOneTreesAreBelowCycles = (n : ℕ) (w : ℕ → ℕ → ℤ) (tree : List (ℕ × ℕ)) (nodes : List ℕ)
     → 3 ≤ n → ((i j : ℕ) → w i j ≡ w j i) → IsLeastOneTree n w tree → IsCycle n nodes → weight_of w tree ≤ℤ length_of w nodes

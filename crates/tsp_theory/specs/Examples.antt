@@ -1,4 +1,5 @@
--- Small costs, cycles, trees and duals for src/examples.rt.
+-- Small costs, cycles, trees and duals for src/examples.rt here, and for the examples of crates above. No other
+-- contract uses them.
 use Rattle.std.specs.Prelude.{ℕ, ◌+◌, ◌-◌, ◌*◌, ◌/◌, ◌==◌, if◌then◌else◌, min, max, List, [], ◌∷◌, slice_index_or, ℤ, pos, negsuc, ◌≡◌}
 use Rattle.tsp_theory.specs.Tour.{length_of}
 

@@ -1,7 +1,7 @@
--- Least trees over the nodes 2..n, put together from least joins: each is a least pair that leaves some set of nodes
+-- Minimum trees over the nodes 2..n, put together from least joins: each is a least pair that leaves some set of nodes
 -- which no earlier pair leaves. In R. C. Prim's algorithm this is the set of grown nodes, in O. Boruvka's rounds (1926)
 -- any component. Source: R. E. Tarjan, Data structures and network algorithms, 1983, chapter 6: the blue rule. Both
--- ways of growing a tree in tsp_bound are proved against it.
+-- ways of growing a tree in tsp_bound are proved against it. In no circle of docs/trust.md.
 use Rattle.std.specs.Prelude.{◌≡◌, ℕ, ◌+◌, Bool, false, List, [], ◌∷◌, ◌++◌, length, ℤ}
 use Rattle.std.specs.List.{All}
 use Rattle.tsp_theory.specs.Tree.{IsLeastLeaving, IsInner, crosses}

@@ -1,5 +1,7 @@
 -- Circle 3 of docs/trust.md.
--- Trees and 1-trees over the nodes of a problem, their weights, and what a least one is. How one is found is left open.
+-- Trees and 1-trees over the nodes of a problem, their weights, and what a minimum 1-tree is (`IsLeastOneTree`), on
+-- which the bounds rest. Further down, a tree that grows from a node: only proofs and tsp_bound's way to a minimum tree
+-- rest on it, no bound.
 use Rattle.std.specs.List.{All, list_any, filter}
 use Rattle.std.specs.Prelude.{◌≡◌, ◌≢◌, ℕ, ◌==◌, ◌<◌, ◌≤◌, Bool, true, false, not, if◌then◌else◌, List, [], ◌∷◌, length, ℤ, pos, ◌≤ℤ◌, ◌+◌, ◌||◌, map, nat_lt}
 use Rattle.tsp_theory.specs.Tour.{sum_int_by}
@@ -24,7 +26,7 @@ inner_pairs pairs = filter (λ pair. not (is_at_one pair)) pairs
 abbrev pub crosses : (ℕ → Bool) → ℕ × ℕ → Bool
 crosses part pair = if part pair.0 then not (part pair.1) else part pair.1
 
--- 1 for two nodes of which one is in the set, else 0
+-- 1 for two nodes of which one is in the set, otherwise 0
 abbrev pub crossing : (ℕ → Bool) → ℕ → ℕ → ℤ
 crossing part i j = if crosses part (i, j) then pos 1 else pos 0
 

@@ -1,2 +1,3 @@
--- The files of definitions that look into structs of the code.
+-- Definitions of what code has on the way: what Prim's algorithm keeps of a node, and the entries of a row of weights.
+-- No circle rests on them.
 pub mod Nearest

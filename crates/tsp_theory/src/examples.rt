@@ -1,6 +1,6 @@
-//! Cycles, trees, duals and multipliers on a few nodes, worked out by hand as laws. For each
-//! definition of a bound in `specs/Bounds.antt` there is a case where its rule matters, so that a
-//! wrong definition isn't proved.
+//! Laws that state values of the definitions in `specs/`, worked out by hand: cycles, trees, duals
+//! and multipliers on a few nodes. For each definition of a bound in `specs/Bounds.antt`, some law
+//! fails if the definition is wrong. No code calls them.
 
 ghost use Rattle.std.specs.Prelude.{◌≡◌, [], ◌∷◌, pos, negsuc};
 ghost use Rattle.tsp_theory.specs.Bounds.{adjusted, UsesEach, UsesNone, IsAdjustedBoundOf, AreGood, IsFirstBroken, IsDualBound, entry, total, IsLeastBound, weight_between, IsNodeBound};

@@ -1,6 +1,6 @@
 //! The theorems: a cycle has each node once and no loop, lengths add up, and no cycle is shorter
-//! than the bound by a least 1-tree or by duals. Code in higher crates is proved to compute such a
-//! bound, and these laws are why the number means anything. The arguments are in docs/proof.md.
+//! than the bound by a minimum 1-tree or by duals. Crates above are proved to compute such a bound;
+//! these laws say why it is one. docs/proof.md has the arguments.
 
 ghost use Rattle.std.specs.List.Sorted.{IsPermutation};
 ghost use Rattle.std.specs.Prelude.{◌≡◌, ◌≢◌, ◌≤◌, ℕ, ℤ, List, pos, ◌+ℤ◌, ◌*ℤ◌, ◌≤ℤ◌};
@@ -58,10 +58,10 @@ pub fn node_bounds_bound_cycles()
     cycles_have_no_loops();
 }
 
-/// The cut argument: under symmetric weights a least 1-tree weighs no more than a cycle of three or
-/// more nodes.
+/// The cut argument: under symmetric weights a minimum 1-tree weighs no more than a cycle of three
+/// or more nodes.
 ///
-/// No code calls it. It is here for readers, since all bounds by 1-trees rest on this argument.
+/// No code calls it. It is here for readers, because all bounds by 1-trees rest on this argument.
 pub fn least_trees_are_below_cycles()
     ensures { LeastOneTreesAreBelowCycles }
 {

@@ -1,4 +1,5 @@
--- A certificate's bound for the costs that the code looks up is its bound for the instance.
+-- For src/potentials_certificate.rt and the lemmas on trees: a certificate's bound for the costs that the code looks up
+-- is its bound for the instance.
 use Rattle.tsp_verdict.proofs.Prelude.{◌≡◌, ℕ, List, [], ◌∷◌, get_or, inl, inr, refl, sym, ap, ap₂, subst, subst₂, arith, Option, ints, All-contains, All, Some, ◌≤◌, length, unwrap_or, ℤ, ◌+ℤ◌, ◌-ℤ◌, ◌*ℤ◌, ◌≤ℤ◌, ◌<ℤ◌, IsSymmetric, cost, fixed_of, scale_in, multipliers_in, HoldsNodeNumbers, HoldsDuals, Fields, nodes_of, IsScale, entry, IsBoundSized, weight_between, pair_of, numbers_on, adjusted, UsesEach, IsAdjustedBoundOf, IsAdjustedBound, AdjustedBoundsBoundCycles, AreGood, IsFirstBroken, IsDualBound, DualsBoundCycles, length_of, IsCycle, AreNeighbours, Uses, is_directed, Potentials, DualInfeasible}
 use Rattle.tsp_format.specs.declared.kinds.Kind.TheVariants as kinds
 use Rattle.tsp_theory.specs.Tree.{weight_of, IsLeastOneTree}

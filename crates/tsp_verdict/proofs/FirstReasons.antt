@@ -1,28 +1,21 @@
--- There is one first reason, by the TYPE of the instance and of the certificate.
+-- There is one first reason, by the TYPE of the instance and of the certificate. For src/solution_verdict.rt and
+-- src/potentials_certificate.rt, and for the law in src/one_verdict.rt.
 use Rattle.tsp_verdict.proofs.Prelude.{◌≡◌, ◌∙◌, ℕ, zero, suc, List, [], ◌∷◌, inl, inr, refl, sym, ap, subst, ◌≢◌, ◌⊎◌, Option, Some, None, ◌-◌, ◌<◌, ◌≤◌, true, false, subst₂, arith, cases_order, false≢true, ints, All, AllPairs, ℤ, pos, unwrap_or, IsNode, IsBefore, Kind, fixed_of, scale_in, multipliers_in, cost, Fields, nodes_of, is_potentials_file, pair_of, is_same_pair, AreOnPairs, AreGood, rank_of, CertificateKind, Branches, Potentials, Reason, NotASolution, TooFewNodes, NotSymmetric, Dimension, TourCount, TourLength, DepotCount, DepotDemand, FixedEdgesInRoutes, DepotInRoute, NodeOutOfRange, RepeatedNode, FixedEdgeUnused, Unserved, Overload, LengthClaimed, NotPotentials, PotentialsDimension, PotentialsKind, MultiplierNotFixed, MultiplierRepeated, DualInfeasible, NotBranches, BranchesDimension, BadFamily, BadMemory, BadRow, BadBranch, BranchTwice, BadLeaf, TooManyLoads, TooManyStates, NotJudged, NotUsed, Verdict}
+use Rattle.tsp_theory.proofs.First.{one_rank}
 use Rattle.tsp_format.specs.declared.keyword.Field.{Field}
 use Rattle.tsp_format.specs.declared.keyword.Field.TheVariants.{NameKey}
 use Rattle.tsp_format.specs.declared.kinds.Kind.TheVariants as kinds
-use Rattle.tsp_report.specs.declared.verdict.KnownBound.{KnownBound}
 use Rattle.tsp_verdict.specs.Certificates.{AppliesToBranches, AppliesToQRoutes, AreListed, IsUnlisted, IsPairRepeated, pair_at, has_wanted, BreaksDuals, AppliesToPotentials, IsBoundByDuals}
 use Rattle.tsp_verdict.specs.Certified.{AppliesToTouring, NoneAgainstTouring, AppliesToRouting, AppliesToInstanceBy, AppliesToInstance, NoneAgainstInstance, AppliesToCertificateBy, IsCertifiedTourVerdict, IsCertifiedRoutesVerdict, IsCertifiedVerdictBy, IsCertifiedVerdict, IsBoundBy, IsCertified, AppliesToCertificate, NoneWithoutMemory}
-use Rattle.tsp_verdict.specs.SolutionVerdict.{IsKnownBoundOfToursBy, IsKnownBoundOfRoutesBy, IsKnownBoundBy}
-use Rattle.tsp_verdict.specs.Solutions.{IsFirstPlace, IsFirstReason, NoneBefore, AppliesToTour, AppliesToRoutes}
+use Rattle.tsp_theory.specs.First.{IsFirstPlace}
+use Rattle.tsp_verdict.specs.Solutions.{IsFirstReason, NoneBefore, AppliesToTour, AppliesToRoutes}
 
 -- what a reason carries: one number, two, a length, or a field
 abbrev pub Carried : Type 0
 Carried = ℕ × ℕ × ℤ × Field
 
 abbrev carried_of : Reason → Carried
-carried_of NotASolution = (0, 0, pos 0, NameKey)
-carried_of TooFewNodes = (0, 0, pos 0, NameKey)
 carried_of (NotSymmetric i j) = (i, j, pos 0, NameKey)
-carried_of Dimension = (0, 0, pos 0, NameKey)
-carried_of TourCount = (0, 0, pos 0, NameKey)
-carried_of TourLength = (0, 0, pos 0, NameKey)
-carried_of DepotCount = (0, 0, pos 0, NameKey)
-carried_of DepotDemand = (0, 0, pos 0, NameKey)
-carried_of FixedEdgesInRoutes = (0, 0, pos 0, NameKey)
 carried_of (DepotInRoute i) = (i, 0, pos 0, NameKey)
 carried_of (NodeOutOfRange i) = (i, 0, pos 0, NameKey)
 carried_of (RepeatedNode i) = (i, 0, pos 0, NameKey)
@@ -30,24 +23,18 @@ carried_of (FixedEdgeUnused i) = (i, 0, pos 0, NameKey)
 carried_of (Unserved i) = (i, 0, pos 0, NameKey)
 carried_of (Overload i) = (i, 0, pos 0, NameKey)
 carried_of (LengthClaimed i) = (0, 0, i, NameKey)
-carried_of NotPotentials = (0, 0, pos 0, NameKey)
-carried_of PotentialsDimension = (0, 0, pos 0, NameKey)
-carried_of PotentialsKind = (0, 0, pos 0, NameKey)
 carried_of (MultiplierNotFixed i) = (i, 0, pos 0, NameKey)
 carried_of (MultiplierRepeated i) = (i, 0, pos 0, NameKey)
 carried_of (DualInfeasible i j) = (i, j, pos 0, NameKey)
-carried_of NotBranches = (0, 0, pos 0, NameKey)
-carried_of BranchesDimension = (0, 0, pos 0, NameKey)
 carried_of (BadFamily i) = (i, 0, pos 0, NameKey)
 carried_of (BadMemory i) = (i, 0, pos 0, NameKey)
 carried_of (BadRow i) = (i, 0, pos 0, NameKey)
 carried_of (BadBranch i) = (i, 0, pos 0, NameKey)
 carried_of (BranchTwice i) = (i, 0, pos 0, NameKey)
 carried_of (BadLeaf i) = (i, 0, pos 0, NameKey)
-carried_of TooManyLoads = (0, 0, pos 0, NameKey)
 carried_of (TooManyStates i) = (i, 0, pos 0, NameKey)
-carried_of NotJudged = (0, 0, pos 0, NameKey)
 carried_of (NotUsed field) = (0, 0, pos 0, field)
+carried_of reason = (0, 0, pos 0, NameKey)
 
 -- the reasons by their ranks
 abbrev reasons : List (Carried → Reason)
@@ -101,39 +88,15 @@ reason_of rank carried = of_rank reasons rank carried
 -- plan: by the reason, each by computing
 is_of_rank : (reason : Reason) → reason ≡ reason_of (rank_of reason) (carried_of reason)
 is_of_rank NotASolution = refl
-is_of_rank TooFewNodes = refl
-is_of_rank (NotSymmetric i j) = refl
-is_of_rank Dimension = refl
-is_of_rank TourCount = refl
-is_of_rank TourLength = refl
-is_of_rank DepotCount = refl
-is_of_rank DepotDemand = refl
-is_of_rank FixedEdgesInRoutes = refl
-is_of_rank (DepotInRoute i) = refl
-is_of_rank (NodeOutOfRange i) = refl
-is_of_rank (RepeatedNode i) = refl
-is_of_rank (FixedEdgeUnused i) = refl
-is_of_rank (Unserved i) = refl
-is_of_rank (Overload i) = refl
-is_of_rank (LengthClaimed i) = refl
-is_of_rank NotPotentials = refl
-is_of_rank PotentialsDimension = refl
-is_of_rank PotentialsKind = refl
-is_of_rank (MultiplierNotFixed i) = refl
-is_of_rank (MultiplierRepeated i) = refl
-is_of_rank (DualInfeasible i j) = refl
-is_of_rank NotBranches = refl
-is_of_rank BranchesDimension = refl
-is_of_rank (BadFamily i) = refl
-is_of_rank (BadMemory i) = refl
-is_of_rank (BadRow i) = refl
-is_of_rank (BadBranch i) = refl
-is_of_rank (BranchTwice i) = refl
-is_of_rank (BadLeaf i) = refl
-is_of_rank TooManyLoads = refl
-is_of_rank (TooManyStates i) = refl
-is_of_rank NotJudged = refl
-is_of_rank (NotUsed field) = refl
+is_of_rank reason = refl
+
+-- no reason has this rank or one above it
+abbrev pub past_all : ℕ
+past_all = 100
+
+pub is_ranked : (reason : Reason) → rank_of reason < past_all
+is_ranked NotASolution = omega arith
+is_ranked reason = omega arith
 
 -- of two reasons of one rank that apply the numbers are the same
 abbrev pub IsOneByRank : (Reason → Type 0) → Type 0
@@ -142,23 +105,14 @@ IsOneByRank Applies = (one : Reason) (carried : Carried) → Applies one → App
 
 pub one_first : (Applies : Reason → Type 0) → IsOneByRank Applies → (one other : Reason) → IsFirstReason Applies one
     → IsFirstReason Applies other → one ≡ other
-one_first Applies by_rank one other first second = elim (cases_order (rank_of one) (rank_of other)) [
-  | inl same ↦
-      let is : other ≡ reason_of (rank_of one) (carried_of other) =
-      is_of_rank other ∙ ap (λ rank. reason_of rank (carried_of other)) (sym same) in
-      by_rank one (carried_of other) first.applies (subst Applies is second.applies) ∙ sym is
-  | inr (inl less) ↦ absurd (second.none_before one less first.applies)
-  | inr (inr more) ↦ absurd (first.none_before other more second.applies)
-]
+one_first Applies by_rank one other first second =
+    let same : rank_of one ≡ rank_of other =
+    one_rank rank_of Applies (λ reason. Applies reason → ⊥) one other (λ reason applies not. not applies) first second in
+    let is : other ≡ reason_of (rank_of one) (carried_of other) =
+    is_of_rank other ∙ ap (λ rank. reason_of rank (carried_of other)) (sym same) in
+    by_rank one (carried_of other) first.applies (subst Applies is second.applies) ∙ sym is
 
--- ---- first places, and first pairs by rows
-
-pub one_place : {X : Type 0} (P : ℕ → Type 0) (xs : List X) (a b : ℕ) → IsFirstPlace P xs a → IsFirstPlace P xs b → a ≡ b
-one_place P xs a b one other = elim (cases_order a b) [
-  | inl same ↦ same
-  | inr (inl less) ↦ absurd (other.first a one.here.0 less one.holds)
-  | inr (inr more) ↦ absurd (one.first b other.here.0 more other.holds)
-]
+-- ---- first pairs by rows
 
 pub one_pair : (a b i j : ℕ) → (IsBefore (a, b) (i, j) → ⊥) → (IsBefore (i, j) (a, b) → ⊥) → (a ≡ i) × (b ≡ j)
 one_pair a b i j first second = elim (cases_order a i) [
@@ -219,11 +173,6 @@ first_for_tours inst reason kind first = record {
 pub none_for_tours : (inst : Fields) → HasTours inst → NoneAgainstTouring inst → NoneAgainstInstance inst
 none_for_tours inst kind none reason applies = none reason (of_tours inst reason kind applies)
 
-pub tours_by : (by : CertificateKind) (inst cert : Fields) (known_bound : KnownBound) → HasTours inst → IsKnownBoundBy inst.kind by inst cert known_bound
-    → IsKnownBoundOfToursBy by inst cert known_bound
-tours_by by inst cert known_bound (inl tsp) b = subst (λ kind. IsKnownBoundBy kind by inst cert known_bound) tsp b
-tours_by by inst cert known_bound (inr atsp) b = subst (λ kind. IsKnownBoundBy kind by inst cert known_bound) atsp b
-
 pub certified_tour : (by : CertificateKind) (inst sol cert : Fields) (verdict : Verdict) → HasTours inst
     → IsCertifiedTourVerdict by inst sol cert verdict → IsCertifiedVerdict by inst sol cert verdict
 certified_tour by inst sol cert verdict (inl tsp) v =
@@ -231,29 +180,11 @@ certified_tour by inst sol cert verdict (inl tsp) v =
 certified_tour by inst sol cert verdict (inr atsp) v =
     subst (λ kind. IsCertifiedVerdictBy kind by inst sol cert verdict) (sym atsp) v
 
-pub other_known_bound : (kind : Option Kind) (by : CertificateKind) (inst cert : Fields) (known_bound : KnownBound) → kind ≢ Some kinds.Cvrp
-    → IsKnownBoundOfToursBy by inst cert known_bound → IsKnownBoundBy kind by inst cert known_bound
-other_known_bound (Some kinds.Cvrp) by inst cert known_bound other b = absurd (other refl)
-other_known_bound (Some kinds.Tsp) by inst cert known_bound other b = b
-other_known_bound (Some kinds.Atsp) by inst cert known_bound other b = b
-other_known_bound (Some kinds.Tour) by inst cert known_bound other b = b
-other_known_bound (Some kinds.Potentials) by inst cert known_bound other b = b
-other_known_bound (Some kinds.Branches) by inst cert known_bound other b = b
-other_known_bound None by inst cert known_bound other b = b
-
 -- ---- of routes
 
 pub of_routing : (inst : Fields) (reason : Reason) → inst.kind ≡ Some kinds.Cvrp → AppliesToInstance inst reason
     → AppliesToRouting inst reason
 of_routing inst reason cvrp applies = subst (λ kind. AppliesToInstanceBy kind inst reason) cvrp applies
-
-pub routes_by : (by : CertificateKind) (inst cert : Fields) (known_bound : KnownBound) → inst.kind ≡ Some kinds.Cvrp
-    → IsKnownBoundBy inst.kind by inst cert known_bound → IsKnownBoundOfRoutesBy by inst cert known_bound
-routes_by by inst cert known_bound cvrp b = subst (λ kind. IsKnownBoundBy kind by inst cert known_bound) cvrp b
-
-pub routes_for : (by : CertificateKind) (inst cert : Fields) (known_bound : KnownBound) → inst.kind ≡ Some kinds.Cvrp
-    → IsKnownBoundOfRoutesBy by inst cert known_bound → IsKnownBoundBy inst.kind by inst cert known_bound
-routes_for by inst cert known_bound cvrp b = subst (λ kind. IsKnownBoundBy kind by inst cert known_bound) (sym cvrp) b
 
 pub certified_routes : (by : CertificateKind) (inst sol cert : Fields) (verdict : Verdict) → inst.kind ≡ Some kinds.Cvrp
     → IsCertifiedRoutesVerdict by inst sol cert verdict → IsCertifiedVerdict by inst sol cert verdict
@@ -295,28 +226,24 @@ pub nothing_applies : (inst pot : Fields) → is_potentials_file pot.kind ≡ tr
     → ((index : ℕ) → AppliesToPotentials inst pot (MultiplierRepeated index) → ⊥)
     → ((i j : ℕ) → AppliesToPotentials inst pot (DualInfeasible i j) → ⊥) → (reason : Reason)
     → AppliesToPotentials inst pot reason → ⊥
-nothing_applies inst pot sort size wanted fixed once good NotPotentials applies = false≢true (sym applies ∙ sort)
-nothing_applies inst pot sort size wanted fixed once good PotentialsDimension applies = applies size
-nothing_applies inst pot sort size wanted fixed once good PotentialsKind applies = false≢true (sym applies ∙ wanted)
-nothing_applies inst pot sort size wanted fixed once good (MultiplierNotFixed index) applies = fixed index applies
-nothing_applies inst pot sort size wanted fixed once good (MultiplierRepeated index) applies = once index applies
-nothing_applies inst pot sort size wanted fixed once good (DualInfeasible i j) applies = good i j applies
-nothing_applies inst pot sort size wanted fixed once good reason applies = applies
+nothing_applies inst pot sort size wanted fixed once good reason applies =
+    none_before inst pot past_all (λ low. sort) (λ low. size) (λ low. wanted) (λ low. fixed) (λ low. once) (λ low. good) reason
+    (is_ranked reason) applies
 
 -- each multiplier is on a fixed pair
 pub none_unlisted : (inst pot : Fields) → AreListed (fixed_of inst) (multipliers_in pot) → (index : ℕ)
     → AppliesToPotentials inst pot (MultiplierNotFixed index) → ⊥
 none_unlisted inst pot listed index applies =
-    applies.1.holds (listed (index - 1) (0, 0, pos 0) (omega (arith, applies.1.here.0, applies.1.here.1)))
+    applies.1.applies.1 (listed (index - 1) (0, 0, pos 0) (omega (arith, applies.1.applies.0.0, applies.1.applies.0.1)))
 
 -- no two multipliers are on the same pair
 pub none_repeated : (n : ℕ) (inst pot : Fields) → AreOnPairs n (multipliers_in pot) → (index : ℕ)
     → AppliesToPotentials inst pot (MultiplierRepeated index) → ⊥
 none_repeated n inst pot are index applies =
-    let again = applies.1.holds in
+    let again = applies.1.applies.1 in
     let apart : is_same_pair (pair_at (multipliers_in pot) again.0) (pair_at (multipliers_in pot) index) ≡ false =
     are.differ (again.0 - 1) (index - 1) (0, 0, pos 0) (omega (arith, again.1, again.2))
-    (omega (arith, applies.1.here.0, applies.1.here.1)) in
+    (omega (arith, applies.1.applies.0.0, applies.1.applies.0.1)) in
     false≢true (sym apart ∙ again.3)
 
 -- the first multiplier that isn't on a fixed pair is the first reason
@@ -333,7 +260,7 @@ not_fixed inst pot fixed triples index fixed_are triples_are kind sort size want
       (λ low. absurd (omega (arith, low))) (λ low. absurd (omega (arith, low)));
 }
 
--- where all are on fixed pairs, so is the first one on the pair of an earlier one
+-- if all are on fixed pairs, so is the first one on the pair of an earlier one
 pub repeats : (inst pot : Fields) (fixed : List (ℕ × ℕ)) (triples : List (ℕ × ℕ × ℤ)) (index : ℕ) → fixed ≡ fixed_of inst
     → triples ≡ multipliers_in pot
     → inst.kind ≡ Some kinds.Tsp → is_potentials_file pot.kind ≡ true
@@ -348,7 +275,7 @@ repeats inst pot fixed triples index fixed_are triples_are kind sort size wanted
       (λ low. absurd (omega (arith, low)));
 }
 
--- the findings where neither applies
+-- the findings if neither applies
 pub multiplied : (inst pot : Fields) (fixed : List (ℕ × ℕ)) (triples : List (ℕ × ℕ × ℤ)) → fixed ≡ fixed_of inst
     → triples ≡ multipliers_in pot → nodes_of pot ≡ nodes_of inst
     → All (λ triple. IsNode (nodes_of pot) triple.0 × IsNode (nodes_of pot) triple.1) triples → AreListed fixed triples
@@ -425,32 +352,16 @@ none_of_atsp inst pot bound kind sort size wanted certified =
 
 pub tour_rank : (inst sol : Fields) (reason : Reason) → AppliesToTour inst sol reason
     → rank_of reason < rank_of (LengthClaimed (pos 0))
-tour_rank inst sol NotPotentials applies = absurd applies
-tour_rank inst sol PotentialsDimension applies = absurd applies
-tour_rank inst sol PotentialsKind applies = absurd applies
-tour_rank inst sol (MultiplierNotFixed index) applies = absurd applies
-tour_rank inst sol (MultiplierRepeated index) applies = absurd applies
-tour_rank inst sol (DualInfeasible i j) applies = absurd applies
-tour_rank inst sol DepotCount applies = absurd applies
-tour_rank inst sol DepotDemand applies = absurd applies
-tour_rank inst sol FixedEdgesInRoutes applies = absurd applies
-tour_rank inst sol (DepotInRoute place) applies = absurd applies
-tour_rank inst sol (Unserved node) applies = absurd applies
-tour_rank inst sol (Overload route) applies = absurd applies
-tour_rank inst sol NotBranches applies = absurd applies
-tour_rank inst sol BranchesDimension applies = absurd applies
-tour_rank inst sol (BadFamily index) applies = absurd applies
-tour_rank inst sol (BadMemory node) applies = absurd applies
-tour_rank inst sol (BadRow index) applies = absurd applies
-tour_rank inst sol (BadBranch index) applies = absurd applies
-tour_rank inst sol (BranchTwice index) applies = absurd applies
-tour_rank inst sol (BadLeaf index) applies = absurd applies
-tour_rank inst sol TooManyLoads applies = absurd applies
-tour_rank inst sol (TooManyStates index) applies = absurd applies
-tour_rank inst sol (LengthClaimed length) applies = absurd applies
-tour_rank inst sol NotJudged applies = absurd applies
-tour_rank inst sol (NotUsed field) applies = absurd applies
-tour_rank inst sol reason applies = omega arith
+tour_rank inst sol NotASolution applies = omega arith
+tour_rank inst sol TooFewNodes applies = omega arith
+tour_rank inst sol (NotSymmetric i j) applies = omega arith
+tour_rank inst sol Dimension applies = omega arith
+tour_rank inst sol TourCount applies = omega arith
+tour_rank inst sol TourLength applies = omega arith
+tour_rank inst sol (NodeOutOfRange place) applies = omega arith
+tour_rank inst sol (RepeatedNode place) applies = omega arith
+tour_rank inst sol (FixedEdgeUnused index) applies = omega arith
+tour_rank inst sol reason applies = absurd applies
 
 pub routes_rank : (inst sol : Fields) (reason : Reason) → AppliesToRoutes inst sol reason
     → rank_of reason < rank_of (LengthClaimed (pos 0))
@@ -479,8 +390,8 @@ potentials_rank inst cert (MultiplierRepeated index) applies = omega arith
 potentials_rank inst cert (DualInfeasible i j) applies = omega arith
 potentials_rank inst cert reason applies = absurd applies
 
-branches_rank : (inst cert : Fields) (reason : Reason) → AppliesToBranches inst cert reason
-    → rank_of NotPotentials ≤ rank_of reason
+pub branches_rank : (inst cert : Fields) (reason : Reason) → AppliesToBranches inst cert reason
+    → rank_of NotBranches ≤ rank_of reason
 branches_rank inst cert NotBranches applies = omega arith
 branches_rank inst cert BranchesDimension applies = omega arith
 branches_rank inst cert (BadFamily index) applies = omega arith
@@ -491,8 +402,8 @@ branches_rank inst cert (BranchTwice index) applies = omega arith
 branches_rank inst cert (BadLeaf index) applies = omega arith
 branches_rank inst cert reason applies = absurd applies
 
-q_routes_rank : (inst cert : Fields) (reason : Reason) → AppliesToQRoutes inst cert reason
-    → rank_of NotPotentials ≤ rank_of reason
+pub q_routes_rank : (inst cert : Fields) (reason : Reason) → AppliesToQRoutes inst cert reason
+    → rank_of NotBranches ≤ rank_of reason
 q_routes_rank inst cert NotBranches applies = omega arith
 q_routes_rank inst cert BranchesDimension applies = omega arith
 q_routes_rank inst cert (BadFamily index) applies = omega arith
@@ -508,8 +419,10 @@ pub certificate_rank : (by : CertificateKind) (inst cert : Fields) (reason : Rea
     → rank_of NotPotentials ≤ rank_of reason
 certificate_rank Potentials inst cert reason applies = potentials_rank inst cert reason applies
 certificate_rank Branches inst cert reason applies =
-    tree_either inst.kind (λ Applies. (reason : Reason) → Applies reason → rank_of NotPotentials ≤ rank_of reason) inst cert
-    (branches_rank inst cert) (q_routes_rank inst cert) reason applies
+    let from : rank_of NotBranches ≤ rank_of reason =
+    tree_either inst.kind (λ Applies. (reason : Reason) → Applies reason → rank_of NotBranches ≤ rank_of reason) inst cert
+    (branches_rank inst cert) (q_routes_rank inst cert) reason applies in
+    omega (arith, from)
 
 -- ---- reasons against a solution, of one TYPE, and then against a certificate
 
@@ -534,7 +447,7 @@ own_first Own by inst cert reason own first = record {
     by_side other low (inr applies) =
         omega (arith, low, own reason first.applies, certificate_rank by inst cert other applies)
 
--- where none applies to the solution, the first against the certificate is the first of all
+-- if none applies to the solution, the first against the certificate is the first of all
 pub certificate_first : (Own : Reason → Type 0) (by : CertificateKind) (inst cert : Fields) (reason : Reason)
     → ((other : Reason) → Own other → ⊥)
     → IsFirstReason (AppliesToCertificate by inst cert) reason → IsFirstReason (Both Own by inst cert) reason

@@ -1,4 +1,5 @@
--- The keys of a set of pairs, and the fixed pairs of an instance, each once.
+-- For src/certificate.rt and src/potentials_certificate.rt: the keys of a set of pairs, and the fixed pairs of an
+-- instance, each once.
 use Rattle.tsp_verdict.proofs.Prelude.{◌≡◌, ℕ, ◌||◌, Bool, true, false, cond, eqb, leb, refl, sym, ap, ap₂, subst, ◌∙◌, inl, inr, arith, ◌+◌, ◌<◌, ◌≤◌, ◌&&◌, not, List, [], ◌∷◌, ◌++◌, get_or, length, take, drop, drop-cons, add-one, ◌-◌, and_from, and_parts, cases_cond, cases_order, eq-eqb, eqb-true, false≢true, le-leb, le-ltb, lt-leb, or_cases, cases_Bool, cases_lt, false_from_ne_true, append_assoc, drop_all, append-nil, length-map, take_more, get_or-take, get_or_default, length-take-le, All-from_recursion, recursion_from_All, BTreeSet, contains, Updates, All, AllByRecursion, list_any, AllPairs, ◌⊎◌, if◌then◌else◌, filter, ℤ, pos, IsPairOf, is_same_pair, pair_of, Uses, is_same, KeepsAll, KeepsDecision, DecideOnce, take_pairs}
 use Rattle.std.proofs.lemmas.List.Folds.{list_any-append, Any-from_list_any, list_any_at, list_any_more}
 use Rattle.std.proofs.lemmas.List.Kept.{AllPairs-cons}
@@ -11,7 +12,7 @@ use Rattle.tsp_bound.proofs.LoweredWeights.{straight, crossed}
 use Rattle.tsp_cases.specs.declared.decision.Decision.{Decision}
 use Rattle.tsp_cases.specs.states.OpenCases.{IsDecision}
 use Rattle.tsp_verdict.specs.Certificates.{each_once, IsListedEitherWay, pair_at, IsUnlisted, IsPairRepeated}
-use Rattle.tsp_verdict.specs.Solutions.{IsFirstPlace}
+use Rattle.tsp_theory.specs.First.{IsFirstPlace}
 use Rattle.tsp_verdict.specs.states.PairSets.{undirected, pair_cmp, key_of, HasKeys, HasPairs}
 
 -- ---- the two directions of a pair
@@ -447,14 +448,16 @@ repeated_pair triples s i lt has apart there =
     let known : is_same_pair (pair_of (get_or triples found.0 none)) pair ≡ true = ap (λ x. is_same_pair (pair_of x) pair) same
     ∙ same_turn (pair_of found.1) pair ∙ found.4 in
     record {
-      here = (omega arith, omega (arith, lt));
-      holds = (
-        found.0 + 1,
-        omega arith,
-        omega (arith, low),
-        ap₂ (λ p q. is_same_pair p q) (at_place triples found.0) (at_place triples i) ∙ known,
+      applies = (
+        (omega arith, omega (arith, lt)),
+        (
+          found.0 + 1,
+          omega arith,
+          omega (arith, low),
+          ap₂ (λ p q. is_same_pair p q) (at_place triples found.0) (at_place triples i) ∙ known,
+        ),
       );
-      first = λ earlier from before again.
+      none_before = λ earlier before from again.
           let e : is_same_pair (pair_at triples again.0) (pair_at triples earlier) ≡ false =
           apart (again.0 - 1) (earlier - 1) (omega (arith, again.1, again.2)) (omega (arith, before, from)) in
           false≢true (sym e ∙ again.3);
@@ -495,10 +498,12 @@ pub outside_here : (pairs : List (ℕ × ℕ)) (s : BTreeSet (ℕ × ℕ)) (trip
     → contains pair_cmp s (undirected (pair_of (get_or triples i (0, 0, pos 0)))) ≡ false
     → IsFirstPlace (IsUnlisted pairs triples) triples (i + 1)
 outside_here pairs s triples i has lt inside lacks = record {
-  here = (omega arith, omega (arith, lt));
-  holds = λ is. lacks_unlisted pairs s (pair_of (get_or triples i none)) has lacks
-      (subst (IsListedEitherWay pairs) (at_place triples i) is);
-  first = λ earlier from before isnt. isnt
+  applies = (
+    (omega arith, omega (arith, lt)),
+    λ is. lacks_unlisted pairs s (pair_of (get_or triples i none)) has lacks
+        (subst (IsListedEitherWay pairs) (at_place triples i) is),
+  );
+  none_before = λ earlier before from isnt. isnt
       (has_listed pairs s (pair_at triples earlier) has (inside (earlier - 1) none (omega (arith, from, before))));
 }
 

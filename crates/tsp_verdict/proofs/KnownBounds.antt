@@ -1,19 +1,17 @@
--- The verdict on a solution by what is known of its instance before it is read.
-use Rattle.tsp_verdict.proofs.Prelude.{◌≡◌, Some, inl, inr, Option, None, ℕ, refl, sym, subst, ◌∙◌, ◌<◌, ◌≤◌, true, ap₂, arith, false≢true, ◌⊎◌, ℤ, IsTrue, MatchOption, option_map, Fields, is_tour_file, BoundsTours, HasNoTour, IsLeastRoutes, problem_of, routing_of, capacity_of, rank_of, CertificateKind, Reason, TooFewNodes, NotSymmetric, DepotCount, DepotDemand, FixedEdgesInRoutes, LengthClaimed, NotASolution, Dimension, NotPotentials, Verdict}
+-- For src/solution_verdict.rt: the verdict on a solution by what was found of all solutions of its instance, with a
+-- certificate or without. Proofs in tsp_judge use it, too.
+use Rattle.tsp_verdict.proofs.Prelude.{◌≡◌, Some, inl, inr, Option, None, ℕ, refl, sym, subst, ◌∙◌, ◌<◌, ◌≤◌, true, false, ap, arith, false≢true, ◌⊎◌, ℤ, IsTrue, MatchOption, option_map, Kind, Fields, is_tour_file, BoundsTours, HasNoTour, IsLeastRoutes, problem_of, routing_of, capacity_of, rank_of, CertificateKind, Reason, TooFewNodes, NotSymmetric, DepotCount, DepotDemand, FixedEdgesInRoutes, LengthClaimed, NotASolution, Dimension, NotPotentials, Verdict}
 use Rattle.tsp_format.specs.declared.kinds.Kind.TheVariants as kinds
 use Rattle.tsp_routing.specs.PlanLinks.{HasNoPlan}
-use Rattle.tsp_report.specs.declared.verdict.KnownBound.{KnownBound}
-use Rattle.tsp_report.specs.declared.verdict.KnownBound.TheVariants as known_bounds
+use Rattle.tsp_report.specs.Verdicts.{is_yes}
 use Rattle.tsp_report.specs.declared.verdict.BoundVerdict.{BoundVerdict}
 use Rattle.tsp_report.specs.declared.verdict.BoundVerdict.TheVariants as bounds
 use Rattle.tsp_report.specs.declared.verdict.Verdict.TheVariants as verdicts
-use Rattle.tsp_verdict.proofs.FirstReasons.{HasTours, of_tours, of_routing, tour_rank, routes_rank, own_first, certificate_first, none_at_all, certified_tour, certified_routes, certificate_rank, for_tours, tours_by, routes_by}
-use Rattle.tsp_verdict.specs.Certified.{AppliesToTouring, AppliesToRouting, AppliesToInstance, NoneAgainstInstance, AppliesToBounded, IsBoundVerdict, AppliesToCertificate, FindsBound, BoundsSolutionsBy, BoundsSolutions, IsCertifiedVerdict, NoneAgainstTouring, is_bounded, HasNoSolutionBy, HasNoSolution}
-use Rattle.tsp_verdict.specs.SolutionVerdict.{IsVerdictBy, IsVerdictOn, IsAsClaimed, IsOtherClaimed, HasLength, HasNoLength, IsVerdictWith, IsKnownBoundOfTours, IsKnownBoundOfRoutes, IsKnownBoundAlone, IsKnownBoundOfToursBy, IsKnownBoundOfRoutesBy, IsKnownBound, HasKnownBound, IsVerdictFrom}
-use Rattle.tsp_verdict.specs.Solutions.{IsFirstReason, AppliesToRoutes, AppliesToTour, IsFirstAgainstRoutes, IsRoutesVerdict, IsFirstAgainstTour, IsTourVerdict, total_of, tours_of, NoneOfTourBefore}
-use Rattle.tsp_verdict.specs.declared.solution_verdict.BoundOrigin.{BoundOrigin}
-use Rattle.tsp_verdict.specs.declared.solution_verdict.BoundOrigin.TheVariants as origins
-use Rattle.tsp_verdict.specs.states.TourKnownBounds.{tour_verdict, plan_verdict, IsJudgeInput, IsVerdictGiven, IsKnownBoundGiven, against_instance, KnowsInstance}
+use Rattle.tsp_verdict.proofs.FirstReasons.{HasTours, of_tours, of_routing, tour_rank, routes_rank, own_first, certificate_first, none_at_all, certified_tour, certified_routes, certificate_rank, for_tours}
+use Rattle.tsp_verdict.specs.Certified.{AppliesToTouring, AppliesToRouting, AppliesToInstance, NoneAgainstInstance, AppliesToBounded, IsBoundVerdict, AppliesToCertificate, FindsBound, BoundsSolutionsBy, BoundsSolutions, IsCertifiedVerdict, IsCertifiedVerdictBy, NoneAgainstTouring, is_bounded, HasNoSolutionBy}
+use Rattle.tsp_verdict.specs.SolutionVerdict.{IsVerdictBy, IsVerdictOn, IsAsClaimed, IsOtherClaimed, HasLength, HasNoLength, IsVerdictWith, IsFoundWith, IsLeastKnownBy, IsAsFound}
+use Rattle.tsp_verdict.specs.Solutions.{IsFirstReason, AppliesToRoutes, AppliesToTour, IsRoutesVerdict, IsTourVerdict, total_of, tours_of, NoneOfTourBefore, NoneOfTourBeforeRepeats, NoneOfRoutesBeforeRepeats}
+use Rattle.tsp_verdict.specs.states.TourKnownBounds.{with_found, against_instance, KnowsInstance}
 
 -- a reason against the instance is one against each tour too, or against all routes
 pub against_tour : (inst sol : Fields) (reason : Reason) → AppliesToTouring inst reason → AppliesToTour inst sol reason
@@ -28,7 +26,7 @@ against_routes inst sol DepotDemand applies = applies
 against_routes inst sol FixedEdgesInRoutes applies = applies
 against_routes inst sol reason applies = absurd applies
 
--- so none applies to the instance where none does to the solution
+-- so none applies to the instance if none does to the solution
 pub none_of_tour : (inst sol : Fields) → HasTours inst → ((reason : Reason) → AppliesToTour inst sol reason → ⊥)
     → NoneAgainstInstance inst
 none_of_tour inst sol kind none reason applies = none reason (against_tour inst sol reason (of_tours inst reason kind applies))
@@ -50,16 +48,127 @@ first_of_certificate by inst cert reason none first = record {
     by_side (inl applies) = absurd (none reason applies)
     by_side (inr applies) = applies
 
--- where no reason applies to the instance, what was found is what the certificate gives
+-- if no reason applies to the instance, what was found is what the certificate gives
 pub found_by_certificate : (by : CertificateKind) (inst cert : Fields) (found : BoundVerdict) → NoneAgainstInstance inst
     → IsBoundVerdict by inst cert found → FindsBound by inst cert found
 found_by_certificate by inst cert (bounds.Bound bound) none is = (λ reason applies. is.0 reason (inr applies), is.1)
 found_by_certificate by inst cert bounds.NoSolution none is = (λ reason applies. is.0 reason (inr applies), is.1, is.2)
 found_by_certificate by inst cert (bounds.No reason) none is = first_of_certificate by inst cert reason none is
 
--- ---- the verdict on a solution where `--length` claims a length
+-- ---- what was found says whether a reason applies to an instance of tours
 
--- ---- without a certificate
+instance_rank : (inst : Fields) (reason : Reason) → AppliesToTouring inst reason → rank_of reason < rank_of Dimension
+instance_rank inst TooFewNodes applies = omega arith
+instance_rank inst (NotSymmetric i j) applies = omega arith
+instance_rank inst reason applies = absurd applies
+
+-- the first of all is the first against the instance, if it comes before those against the certificate
+of_instance : (by : CertificateKind) (inst cert : Fields) (reason : Reason) → HasTours inst → rank_of reason < rank_of NotPotentials
+    → IsFirstReason (AppliesToBounded by inst cert) reason
+    → IsFirstReason (AppliesToTouring inst) reason
+of_instance by inst cert reason kind early first = record {
+  applies = by_side first.applies;
+  none_before = λ other low applies. first.none_before other low (inl (for_tours inst other kind applies));
+}
+  where
+    by_side : AppliesToInstance inst reason ⊎ AppliesToCertificate by inst cert reason → AppliesToTouring inst reason
+    by_side (inl applies) = of_tours inst reason kind applies
+    by_side (inr applies) = absurd (omega (arith, early, certificate_rank by inst cert reason applies))
+
+-- none applies to the instance, if the first of all comes after those
+after_instance : (by : CertificateKind) (inst cert : Fields) (reason : Reason) → HasTours inst → rank_of Dimension ≤ rank_of reason
+    → IsFirstReason (AppliesToBounded by inst cert) reason → NoneAgainstTouring inst
+after_instance by inst cert reason kind late first =
+    λ other applies. first.none_before other (omega (arith, late, instance_rank inst other applies))
+    (inl (for_tours inst other kind applies))
+
+-- whether the file is a solution is judged of that alone
+no_solution : (by : CertificateKind) (inst cert : Fields) → HasTours inst
+    → AppliesToInstance inst NotASolution ⊎ AppliesToCertificate by inst cert NotASolution → ⊥
+no_solution by inst cert kind (inl applies) = of_tours inst NotASolution kind applies
+no_solution by inst cert kind (inr applies) = omega (arith, certificate_rank by inst cert NotASolution applies)
+
+reason_alone : (inst : Fields) (reason : Reason) → IsFirstReason (AppliesToTouring inst) reason
+    → KnowsInstance inst (Some (bounds.No reason))
+reason_alone inst TooFewNodes first = first
+reason_alone inst (NotSymmetric i j) first = first
+reason_alone inst reason first = absurd first.applies
+
+reason_by : (by : CertificateKind) (inst cert : Fields) (reason : Reason) → HasTours inst
+    → IsFirstReason (AppliesToBounded by inst cert) reason
+    → KnowsInstance inst (Some (bounds.No reason))
+reason_by by inst cert TooFewNodes kind first = of_instance by inst cert TooFewNodes kind (omega arith) first
+reason_by by inst cert (NotSymmetric i j) kind first = of_instance by inst cert (NotSymmetric i j) kind (omega arith) first
+reason_by by inst cert NotASolution kind first = absurd (no_solution by inst cert kind first.applies)
+reason_by by inst cert reason kind first = after_instance by inst cert reason kind (omega arith) first
+
+first_of_tours : (inst : Fields) (reason : Reason) → HasTours inst → IsFirstReason (AppliesToInstance inst) reason
+    → IsFirstReason (AppliesToTouring inst) reason
+first_of_tours inst reason kind first = record {
+  applies = of_tours inst reason kind first.applies;
+  none_before = λ other low applies. first.none_before other low (for_tours inst other kind applies);
+}
+
+-- what was found of tours has the reason against the instance, if one applies
+pub knows_instance : (given : Option (CertificateKind × Fields)) (inst : Fields) (found : Option BoundVerdict) → HasTours inst
+    → IsFoundWith given inst found → KnowsInstance inst found
+knows_instance None inst None kind b = λ reason applies. b reason (for_tours inst reason kind applies)
+knows_instance None inst (Some (bounds.Bound bound)) kind b = absurd b
+knows_instance None inst (Some bounds.NoSolution) kind b = absurd b
+knows_instance None inst (Some (bounds.No reason)) kind b = reason_alone inst reason (first_of_tours inst reason kind b)
+knows_instance (Some given) inst None kind b = absurd b
+knows_instance (Some given) inst (Some (bounds.Bound bound)) kind b = λ reason applies. b.0 reason (inl (for_tours inst reason kind applies))
+knows_instance (Some given) inst (Some bounds.NoSolution) kind b = λ reason applies. b.0 reason (inl (for_tours inst reason kind applies))
+knows_instance (Some given) inst (Some (bounds.No reason)) kind b = reason_by given.0 inst given.1 reason kind b
+
+-- if it has none, none applies to the instance
+pub none_known : (inst : Fields) (found : Option BoundVerdict) (reason : Option Reason) → reason ≡ against_instance found → reason ≡ None
+    → KnowsInstance inst found → NoneAgainstTouring inst
+none_known inst found reason is none knows =
+    subst (λ (it : Option Reason). MatchOption it (NoneAgainstTouring inst)
+    (λ reason. IsFirstReason (AppliesToTouring inst) reason)) (sym is ∙ none) knows
+
+-- the one that it has is the first
+pub first_known : (inst : Fields) (found : Option BoundVerdict) (reason : Option Reason) (first : Reason)
+    → reason ≡ against_instance found → reason ≡ Some first → KnowsInstance inst found
+    → IsFirstReason (AppliesToTouring inst) first
+first_known inst found reason first is some knows =
+    subst (λ (it : Option Reason). MatchOption it (NoneAgainstTouring inst) (λ r. IsFirstReason (AppliesToTouring inst) r))
+    (sym is ∙ some) knows
+
+-- of a file of tours, it is the first reason against the solution
+pub first_of_file : (inst sol : Fields) (reason : Reason) → is_tour_file sol.kind ≡ true
+    → IsFirstReason (AppliesToTouring inst) reason → IsFirstReason (AppliesToTour inst sol) reason
+first_of_file inst sol TooFewNodes is first = record {
+  applies = first.applies;
+  none_before = λ other low applies. before other low applies;
+}
+  where
+    before : (other : Reason) → rank_of other < rank_of TooFewNodes → AppliesToTour inst sol other → ⊥
+    before NotASolution low applies = false≢true (sym applies ∙ is)
+    before other low applies = absurd (omega (arith, low))
+first_of_file inst sol (NotSymmetric i j) is first = record {
+  applies = first.applies;
+  none_before = λ other low applies. before other low applies;
+}
+  where
+    before : (other : Reason) → rank_of other < rank_of (NotSymmetric i j) → AppliesToTour inst sol other → ⊥
+    before NotASolution low applies = false≢true (sym applies ∙ is)
+    before TooFewNodes low applies = first.none_before TooFewNodes low applies
+    before other low applies = absurd (omega (arith, low))
+first_of_file inst sol reason is first = absurd first.applies
+
+-- ---- the reasons before those against the tours
+
+-- if no reason applies to the instance, none up to the dimension applies to the solution
+pub up_to_dimension : (inst sol : Fields) → is_tour_file sol.kind ≡ true → NoneAgainstTouring inst
+    → NoneOfTourBefore inst sol Dimension
+up_to_dimension inst sol is none NotASolution low applies = false≢true (sym applies ∙ is)
+up_to_dimension inst sol is none TooFewNodes low applies = none TooFewNodes applies
+up_to_dimension inst sol is none (NotSymmetric i j) low applies = none (NotSymmetric i j) applies
+up_to_dimension inst sol is none reason low applies = absurd (omega (arith, low))
+
+-- ---- a length that is claimed
 
 pub refused_alone : (claimed : Option ℤ) (inst sol : Fields) (verdict : Verdict) → HasNoLength verdict
     → IsVerdictOn inst sol verdict → IsVerdictWith None claimed inst sol verdict
@@ -82,26 +191,39 @@ accepted_alone (Some claim) inst sol (verdicts.Tour length_is bound) found has c
 accepted_alone (Some claim) inst sol (verdicts.Routes length_is routes least bound) found has claims v = (v, claims ∙ has)
 accepted_alone (Some claim) inst sol (verdicts.No reason) found has claims v = absurd has
 
--- ---- with a certificate: a tour
-
 -- a verdict on a tour is the verdict on the solution
-on_a_tour : (inst sol : Fields) (verdict : Verdict) → HasTours inst → IsTourVerdict inst sol verdict → IsVerdictOn inst sol verdict
+pub on_a_tour : (inst sol : Fields) (verdict : Verdict) → HasTours inst → IsTourVerdict inst sol verdict → IsVerdictOn inst sol verdict
 on_a_tour inst sol verdict (inl tsp) v = subst (λ kind. IsVerdictBy kind inst sol verdict) (sym tsp) v
 on_a_tour inst sol verdict (inr atsp) v = subst (λ kind. IsVerdictBy kind inst sol verdict) (sym atsp) v
 
-pub tour_refused : (by : CertificateKind) (inst sol cert : Fields) (claimed : Option ℤ) (reason : Reason)
-    → HasTours inst → IsFirstAgainstTour inst sol reason
-    → IsVerdictWith (Some (by, cert)) claimed inst sol (verdicts.No reason)
-tour_refused by inst sol cert None reason kind first = certified_tour by inst sol cert (verdicts.No reason) kind
-    (own_first (AppliesToTour inst sol) by inst cert reason (tour_rank inst sol) first)
-tour_refused by inst sol cert (Some claim) reason kind first = inl (on_a_tour inst sol (verdicts.No reason) kind first)
+-- a verdict on routes is the verdict on the solution
+pub on_routes : (inst sol : Fields) (verdict : Verdict) → inst.kind ≡ Some kinds.Cvrp → IsRoutesVerdict inst sol verdict
+    → IsVerdictOn inst sol verdict
+on_routes inst sol verdict cvrp v = subst (λ kind. IsVerdictBy kind inst sol verdict) (sym cvrp) v
 
-pub tour_of_another_length : (by : CertificateKind) (inst sol cert : Fields) (claimed : Option ℤ) (found : ℤ)
-    → HasTours inst → IsTourVerdict inst sol (verdicts.Tour found None)
-    → IsOtherClaimed claimed found → IsVerdictWith (Some (by, cert)) claimed inst sol (verdicts.No (LengthClaimed found))
-tour_of_another_length by inst sol cert None found kind v other = absurd other
-tour_of_another_length by inst sol cert (Some claim) found kind v other =
-    inr (inl (found, (verdicts.Tour found None, on_a_tour inst sol (verdicts.Tour found None) kind v, refl), other, refl))
+-- ---- with a certificate: a rejected solution keeps its reason
+
+certified_refusal : (kind : Option Kind) (by : CertificateKind) (inst sol cert : Fields) (reason : Reason)
+    → IsVerdictBy kind inst sol (verdicts.No reason) → IsCertifiedVerdictBy kind by inst sol cert (verdicts.No reason)
+certified_refusal (Some kinds.Tsp) by inst sol cert reason first =
+    own_first (AppliesToTour inst sol) by inst cert reason (tour_rank inst sol) first
+certified_refusal (Some kinds.Atsp) by inst sol cert reason first =
+    own_first (AppliesToTour inst sol) by inst cert reason (tour_rank inst sol) first
+certified_refusal (Some kinds.Cvrp) by inst sol cert reason first =
+    own_first (AppliesToRoutes inst sol) by inst cert reason (routes_rank inst sol) first
+certified_refusal (Some kinds.Tour) by inst sol cert reason first = absurd first
+certified_refusal (Some kinds.Potentials) by inst sol cert reason first = absurd first
+certified_refusal (Some kinds.Branches) by inst sol cert reason first = absurd first
+certified_refusal None by inst sol cert reason first = absurd first
+
+still_refused : (by : CertificateKind) (inst sol cert : Fields) (claimed : Option ℤ) (reason : Reason)
+    → IsVerdictWith None claimed inst sol (verdicts.No reason) → IsVerdictWith (Some (by, cert)) claimed inst sol (verdicts.No reason)
+still_refused by inst sol cert None reason v = certified_refusal inst.kind by inst sol cert reason v
+still_refused by inst sol cert (Some claim) reason (inl own) = inl own
+still_refused by inst sol cert (Some claim) reason (inr (inl other)) = inr (inl other)
+still_refused by inst sol cert (Some claim) reason (inr (inr none)) = absurd none.1
+
+-- ---- a tour
 
 pub certificate_refused : (by : CertificateKind) (inst sol cert : Fields) (claimed : Option ℤ) (found : ℤ) (reason : Reason)
     → HasTours inst
@@ -142,19 +264,20 @@ pub tour_bounded : (by : CertificateKind) (inst sol cert : Fields) (claimed : Op
 tour_bounded by inst sol cert None found bound kind v claims b = certified by inst sol cert found bound kind v b
 tour_bounded by inst sol cert (Some claim) found bound kind v claims b = (certified by inst sol cert found bound kind v b, claims)
 
+without_tour : (inst : Fields) → HasTours inst → HasNoSolutionBy inst.kind inst → HasNoTour (problem_of inst)
+without_tour inst (inl tsp) none = subst (λ kind. HasNoSolutionBy kind inst) tsp none
+without_tour inst (inr atsp) none = subst (λ kind. HasNoSolutionBy kind inst) atsp none
+
+tour_with : (by : CertificateKind) (inst sol cert : Fields) (claimed : Option ℤ) (length : ℤ) (found : BoundVerdict) → HasTours inst
+    → IsTourVerdict inst sol (verdicts.Tour length None) → IsAsClaimed claimed length → FindsBound by inst cert found
+    → IsVerdictWith (Some (by, cert)) claimed inst sol (with_found (verdicts.Tour length None) (Some found))
+tour_with by inst sol cert claimed length (bounds.Bound bound) kind v claims b =
+    tour_bounded by inst sol cert claimed length bound kind v claims b
+tour_with by inst sol cert claimed length bounds.NoSolution kind v claims b = absurd (without_tour inst kind b.2 v.1.0 v.1.2)
+tour_with by inst sol cert claimed length (bounds.No reason) kind v claims b =
+    certificate_refused by inst sol cert claimed length reason kind v claims b
+
 -- ---- routes
-
--- a verdict on routes is the verdict on the solution
-pub on_routes : (inst sol : Fields) (verdict : Verdict) → inst.kind ≡ Some kinds.Cvrp → IsRoutesVerdict inst sol verdict
-    → IsVerdictOn inst sol verdict
-on_routes inst sol verdict cvrp v = subst (λ kind. IsVerdictBy kind inst sol verdict) (sym cvrp) v
-
-pub routes_refused : (by : CertificateKind) (inst sol cert : Fields) (claimed : Option ℤ) (reason : Reason)
-    → inst.kind ≡ Some kinds.Cvrp → IsFirstAgainstRoutes inst sol reason
-    → IsVerdictWith (Some (by, cert)) claimed inst sol (verdicts.No reason)
-routes_refused by inst sol cert None reason cvrp first = certified_routes by inst sol cert (verdicts.No reason) cvrp
-    (own_first (AppliesToRoutes inst sol) by inst cert reason (routes_rank inst sol) first)
-routes_refused by inst sol cert (Some claim) reason cvrp first = inl (on_routes inst sol (verdicts.No reason) cvrp first)
 
 pub routes_uncertified : (by : CertificateKind) (inst sol cert : Fields) (claimed : Option ℤ) (found : ℤ) (count fewest : ℕ)
     (reason : Reason) → inst.kind ≡ Some kinds.Cvrp
@@ -196,354 +319,204 @@ routes_bounded by inst sol cert None found count fewest bound cvrp v claims b =
 routes_bounded by inst sol cert (Some claim) found count fewest bound cvrp v claims b =
     (certified_plan by inst sol cert found count fewest bound cvrp v b, claims)
 
--- ---- a known bound, which is what is known of all solutions before one is read
+plan_with : (by : CertificateKind) (inst sol cert : Fields) (claimed : Option ℤ) (length : ℤ) (count fewest : ℕ) (found : BoundVerdict)
+    → inst.kind ≡ Some kinds.Cvrp → IsRoutesVerdict inst sol (verdicts.Routes length count fewest None) → IsAsClaimed claimed length
+    → FindsBound by inst cert found
+    → IsVerdictWith (Some (by, cert)) claimed inst sol (with_found (verdicts.Routes length count fewest None) (Some found))
+plan_with by inst sol cert claimed length count fewest (bounds.Bound bound) cvrp v claims b =
+    routes_bounded by inst sol cert claimed length count fewest bound cvrp v claims b
+plan_with by inst sol cert claimed length count fewest bounds.NoSolution cvrp v claims b =
+    let none : HasNoPlan (routing_of inst) = subst (λ kind. HasNoSolutionBy kind inst) cvrp b.2 in
+    absurd (none (tours_of sol) (record { plan = v.1.plan_of; each = v.1.filled }))
+plan_with by inst sol cert claimed length count fewest (bounds.No reason) cvrp v claims b =
+    routes_uncertified by inst sol cert claimed length count fewest reason cvrp v claims b
 
--- ---- what a known bound of tours says of the instance
+-- ---- either
 
-alone_of_tours : (inst : Fields) (known_bound : KnownBound) → HasTours inst → IsKnownBoundAlone inst.kind inst known_bound → IsKnownBoundOfTours inst known_bound
-alone_of_tours inst known_bound (inl tsp) b = subst (λ kind. IsKnownBoundAlone kind inst known_bound) tsp b
-alone_of_tours inst known_bound (inr atsp) b = subst (λ kind. IsKnownBoundAlone kind inst known_bound) atsp b
+-- an accepted tour is one of an instance of tours, without a bound
+pub record IsOwnTour (inst sol : Fields) (claimed : Option ℤ) (length : ℤ) (bound : Option ℤ) : Type 0 where
+  pub kind : HasTours inst
+  pub own : IsTourVerdict inst sol (verdicts.Tour length None)
+  pub alone : bound ≡ None
+  pub claims : IsAsClaimed claimed length
 
-instance_rank : (inst : Fields) (reason : Reason) → AppliesToTouring inst reason → rank_of reason < rank_of Dimension
-instance_rank inst TooFewNodes applies = omega arith
-instance_rank inst (NotSymmetric i j) applies = omega arith
-instance_rank inst reason applies = absurd applies
+own_tour_by : (kind : Option Kind) (inst sol : Fields) (length : ℤ) (bound : Option ℤ) → inst.kind ≡ kind
+    → IsVerdictBy kind inst sol (verdicts.Tour length bound) → HasTours inst × IsTourVerdict inst sol (verdicts.Tour length bound)
+own_tour_by (Some kinds.Tsp) inst sol length bound is v = (inl is, v)
+own_tour_by (Some kinds.Atsp) inst sol length bound is v = (inr is, v)
+own_tour_by (Some kinds.Cvrp) inst sol length bound is v = absurd v
+own_tour_by (Some kinds.Tour) inst sol length bound is v = absurd v
+own_tour_by (Some kinds.Potentials) inst sol length bound is v = absurd v
+own_tour_by (Some kinds.Branches) inst sol length bound is v = absurd v
+own_tour_by None inst sol length bound is v = absurd v
 
--- the first of all is the first against the instance, where it comes before those against the certificate
-of_instance : (by : CertificateKind) (inst cert : Fields) (reason : Reason) → HasTours inst → rank_of reason < rank_of NotPotentials
-    → IsFirstReason (AppliesToBounded by inst cert) reason
-    → IsFirstReason (AppliesToTouring inst) reason
-of_instance by inst cert reason kind early first = record {
-  applies = by_side first.applies;
-  none_before = λ other low applies. first.none_before other low (inl (for_tours inst other kind applies));
-}
-  where
-    by_side : AppliesToInstance inst reason ⊎ AppliesToCertificate by inst cert reason → AppliesToTouring inst reason
-    by_side (inl applies) = of_tours inst reason kind applies
-    by_side (inr applies) = absurd (omega (arith, early, certificate_rank by inst cert reason applies))
+own_tour : (claimed : Option ℤ) (inst sol : Fields) (length : ℤ) (bound : Option ℤ)
+    → IsVerdictWith None claimed inst sol (verdicts.Tour length bound) → IsOwnTour inst sol claimed length bound
+own_tour None inst sol length bound v =
+    let by = own_tour_by inst.kind inst sol length bound refl v in
+    record { kind = by.0; own = (by.1.0, by.1.1, refl); alone = by.1.2; claims = tt }
+own_tour (Some claim) inst sol length bound v =
+    let by = own_tour_by inst.kind inst sol length bound refl v.0 in
+    record { kind = by.0; own = (by.1.0, by.1.1, refl); alone = by.1.2; claims = v.1 }
 
--- none applies to the instance, where the first of all comes after those
-after_instance : (by : CertificateKind) (inst cert : Fields) (reason : Reason) → HasTours inst → rank_of Dimension ≤ rank_of reason
-    → IsFirstReason (AppliesToBounded by inst cert) reason → NoneAgainstTouring inst
-after_instance by inst cert reason kind late first =
-    λ other applies. first.none_before other (omega (arith, late, instance_rank inst other applies))
-    (inl (for_tours inst other kind applies))
+-- accepted routes are a plan of an instance of routes, without a bound
+pub record AreOwnRoutes (inst sol : Fields) (claimed : Option ℤ) (length : ℤ) (count fewest : ℕ) (bound : Option ℤ) : Type 0 where
+  pub kind : inst.kind ≡ Some kinds.Cvrp
+  pub own : IsRoutesVerdict inst sol (verdicts.Routes length count fewest None)
+  pub alone : bound ≡ None
+  pub claims : IsAsClaimed claimed length
 
--- whether the file is a solution is judged of that alone
-no_solution : (by : CertificateKind) (inst cert : Fields) → HasTours inst
-    → AppliesToInstance inst NotASolution ⊎ AppliesToCertificate by inst cert NotASolution → ⊥
-no_solution by inst cert kind (inl applies) = of_tours inst NotASolution kind applies
-no_solution by inst cert kind (inr applies) = omega (arith, certificate_rank by inst cert NotASolution applies)
+own_routes_by : (kind : Option Kind) (inst sol : Fields) (length : ℤ) (count fewest : ℕ) (bound : Option ℤ) → inst.kind ≡ kind
+    → IsVerdictBy kind inst sol (verdicts.Routes length count fewest bound)
+    → (inst.kind ≡ Some kinds.Cvrp) × IsRoutesVerdict inst sol (verdicts.Routes length count fewest bound)
+own_routes_by (Some kinds.Tsp) inst sol length count fewest bound is v = absurd v
+own_routes_by (Some kinds.Atsp) inst sol length count fewest bound is v = absurd v
+own_routes_by (Some kinds.Cvrp) inst sol length count fewest bound is v = (is, v)
+own_routes_by (Some kinds.Tour) inst sol length count fewest bound is v = absurd v
+own_routes_by (Some kinds.Potentials) inst sol length count fewest bound is v = absurd v
+own_routes_by (Some kinds.Branches) inst sol length count fewest bound is v = absurd v
+own_routes_by None inst sol length count fewest bound is v = absurd v
 
-reason_alone : (inst : Fields) (reason : Reason) → IsFirstReason (AppliesToTouring inst) reason
-    → KnowsInstance inst (known_bounds.No reason)
-reason_alone inst TooFewNodes first = first
-reason_alone inst (NotSymmetric i j) first = first
-reason_alone inst reason first = absurd first.applies
+own_routes : (claimed : Option ℤ) (inst sol : Fields) (length : ℤ) (count fewest : ℕ) (bound : Option ℤ)
+    → IsVerdictWith None claimed inst sol (verdicts.Routes length count fewest bound)
+    → AreOwnRoutes inst sol claimed length count fewest bound
+own_routes None inst sol length count fewest bound v =
+    let by = own_routes_by inst.kind inst sol length count fewest bound refl v in
+    record { kind = by.0; own = (by.1.0, by.1.1, refl); alone = by.1.2; claims = tt }
+own_routes (Some claim) inst sol length count fewest bound v =
+    let by = own_routes_by inst.kind inst sol length count fewest bound refl v.0 in
+    record { kind = by.0; own = (by.1.0, by.1.1, refl); alone = by.1.2; claims = v.1 }
 
-reason_by : (by : CertificateKind) (inst cert : Fields) (reason : Reason) → HasTours inst
-    → IsFirstReason (AppliesToBounded by inst cert) reason
-    → KnowsInstance inst (known_bounds.No reason)
-reason_by by inst cert TooFewNodes kind first = of_instance by inst cert TooFewNodes kind (omega arith) first
-reason_by by inst cert (NotSymmetric i j) kind first = of_instance by inst cert (NotSymmetric i j) kind (omega arith) first
-reason_by by inst cert NotASolution kind first = absurd (no_solution by inst cert kind first.applies)
-reason_by by inst cert reason kind first = after_instance by inst cert reason kind (omega arith) first
+-- a tour, by what the certificate gives; a tour by itself if nothing was found
+tour_found : (given : Option (CertificateKind × Fields)) (claimed : Option ℤ) (inst sol : Fields) (length : ℤ) (found : Option BoundVerdict)
+    → IsOwnTour inst sol claimed length None → IsFoundWith given inst found
+    → IsVerdictWith given claimed inst sol (with_found (verdicts.Tour length None) found)
+tour_found None claimed inst sol length None own b =
+    accepted_alone claimed inst sol (verdicts.Tour length None) length refl own.claims (on_a_tour inst sol (verdicts.Tour length None) own.kind own.own)
+tour_found None claimed inst sol length (Some (bounds.Bound bound)) own b = absurd b
+tour_found None claimed inst sol length (Some bounds.NoSolution) own b = absurd b
+tour_found None claimed inst sol length (Some (bounds.No reason)) own b = absurd (none_of_tour inst sol own.kind own.own.0 reason b.applies)
+tour_found (Some given) claimed inst sol length None own b = absurd b
+tour_found (Some given) claimed inst sol length (Some found) own b =
+    tour_with given.0 inst sol given.1 claimed length found own.kind own.own own.claims
+    (found_by_certificate given.0 inst given.1 found (none_of_tour inst sol own.kind own.own.0) b)
 
-knows_alone : (inst : Fields) (known_bound : KnownBound) → IsKnownBoundOfTours inst known_bound → KnowsInstance inst known_bound
-knows_alone inst (known_bounds.Tours None) b = b
-knows_alone inst (known_bounds.Tours (Some bound)) b = absurd b
-knows_alone inst known_bounds.NoSolution b = absurd b
-knows_alone inst (known_bounds.Routes least bound) b = absurd b
-knows_alone inst (known_bounds.No reason) b = reason_alone inst reason b
+plan_found : (given : Option (CertificateKind × Fields)) (claimed : Option ℤ) (inst sol : Fields) (length : ℤ) (count fewest : ℕ)
+    (found : Option BoundVerdict) → AreOwnRoutes inst sol claimed length count fewest None → IsFoundWith given inst found
+    → IsVerdictWith given claimed inst sol (with_found (verdicts.Routes length count fewest None) found)
+plan_found None claimed inst sol length count fewest None own b =
+    accepted_alone claimed inst sol (verdicts.Routes length count fewest None) length refl own.claims
+    (on_routes inst sol (verdicts.Routes length count fewest None) own.kind own.own)
+plan_found None claimed inst sol length count fewest (Some (bounds.Bound bound)) own b = absurd b
+plan_found None claimed inst sol length count fewest (Some bounds.NoSolution) own b = absurd b
+plan_found None claimed inst sol length count fewest (Some (bounds.No reason)) own b =
+    absurd (none_of_routes inst sol own.kind own.own.0 reason b.applies)
+plan_found (Some given) claimed inst sol length count fewest None own b = absurd b
+plan_found (Some given) claimed inst sol length count fewest (Some found) own b =
+    plan_with given.0 inst sol given.1 claimed length count fewest found own.kind own.own own.claims
+    (found_by_certificate given.0 inst given.1 found (none_of_routes inst sol own.kind own.own.0) b)
 
-knows_by : (by : CertificateKind) (inst cert : Fields) (known_bound : KnownBound) → HasTours inst → IsKnownBoundOfToursBy by inst cert known_bound
-    → KnowsInstance inst known_bound
-knows_by by inst cert (known_bounds.Tours None) kind b = absurd b
-knows_by by inst cert (known_bounds.Tours (Some bound)) kind b = λ reason applies. b.0 reason (inl (for_tours inst reason kind applies))
-knows_by by inst cert known_bounds.NoSolution kind b = λ reason applies. b.0 reason (inl (for_tours inst reason kind applies))
-knows_by by inst cert (known_bounds.Routes least bound) kind b = absurd b
-knows_by by inst cert (known_bounds.No reason) kind b = reason_by by inst cert reason kind b
+refused_found : (given : Option (CertificateKind × Fields)) (claimed : Option ℤ) (inst sol : Fields) (reason : Reason)
+    → IsVerdictWith None claimed inst sol (verdicts.No reason) → IsVerdictWith given claimed inst sol (verdicts.No reason)
+refused_found None claimed inst sol reason v = v
+refused_found (Some given) claimed inst sol reason v = still_refused given.0 inst sol given.1 claimed reason v
 
--- a known bound of tours has the reason against the instance, where one applies
-pub knows_instance : (given : Option (CertificateKind × Fields)) (inst : Fields) (known_bound : KnownBound) → HasTours inst
-    → IsKnownBound given inst known_bound → KnowsInstance inst known_bound
-knows_instance None inst known_bound kind b = knows_alone inst known_bound (alone_of_tours inst known_bound kind b.1)
-knows_instance (Some given) inst known_bound kind b =
-    knows_by given.0 inst given.1 known_bound kind (tours_by given.0 inst given.1 known_bound kind b.1)
+-- the verdict on a solution, by the verdict without a certificate and by what was found of all solutions
+pub judged_with : (given : Option (CertificateKind × Fields)) (claimed : Option ℤ) (inst sol : Fields) (verdict : Verdict)
+    (found : Option BoundVerdict) → IsVerdictWith None claimed inst sol verdict → IsFoundWith given inst found
+    → IsVerdictWith given claimed inst sol (with_found verdict found)
+judged_with given claimed inst sol (verdicts.Tour length bound) found v b =
+    let own = own_tour claimed inst sol length bound v in
+    subst (λ (it : Option ℤ). IsVerdictWith given claimed inst sol (with_found (verdicts.Tour length it) found)) (sym own.alone)
+    (tour_found given claimed inst sol length found (record { kind = own.kind; own = own.own; alone = refl; claims = own.claims }) b)
+judged_with given claimed inst sol (verdicts.Routes length count fewest bound) found v b =
+    let own = own_routes claimed inst sol length count fewest bound v in
+    subst (λ (it : Option ℤ). IsVerdictWith given claimed inst sol (with_found (verdicts.Routes length count fewest it) found)) (sym own.alone)
+    (plan_found given claimed inst sol length count fewest found
+    (record { kind = own.kind; own = own.own; alone = refl; claims = own.claims }) b)
+judged_with given claimed inst sol (verdicts.No reason) found v b = refused_found given claimed inst sol reason v
 
--- where it has none, none applies to the instance
-pub none_known : (inst : Fields) (known_bound : KnownBound) (found : Option Reason) → found ≡ against_instance known_bound → found ≡ None
-    → KnowsInstance inst known_bound → NoneAgainstTouring inst
-none_known inst known_bound found is none knows =
-    subst (λ (it : Option Reason). MatchOption it (NoneAgainstTouring inst)
-    (λ reason. IsFirstReason (AppliesToTouring inst) reason)) (sym is ∙ none) knows
+-- a rejected solution needs no certificate
+pub refused_with : (given : Option (CertificateKind × Fields)) (claimed : Option ℤ) (inst sol : Fields) (verdict : Verdict)
+    → is_yes verdict ≡ false → IsVerdictWith None claimed inst sol verdict → IsVerdictWith given claimed inst sol verdict
+refused_with given claimed inst sol (verdicts.Tour length bound) refused v = absurd (false≢true (sym refused))
+refused_with given claimed inst sol (verdicts.Routes length count fewest bound) refused v = absurd (false≢true (sym refused))
+refused_with given claimed inst sol (verdicts.No reason) refused v = refused_found given claimed inst sol reason v
 
--- the one that it has is the first
-pub first_known : (inst : Fields) (known_bound : KnownBound) (found : Option Reason) (reason : Reason) → found ≡ against_instance known_bound
-    → found ≡ Some reason → KnowsInstance inst known_bound
-    → IsFirstReason (AppliesToTouring inst) reason
-first_known inst known_bound found reason is some knows =
-    subst (λ (it : Option Reason). MatchOption it (NoneAgainstTouring inst) (λ r. IsFirstReason (AppliesToTouring inst) r))
-    (sym is ∙ some) knows
+-- nor does one without a length, whatever is claimed
+pub kept_refusal : (given : Option (CertificateKind × Fields)) (claimed : Option ℤ) (inst sol : Fields) (verdict : Verdict)
+    → HasNoLength verdict → IsVerdictOn inst sol verdict → IsVerdictWith given claimed inst sol verdict
+kept_refusal given claimed inst sol (verdicts.Tour length bound) none v = absurd none
+kept_refusal given claimed inst sol (verdicts.Routes length count fewest bound) none v = absurd none
+kept_refusal given claimed inst sol (verdicts.No reason) none v =
+    refused_found given claimed inst sol reason (refused_alone claimed inst sol (verdicts.No reason) tt v)
 
--- ---- the reasons before those against the tours
+either_kind : (kind : Option Kind) → (kind ≡ Some kinds.Tsp) ⊎ (kind ≡ Some kinds.Atsp) → kind ≡ Some kinds.Cvrp → ⊥
+either_kind kind (inl tsp) cvrp = cc
+either_kind kind (inr atsp) cvrp = cc
 
--- where no reason applies to the instance, none up to the dimension applies to the solution
-pub up_to_dimension : (inst sol : Fields) → is_tour_file sol.kind ≡ true → NoneAgainstTouring inst
-    → NoneOfTourBefore inst sol Dimension
-up_to_dimension inst sol is none NotASolution low applies = false≢true (sym applies ∙ is)
-up_to_dimension inst sol is none TooFewNodes low applies = none TooFewNodes applies
-up_to_dimension inst sol is none (NotSymmetric i j) low applies = none (NotSymmetric i j) applies
-up_to_dimension inst sol is none reason low applies = absurd (omega (arith, low))
+-- no reason applies to a tour that is accepted, nor to accepted routes
+pub none_before_yes : (claimed : Option ℤ) (inst sol : Fields) (verdict : Verdict) → HasTours inst → is_yes verdict ≡ true
+    → IsVerdictWith None claimed inst sol verdict → NoneOfTourBeforeRepeats inst sol
+none_before_yes claimed inst sol (verdicts.Tour length bound) kind is v =
+    λ place reason low applies. (own_tour claimed inst sol length bound v).own.0 reason applies
+none_before_yes claimed inst sol (verdicts.Routes length count fewest bound) kind is v =
+    absurd (either_kind inst.kind kind (own_routes claimed inst sol length count fewest bound v).kind)
+none_before_yes claimed inst sol (verdicts.No reason) kind is v = absurd (false≢true is)
 
--- ---- a tour
+pub none_before_routes : (claimed : Option ℤ) (inst sol : Fields) (verdict : Verdict) → inst.kind ≡ Some kinds.Cvrp → is_yes verdict ≡ true
+    → IsVerdictWith None claimed inst sol verdict → NoneOfRoutesBeforeRepeats inst sol
+none_before_routes claimed inst sol (verdicts.Tour length bound) cvrp is v =
+    absurd (either_kind inst.kind (own_tour claimed inst sol length bound v).kind cvrp)
+none_before_routes claimed inst sol (verdicts.Routes length count fewest bound) cvrp is v =
+    λ place reason low applies. (own_routes claimed inst sol length count fewest bound v).own.0 reason applies
+none_before_routes claimed inst sol (verdicts.No reason) cvrp is v = absurd (false≢true is)
 
--- the first reason against a tour is that of the verdict
-tour_rejected : (given : Option (CertificateKind × Fields)) (inst sol : Fields) (claimed : Option ℤ) (reason : Reason) → HasTours inst
-    → IsFirstAgainstTour inst sol reason
-    → IsVerdictWith given claimed inst sol (verdicts.No reason)
-tour_rejected None inst sol claimed reason kind first =
-    refused_alone claimed inst sol (verdicts.No reason) tt (on_a_tour inst sol (verdicts.No reason) kind first)
-tour_rejected (Some given) inst sol claimed reason kind first = tour_refused given.0 inst sol given.1 claimed reason kind first
-
--- a solution of another length than the claimed one
-tour_disclaimed : (given : Option (CertificateKind × Fields)) (inst sol : Fields) (claimed : Option ℤ) (found : ℤ) → HasTours inst
-    → IsTourVerdict inst sol (verdicts.Tour found None) → IsOtherClaimed claimed found
-    → IsVerdictWith given claimed inst sol (verdicts.No (LengthClaimed found))
-tour_disclaimed None inst sol claimed found kind v other =
-    other_alone claimed inst sol (verdicts.Tour found None) found refl other
-    (on_a_tour inst sol (verdicts.Tour found None) kind v)
-tour_disclaimed (Some given) inst sol claimed found kind v other =
-    tour_of_another_length given.0 inst sol given.1 claimed found kind v other
-
--- a tour to which no reason applies has the bound
-tour_accepted : (given : Option (CertificateKind × Fields)) (inst sol : Fields) (bound claimed : Option ℤ) (found : ℤ) → HasTours inst
-    → IsKnownBound given inst (known_bounds.Tours bound) → IsTourVerdict inst sol (verdicts.Tour found None) → IsAsClaimed claimed found
-    → IsVerdictWith given claimed inst sol (verdicts.Tour found bound)
-tour_accepted None inst sol None claimed found kind b v claims =
-    accepted_alone claimed inst sol (verdicts.Tour found None) found refl claims
-    (on_a_tour inst sol (verdicts.Tour found None) kind v)
-tour_accepted (Some given) inst sol None claimed found kind b v claims =
-    absurd (tours_by given.0 inst given.1 (known_bounds.Tours None) kind b.1)
-tour_accepted None inst sol (Some least) claimed found kind b v claims =
-    absurd (alone_of_tours inst (known_bounds.Tours (Some least)) kind b.1)
-tour_accepted (Some given) inst sol (Some least) claimed found kind b v claims =
-    tour_bounded given.0 inst sol given.1 claimed found least kind v claims
-    (found_by_certificate given.0 inst given.1 (bounds.Bound least) (none_of_tour inst sol kind v.0)
-    (tours_by given.0 inst given.1 (known_bounds.Tours (Some least)) kind b.1))
-
--- the reason against the certificate, where none applies to the tour
-tour_uncertified : (given : Option (CertificateKind × Fields)) (inst sol : Fields) (claimed : Option ℤ) (found : ℤ) (reason : Reason)
-    → HasTours inst
-    → IsKnownBound given inst (known_bounds.No reason) → IsTourVerdict inst sol (verdicts.Tour found None) → IsAsClaimed claimed found
-    → IsVerdictWith given claimed inst sol (verdicts.No reason)
-tour_uncertified None inst sol claimed found reason kind b v claims =
-    absurd (v.0 reason (against_tour inst sol reason (alone_of_tours inst (known_bounds.No reason) kind b.1).applies))
-tour_uncertified (Some given) inst sol claimed found reason kind b v claims =
-    certificate_refused given.0 inst sol given.1 claimed found reason kind v claims
-    (found_by_certificate given.0 inst given.1 (bounds.No reason) (none_of_tour inst sol kind v.0)
-    (tours_by given.0 inst given.1 (known_bounds.No reason) kind b.1))
-
-without_tour : (inst : Fields) → HasTours inst → HasNoSolution inst → HasNoTour (problem_of inst)
-without_tour inst (inl tsp) none = subst (λ kind. HasNoSolutionBy kind inst) tsp none
-without_tour inst (inr atsp) none = subst (λ kind. HasNoSolutionBy kind inst) atsp none
-
--- an instance without tours has no tour of a solution
-no_tour : (given : Option (CertificateKind × Fields)) (inst sol : Fields) (found : ℤ) → HasTours inst
-    → IsKnownBound given inst known_bounds.NoSolution
-    → IsTourVerdict inst sol (verdicts.Tour found None) → ⊥
-no_tour None inst sol found kind b v = alone_of_tours inst known_bounds.NoSolution kind b.1
-no_tour (Some given) inst sol found kind b v =
-    let by = tours_by given.0 inst given.1 known_bounds.NoSolution kind b.1 in without_tour inst kind by.2 v.1.0 v.1.2
-
--- an instance with tours has no routes
-no_routes : (given : Option (CertificateKind × Fields)) (inst : Fields) (least : ℕ) (bound : Option ℤ) → HasTours inst
-    → IsKnownBound given inst (known_bounds.Routes least bound) → ⊥
-no_routes None inst least bound kind b = alone_of_tours inst (known_bounds.Routes least bound) kind b.1
-no_routes (Some given) inst least bound kind b = tours_by given.0 inst given.1 (known_bounds.Routes least bound) kind b.1
-
--- the verdict on a tour that is accepted on its own, by what is known of all
-tour_judged : (given : Option (CertificateKind × Fields)) (inst sol : Fields) (known_bound : KnownBound) (claimed : Option ℤ) (found : ℤ)
-    → HasTours inst
-    → IsKnownBound given inst known_bound → IsTourVerdict inst sol (verdicts.Tour found None) → IsAsClaimed claimed found
-    → IsVerdictWith given claimed inst sol (tour_verdict known_bound found) × HasKnownBound (tour_verdict known_bound found) known_bound
-tour_judged given inst sol (known_bounds.Tours bound) claimed found kind b v claims =
-    (tour_accepted given inst sol bound claimed found kind b v claims, refl)
-tour_judged given inst sol known_bounds.NoSolution claimed found kind b v claims = absurd (no_tour given inst sol found kind b v)
-tour_judged given inst sol (known_bounds.Routes least bound) claimed found kind b v claims =
-    absurd (no_routes given inst least bound kind b)
-tour_judged given inst sol (known_bounds.No reason) claimed found kind b v claims =
-    (tour_uncertified given inst sol claimed found reason kind b v claims, tt)
-
--- tours have a bound by each certificate
-pub bounded_so : (by : CertificateKind) (inst : Fields) → HasTours inst → IsTrue (is_bounded by inst.kind)
-bounded_so by inst (inl tsp) = subst (λ kind. IsTrue (is_bounded by kind)) (sym tsp) refl
-bounded_so by inst (inr atsp) = subst (λ kind. IsTrue (is_bounded by kind)) (sym atsp) refl
-
--- ---- a subject of tours
-
-pub input_rejected : (given : BoundOrigin) (inst sol : Fields) (claimed : Option ℤ) (reason : Reason) → HasTours inst
-    → IsJudgeInput inst given → IsFirstAgainstTour inst sol reason → IsVerdictGiven given claimed inst sol (verdicts.No reason)
-input_rejected (origins.Certificate certificate) inst sol claimed reason kind s first =
-    tour_rejected (option_map (λ it. (it.0, it.1.now)) certificate) inst sol claimed reason kind first
-input_rejected (origins.KnownBound known_bound) inst sol claimed reason kind s first =
-    (tt, λ other b. tour_rejected other inst sol claimed reason kind first)
-
-pub input_disclaimed : (given : BoundOrigin) (inst sol : Fields) (claimed : Option ℤ) (found : ℤ) → HasTours inst
-    → IsJudgeInput inst given → IsTourVerdict inst sol (verdicts.Tour found None) → IsOtherClaimed claimed found
-    → IsVerdictGiven given claimed inst sol (verdicts.No (LengthClaimed found))
-input_disclaimed (origins.Certificate certificate) inst sol claimed found kind s v other =
-    tour_disclaimed (option_map (λ it. (it.0, it.1.now)) certificate) inst sol claimed found kind v other
-input_disclaimed (origins.KnownBound known_bound) inst sol claimed found kind s v other =
-    (tt, λ any b. tour_disclaimed any inst sol claimed found kind v other)
-
-from_known_bound : (inst sol : Fields) (known_bound known : KnownBound) (claimed : Option ℤ) (found : ℤ) → HasTours inst → known_bound ≡ known
-    → (given : Option (CertificateKind × Fields)) × IsKnownBound given inst known → IsTourVerdict inst sol (verdicts.Tour found None)
-    → IsAsClaimed claimed found → IsVerdictFrom known claimed inst sol (tour_verdict known_bound found)
-from_known_bound inst sol known_bound known claimed found kind is s v claims =
-    subst (λ (it : KnownBound). IsVerdictFrom known claimed inst sol (tour_verdict it found)) (sym is) (
-      (tour_judged s.0 inst sol known claimed found kind s.1 v claims).1,
-      λ given b. (tour_judged given inst sol known claimed found kind b v claims).0,
-    )
-
-pub input_judged : (given : BoundOrigin) (inst sol : Fields) (known_bound : KnownBound) (claimed : Option ℤ) (found : ℤ) → HasTours inst
-    → IsJudgeInput inst given → IsKnownBoundGiven given inst known_bound → IsTourVerdict inst sol (verdicts.Tour found None)
-    → IsAsClaimed claimed found → IsVerdictGiven given claimed inst sol (tour_verdict known_bound found)
-input_judged (origins.Certificate certificate) inst sol known_bound claimed found kind s b v claims =
-    (tour_judged (option_map (λ it. (it.0, it.1.now)) certificate) inst sol known_bound claimed found kind b v claims).0
-input_judged (origins.KnownBound known) inst sol known_bound claimed found kind s is v claims =
-    from_known_bound inst sol known_bound known claimed found kind is s v claims
-
--- ---- routes
-
-alone_of_routes : (inst : Fields) (known_bound : KnownBound) → inst.kind ≡ Some kinds.Cvrp → IsKnownBoundAlone inst.kind inst known_bound
-    → IsKnownBoundOfRoutes inst known_bound
-alone_of_routes inst known_bound cvrp b = subst (λ kind. IsKnownBoundAlone kind inst known_bound) cvrp b
+-- ---- what the verdict has of it
 
 -- the least number of routes is one number
 pub same_least : (total capacity : ℤ) (a b : ℕ) → IsLeastRoutes total capacity a → IsLeastRoutes total capacity b → a ≡ b
 same_least total capacity a b first second = omega (arith, first.none_less b second.enough, second.none_less a first.enough)
 
--- the first reason against routes is that of the verdict
-routes_rejected : (given : Option (CertificateKind × Fields)) (inst sol : Fields) (claimed : Option ℤ) (reason : Reason)
-    → inst.kind ≡ Some kinds.Cvrp → IsFirstAgainstRoutes inst sol reason
-    → IsVerdictWith given claimed inst sol (verdicts.No reason)
-routes_rejected None inst sol claimed reason cvrp first =
-    refused_alone claimed inst sol (verdicts.No reason) tt (on_routes inst sol (verdicts.No reason) cvrp first)
-routes_rejected (Some given) inst sol claimed reason cvrp first =
-    routes_refused given.0 inst sol given.1 claimed reason cvrp first
+least_of_tours : (inst : Fields) (least : Option ℕ) → HasTours inst → IsLeastKnownBy inst.kind inst least → least ≡ None
+least_of_tours inst least (inl tsp) is = subst (λ kind. IsLeastKnownBy kind inst least) tsp is
+least_of_tours inst least (inr atsp) is = subst (λ kind. IsLeastKnownBy kind inst least) atsp is
 
--- The verdict on routes that are accepted on their own, by what is known of all.
--- plan: by the certificate and the known bound; where there is none, the known bound has the least number alone; else the bound, or
--- the reason against the certificate
-routes_alone : (inst sol : Fields) (known_bound : KnownBound) (claimed : Option ℤ) (found : ℤ) (count fewest : ℕ)
-    → inst.kind ≡ Some kinds.Cvrp → IsKnownBoundOfRoutes inst known_bound
-    → IsRoutesVerdict inst sol (verdicts.Routes found count fewest None) → IsAsClaimed claimed found
-    → IsVerdictWith None claimed inst sol (plan_verdict known_bound (verdicts.Routes found count fewest None))
-    × HasKnownBound (plan_verdict known_bound (verdicts.Routes found count fewest None)) known_bound
-routes_alone inst sol (known_bounds.Routes least None) claimed found count fewest cvrp b v claims =
-    let same = same_least (total_of inst) (capacity_of inst) fewest least v.1.least_is b.1 in
-    let here : IsRoutesVerdict inst sol (verdicts.Routes found count least None) =
-    subst (λ (k : ℕ). IsRoutesVerdict inst sol (verdicts.Routes found count k None)) same v in (
-      accepted_alone claimed inst sol (verdicts.Routes found count least None) found refl claims
-          (on_routes inst sol (verdicts.Routes found count least None) cvrp here),
-      refl,
+pub least_of_routes : (inst : Fields) (least : Option ℕ) (own : ℕ) → IsLeastRoutes (total_of inst) (capacity_of inst) own
+    → IsLeastKnownBy (Some kinds.Cvrp) inst least → least ≡ Some own
+least_of_routes inst None own own_is is = absurd is
+least_of_routes inst (Some least) own own_is is = ap Some (same_least (total_of inst) (capacity_of inst) least own is own_is)
+
+-- the bound and the least number of routes are those that were found
+pub as_found : (given : Option (CertificateKind × Fields)) (claimed : Option ℤ) (inst sol : Fields) (verdict : Verdict)
+    (least : Option ℕ) (found : Option BoundVerdict) → IsVerdictWith None claimed inst sol verdict
+    → IsLeastKnownBy inst.kind inst least → IsFoundWith given inst found → IsAsFound (with_found verdict found) least found
+as_found given claimed inst sol (verdicts.Tour length bound) least None v is b =
+    let own = own_tour claimed inst sol length bound v in
+    (least_of_tours inst least own.kind is, sym (ap (option_map bounds.Bound) own.alone))
+as_found given claimed inst sol (verdicts.Tour length bound) least (Some (bounds.Bound found)) v is b =
+    (least_of_tours inst least (own_tour claimed inst sol length bound v).kind is, refl)
+as_found (Some given) claimed inst sol (verdicts.Tour length bound) least (Some bounds.NoSolution) v is b =
+    let own = own_tour claimed inst sol length bound v in absurd (without_tour inst own.kind b.2 own.own.1.0 own.own.1.2)
+as_found None claimed inst sol (verdicts.Tour length bound) least (Some bounds.NoSolution) v is b = absurd b
+as_found given claimed inst sol (verdicts.Tour length bound) least (Some (bounds.No reason)) v is b = tt
+as_found given claimed inst sol (verdicts.Routes length count fewest bound) least None v is b =
+    let own = own_routes claimed inst sol length count fewest bound v in (
+      least_of_routes inst least fewest own.own.1.least_is (subst (λ kind. IsLeastKnownBy kind inst least) own.kind is),
+      sym (ap (option_map bounds.Bound) own.alone),
     )
-routes_alone inst sol (known_bounds.Routes least (Some bound)) claimed found count fewest cvrp b v claims = absurd b
-routes_alone inst sol (known_bounds.Tours bound) claimed found count fewest cvrp b v claims = absurd b
-routes_alone inst sol known_bounds.NoSolution claimed found count fewest cvrp b v claims = absurd b
-routes_alone inst sol (known_bounds.No reason) claimed found count fewest cvrp b v claims =
-    absurd (v.0 reason (against_routes inst sol reason b.applies))
+as_found given claimed inst sol (verdicts.Routes length count fewest bound) least (Some (bounds.Bound found)) v is b =
+    let own = own_routes claimed inst sol length count fewest bound v in
+    (least_of_routes inst least fewest own.own.1.least_is (subst (λ kind. IsLeastKnownBy kind inst least) own.kind is), refl)
+as_found (Some given) claimed inst sol (verdicts.Routes length count fewest bound) least (Some bounds.NoSolution) v is b =
+    let own = own_routes claimed inst sol length count fewest bound v in
+    let none : HasNoPlan (routing_of inst) = subst (λ kind. HasNoSolutionBy kind inst) own.kind b.2 in
+    absurd (none (tours_of sol) (record { plan = own.own.1.plan_of; each = own.own.1.filled }))
+as_found None claimed inst sol (verdicts.Routes length count fewest bound) least (Some bounds.NoSolution) v is b = absurd b
+as_found given claimed inst sol (verdicts.Routes length count fewest bound) least (Some (bounds.No reason)) v is b = tt
+as_found given claimed inst sol (verdicts.No reason) least found v is b = tt
 
-routes_with : (by : CertificateKind) (inst sol cert : Fields) (known_bound : KnownBound) (claimed : Option ℤ) (found : ℤ) (count fewest : ℕ)
-    → inst.kind ≡ Some kinds.Cvrp → IsKnownBoundOfRoutesBy by inst cert known_bound
-    → IsRoutesVerdict inst sol (verdicts.Routes found count fewest None) → IsAsClaimed claimed found
-    → IsVerdictWith (Some (by, cert)) claimed inst sol (plan_verdict known_bound (verdicts.Routes found count fewest None))
-    × HasKnownBound (plan_verdict known_bound (verdicts.Routes found count fewest None)) known_bound
-routes_with by inst sol cert (known_bounds.Routes least (Some bound)) claimed found count fewest cvrp b v claims =
-    let same = same_least (total_of inst) (capacity_of inst) fewest least v.1.least_is b.1 in
-    let here : IsRoutesVerdict inst sol (verdicts.Routes found count least None) =
-    subst (λ (k : ℕ). IsRoutesVerdict inst sol (verdicts.Routes found count k None)) same v in (
-      routes_bounded by inst sol cert claimed found count least bound cvrp here claims
-          (found_by_certificate by inst cert (bounds.Bound bound) (none_of_routes inst sol cvrp v.0) b.0),
-      refl,
-    )
-routes_with by inst sol cert (known_bounds.Routes least None) claimed found count fewest cvrp b v claims = absurd b
-routes_with by inst sol cert (known_bounds.Tours bound) claimed found count fewest cvrp b v claims = absurd b
-routes_with by inst sol cert known_bounds.NoSolution claimed found count fewest cvrp b v claims =
-    let none : HasNoPlan (routing_of inst) = subst (λ kind. HasNoSolutionBy kind inst) cvrp b.2 in
-    absurd (none (tours_of sol) (record { plan = v.1.plan_of; each = v.1.filled }))
-routes_with by inst sol cert (known_bounds.No reason) claimed found count fewest cvrp b v claims = (
-  routes_uncertified by inst sol cert claimed found count fewest reason cvrp v claims
-      (found_by_certificate by inst cert (bounds.No reason) (none_of_routes inst sol cvrp v.0) b),
-  tt,
-)
-
-routes_by_known_bound : (given : Option (CertificateKind × Fields)) (inst sol : Fields) (known_bound : KnownBound) (claimed : Option ℤ) (found : ℤ)
-    (count fewest : ℕ) → inst.kind ≡ Some kinds.Cvrp → IsKnownBound given inst known_bound
-    → IsRoutesVerdict inst sol (verdicts.Routes found count fewest None) → IsAsClaimed claimed found
-    → IsVerdictWith given claimed inst sol (plan_verdict known_bound (verdicts.Routes found count fewest None))
-    × HasKnownBound (plan_verdict known_bound (verdicts.Routes found count fewest None)) known_bound
-routes_by_known_bound None inst sol known_bound claimed found count fewest cvrp b v claims =
-    routes_alone inst sol known_bound claimed found count fewest cvrp (alone_of_routes inst known_bound cvrp b.1) v claims
-routes_by_known_bound (Some given) inst sol known_bound claimed found count fewest cvrp b v claims =
-    routes_with given.0 inst sol given.1 known_bound claimed found count fewest cvrp
-    (routes_by given.0 inst given.1 known_bound cvrp b.1) v claims
-
--- ---- a subject of routes
-
--- plan: by the verdict: a tour is none, and a reason is the first against the routes
-pub routes_input_rejected : (given : BoundOrigin) (inst sol : Fields) (claimed : Option ℤ) (verdict : Verdict)
-    → inst.kind ≡ Some kinds.Cvrp → IsRoutesVerdict inst sol verdict → HasNoLength verdict
-    → IsVerdictGiven given claimed inst sol verdict
-routes_input_rejected given inst sol claimed (verdicts.Tour found bound) cvrp v none = absurd none
-routes_input_rejected given inst sol claimed (verdicts.Routes found count fewest bound) cvrp v none = absurd none
-routes_input_rejected (origins.Certificate certificate) inst sol claimed (verdicts.No reason) cvrp first none =
-    routes_rejected (option_map (λ it. (it.0, it.1.now)) certificate) inst sol claimed reason cvrp first
-routes_input_rejected (origins.KnownBound known_bound) inst sol claimed (verdicts.No reason) cvrp first none =
-    (tt, λ other b. routes_rejected other inst sol claimed reason cvrp first)
-
--- an accepted verdict is one on routes without a bound
-pub record AreOwnRoutes (inst sol : Fields) (verdict : Verdict) (length : ℤ) : Type 0 where
-  pub count : ℕ
-  pub fewest : ℕ
-  pub is : verdict ≡ verdicts.Routes length count fewest None
-  pub own : IsRoutesVerdict inst sol (verdicts.Routes length count fewest None)
-
-own_routes : (inst sol : Fields) (verdict : Verdict) (length : ℤ) → IsRoutesVerdict inst sol verdict → HasLength verdict length
-    → AreOwnRoutes inst sol verdict length
-own_routes inst sol (verdicts.Routes found count fewest bound) length v has =
-    let same : verdicts.Routes found count fewest bound ≡ verdicts.Routes length count fewest None =
-    ap₂ (λ (l : ℤ) (b : Option ℤ). verdicts.Routes l count fewest b) (sym has) v.2 in
-    record { count = count; fewest = fewest; is = same; own = subst (IsRoutesVerdict inst sol) same v }
-own_routes inst sol (verdicts.Tour found bound) length v has = absurd v
-own_routes inst sol (verdicts.No reason) length v has = absurd has
-
-routes_from_known_bound : (inst sol : Fields) (known_bound known : KnownBound) (claimed : Option ℤ) (found : ℤ) (count fewest : ℕ)
-    → inst.kind ≡ Some kinds.Cvrp → known_bound ≡ known → (given : Option (CertificateKind × Fields)) × IsKnownBound given inst known
-    → IsRoutesVerdict inst sol (verdicts.Routes found count fewest None) → IsAsClaimed claimed found
-    → IsVerdictFrom known claimed inst sol (plan_verdict known_bound (verdicts.Routes found count fewest None))
-routes_from_known_bound inst sol known_bound known claimed found count fewest cvrp is s v claims =
-    subst (λ (it : KnownBound). IsVerdictFrom known claimed inst sol (plan_verdict it (verdicts.Routes found count fewest None)))
-    (sym is) (
-      (routes_by_known_bound s.0 inst sol known claimed found count fewest cvrp s.1 v claims).1,
-      λ given b. (routes_by_known_bound given inst sol known claimed found count fewest cvrp b v claims).0,
-    )
-
-routes_given : (given : BoundOrigin) (inst sol : Fields) (known_bound : KnownBound) (claimed : Option ℤ) (found : ℤ)
-    (count fewest : ℕ) → inst.kind ≡ Some kinds.Cvrp → IsJudgeInput inst given → IsKnownBoundGiven given inst known_bound
-    → IsRoutesVerdict inst sol (verdicts.Routes found count fewest None) → IsAsClaimed claimed found
-    → IsVerdictGiven given claimed inst sol (plan_verdict known_bound (verdicts.Routes found count fewest None))
-routes_given (origins.Certificate certificate) inst sol known_bound claimed found count fewest cvrp s b v claims =
-    (routes_by_known_bound (option_map (λ it. (it.0, it.1.now)) certificate) inst sol known_bound claimed found count fewest cvrp b v claims).0
-routes_given (origins.KnownBound known) inst sol known_bound claimed found count fewest cvrp s is v claims =
-    routes_from_known_bound inst sol known_bound known claimed found count fewest cvrp is s v claims
-
-pub routes_input_judged : (given : BoundOrigin) (inst sol : Fields) (known_bound : KnownBound) (claimed : Option ℤ) (verdict : Verdict)
-    (length : ℤ) → inst.kind ≡ Some kinds.Cvrp → IsJudgeInput inst given → IsKnownBoundGiven given inst known_bound
-    → IsRoutesVerdict inst sol verdict → HasLength verdict length → IsAsClaimed claimed length
-    → IsVerdictGiven given claimed inst sol (plan_verdict known_bound verdict)
-routes_input_judged given inst sol known_bound claimed verdict length cvrp s b v has claims =
-    let r = own_routes inst sol verdict length v has in
-    subst (λ (it : Verdict). IsVerdictGiven given claimed inst sol (plan_verdict known_bound it)) (sym r.is)
-    (routes_given given inst sol known_bound claimed length r.count r.fewest cvrp s b r.own claims)
+-- tours have a bound by each certificate
+pub bounded_so : (by : CertificateKind) (inst : Fields) → HasTours inst → IsTrue (is_bounded by inst.kind)
+bounded_so by inst (inl tsp) = subst (λ kind. IsTrue (is_bounded by kind)) (sym tsp) refl
+bounded_so by inst (inr atsp) = subst (λ kind. IsTrue (is_bounded by kind)) (sym atsp) refl

@@ -1,23 +1,21 @@
--- Two reasons of one rank that apply to the same files have the same numbers.
-use Rattle.tsp_verdict.proofs.Prelude.{◌<◌, ◌⊎◌, inl, inr, arith, ◌≡◌, ◌∙◌, ℕ, ◌+◌, ◌-◌, List, [], length, refl, sym, ap, ap₂, subst, cases_order, false≢true, ints, pos, Option, None, Some, Bool, true, false, slice_index_or, ℤ, IsFirstAsymmetric, cost, scale_in, families_listed, Fields, nodes_of, IsFirstBroken, is_directed, IsFamily, NumbersAreUnique, IsFirstBadLeaf, IsFirstTwice, Crossings, IsFirstBadSet, IsFirstBadPlanBranch, RoutingProblem, routing_of, families_with, recursion_from_All, memories_listed, rows_listed, rank_of, CertificateKind, Potentials, Branches, Reason, TooFewNodes, NotSymmetric, DepotCount, DepotDemand, FixedEdgesInRoutes, LengthClaimed, NotASolution, Dimension, TourCount, TourLength, DepotInRoute, NodeOutOfRange, RepeatedNode, FixedEdgeUnused, Unserved, Overload, NotPotentials, PotentialsDimension, PotentialsKind, MultiplierNotFixed, MultiplierRepeated, DualInfeasible, NotBranches, BranchesDimension, BadFamily, BadMemory, BadRow, BadBranch, BranchTwice, BadLeaf, TooManyLoads, TooManyStates, NotJudged, NotUsed}
+-- For OneVerdict.antt: two reasons of one rank that apply to the same files have the same numbers.
+use Rattle.tsp_verdict.proofs.Prelude.{◌<◌, ◌⊎◌, inl, inr, arith, ◌≡◌, ◌∙◌, ℕ, List, [], length, refl, sym, ap, ap₂, subst, cases_order, false≢true, ints, pos, Option, None, Some, Bool, true, false, slice_index_or, ℤ, IsFirstAsymmetric, cost, scale_in, families_listed, Fields, nodes_of, IsFirstBroken, is_directed, IsFamily, NumbersAreUnique, IsFirstBadLeaf, IsFirstTwice, Crossings, IsFirstBadPlanBranch, RoutingProblem, routing_of, families_with, recursion_from_All, memories_listed, rows_listed, rank_of, CertificateKind, Potentials, Branches, Reason, TooFewNodes, NotSymmetric, DepotCount, DepotDemand, FixedEdgesInRoutes, LengthClaimed, NotASolution, Dimension, TourCount, TourLength, DepotInRoute, NodeOutOfRange, RepeatedNode, FixedEdgeUnused, Unserved, Overload, NotPotentials, PotentialsDimension, PotentialsKind, MultiplierNotFixed, MultiplierRepeated, DualInfeasible, NotBranches, BranchesDimension, BadFamily, BadMemory, BadRow, BadBranch, BranchTwice, BadLeaf, TooManyLoads, TooManyStates}
 use Rattle.tsp_format.specs.Steps as listed
 use Rattle.tsp_format.specs.Steps.{SubsetRow}
-use Rattle.tsp_cases.specs.Cases.{LeafNumbers}
-use Rattle.tsp_cases.specs.ListedCases.{IsFirstBadLeafBy}
+use Rattle.tsp_theory.proofs.First.{one_rank}
+use Rattle.tsp_theory.specs.First.{IsFirst}
 use Rattle.tsp_routing.specs.PlanLinks.{IsCutFamily}
-use Rattle.tsp_routing.specs.PlanVerdicts.{ArePlanNumbers}
-use Rattle.tsp_routing.specs.RunTrees.{owner_of, IsFirstBadList, IsFirstBadRow, IsFirstFull, IsBadMemory, AreRunNumbers, placed_steps, AreFewNumbers}
+use Rattle.tsp_routing.specs.RunTrees.{owner_of, IsFirstBadList, IsFirstFull, IsBadMemory}
 use Rattle.tsp_routing.specs.RunVerdicts.{IsFirstBadLeafOf, tree_with, IsFirstFullLeaf, HasFullLeaf}
 use Rattle.tsp_routing.proofs.PlanBounds.{all_crossed, one_light}
 use Rattle.tsp_cases.specs.ListedCases as pairs
-use Rattle.tsp_cases.specs.declared.decision.Decision.{Decision}
 use Rattle.tsp_report.specs.declared.verdict.BoundVerdict.{BoundVerdict}
 use Rattle.tsp_report.specs.declared.verdict.BoundVerdict.TheVariants as bounds
-use Rattle.tsp_verdict.proofs.FirstReasons.{certificate_rank, HasTours, instance_either, first_for_tours, tour_rank, routes_rank, AreOwn, Both, Carried, reason_of, IsOneByRank, one_place, one_pair, tree_either}
+use Rattle.tsp_verdict.proofs.FirstReasons.{certificate_rank, HasTours, instance_either, first_for_tours, tour_rank, routes_rank, AreOwn, Both, Carried, reason_of, IsOneByRank, one_pair, tree_either}
 use Rattle.tsp_verdict.proofs.TreeReasons.{one_numbers}
 use Rattle.tsp_verdict.specs.Certificates.{given_in, AreNumbersOf, AppliesToBranches, families_with_numbers, BreaksDuals, AppliesToPotentials, AppliesToQRoutes, unit_in, by_runs_in}
 use Rattle.tsp_verdict.specs.Certified.{AppliesToTouring, AppliesToRouting, AppliesToInstance, NoneAgainstInstance, AppliesToBounded, IsBoundVerdict, AppliesToCertificate, FindsBound, AppliesToCertified, AppliesToCertifiedRoutes}
-use Rattle.tsp_verdict.specs.Solutions.{IsFirstReason, IsFirstUnserved, AppliesToRoutes, AppliesToTour}
+use Rattle.tsp_verdict.specs.Solutions.{IsFirstReason, AppliesToRoutes, AppliesToTour}
 
 tours_rank : (inst : Fields) (reason : Reason) → AppliesToTouring inst reason
     → rank_of reason < rank_of (LengthClaimed (pos 0))
@@ -59,7 +57,7 @@ none_of_both : (by : CertificateKind) (inst cert : Fields) → NoneAgainstInstan
 none_of_both by inst cert none certificate reason (inl applies) = none reason applies
 none_of_both by inst cert none certificate reason (inr applies) = certificate reason applies
 
--- where none applies to the instance, it is the certificate that decides
+-- if none applies to the instance, it is the certificate that decides
 pub certificate_decides : (by : CertificateKind) (inst cert : Fields) (found : BoundVerdict) → NoneAgainstInstance inst
     → FindsBound by inst cert found
     → IsBoundVerdict by inst cert found
@@ -89,6 +87,11 @@ one_value option a b one other = of_some a b (sym one ∙ other)
     of_some : {X : Type 0} (a b : X) → Some a ≡ Some b → a ≡ b
     of_some a b same = ap (λ found. elim found [ None ↦ a | Some x ↦ x ]) same
 
+-- two first numbers are one, where nothing both applies and is known not to
+one_number : (Applies Not : ℕ → Type 0) (a b : ℕ) → IsFirst (λ k. k) Applies Not a → IsFirst (λ k. k) Applies Not b
+    → ((k : ℕ) → Applies k → Not k → ⊥) → a ≡ b
+one_number Applies Not a b one other never = one_rank (λ k. k) Applies Not a b never one other
+
 -- ---- against a tour
 
 one_asymmetric : (n : ℕ) (cost : ℕ → ℕ → ℤ) (a b i j : ℕ) → IsFirstAsymmetric n cost (a, b) → IsFirstAsymmetric n cost (i, j)
@@ -111,158 +114,47 @@ tours_by_rank inst sol (NotSymmetric i j) carried one other =
 tours_by_rank inst sol Dimension carried one other = refl
 tours_by_rank inst sol TourCount carried one other = refl
 tours_by_rank inst sol TourLength carried one other = refl
-tours_by_rank inst sol DepotCount carried one other = absurd one
-tours_by_rank inst sol DepotDemand carried one other = absurd one
-tours_by_rank inst sol FixedEdgesInRoutes carried one other = absurd one
-tours_by_rank inst sol (DepotInRoute i) carried one other = absurd one
-tours_by_rank inst sol (NodeOutOfRange i) carried one other = ap NodeOutOfRange (one_place _ _ i carried.0 one other)
-tours_by_rank inst sol (RepeatedNode i) carried one other = ap RepeatedNode (one_place _ _ i carried.0 one other)
-tours_by_rank inst sol (FixedEdgeUnused i) carried one other = ap FixedEdgeUnused (one_place _ _ i carried.0 one other)
-tours_by_rank inst sol (Unserved i) carried one other = absurd one
-tours_by_rank inst sol (Overload i) carried one other = absurd one
-tours_by_rank inst sol (LengthClaimed i) carried one other = absurd one
-tours_by_rank inst sol NotPotentials carried one other = absurd one
-tours_by_rank inst sol PotentialsDimension carried one other = absurd one
-tours_by_rank inst sol PotentialsKind carried one other = absurd one
-tours_by_rank inst sol (MultiplierNotFixed i) carried one other = absurd one
-tours_by_rank inst sol (MultiplierRepeated i) carried one other = absurd one
-tours_by_rank inst sol (DualInfeasible i j) carried one other = absurd one
-tours_by_rank inst sol NotBranches carried one other = absurd one
-tours_by_rank inst sol BranchesDimension carried one other = absurd one
-tours_by_rank inst sol (BadFamily i) carried one other = absurd one
-tours_by_rank inst sol (BadMemory i) carried one other = absurd one
-tours_by_rank inst sol (BadRow i) carried one other = absurd one
-tours_by_rank inst sol (BadBranch i) carried one other = absurd one
-tours_by_rank inst sol (BranchTwice i) carried one other = absurd one
-tours_by_rank inst sol (BadLeaf i) carried one other = absurd one
-tours_by_rank inst sol TooManyLoads carried one other = absurd one
-tours_by_rank inst sol (TooManyStates i) carried one other = absurd one
-tours_by_rank inst sol NotJudged carried one other = absurd one
-tours_by_rank inst sol (NotUsed field) carried one other = absurd one
+tours_by_rank inst sol (NodeOutOfRange i) carried one other = ap NodeOutOfRange (one_number _ _ i carried.0 one other (λ k here not. not here.0.0 here.1))
+tours_by_rank inst sol (RepeatedNode i) carried one other = ap RepeatedNode (one_number _ _ i carried.0 one other (λ k here not. not here.0.0 here.1))
+tours_by_rank inst sol (FixedEdgeUnused i) carried one other = ap FixedEdgeUnused (one_number _ _ i carried.0 one other (λ k here not. not here.0.0 here.1))
+tours_by_rank inst sol reason carried one other = absurd one
 
 -- ---- against an instance, whatever the solution
 
 -- plan: by the reason: one without numbers is equal to itself; of one with numbers files have one first place or pair
-pub instances_by_rank : (inst : Fields) → IsOneByRank (AppliesToTouring inst)
-instances_by_rank inst NotASolution carried one other = absurd one
+instances_by_rank : (inst : Fields) → IsOneByRank (AppliesToTouring inst)
 instances_by_rank inst TooFewNodes carried one other = refl
 instances_by_rank inst (NotSymmetric i j) carried one other =
     asymmetric_by_rank (nodes_of inst) (cost inst) i j carried one.1 other.1
-instances_by_rank inst Dimension carried one other = absurd one
-instances_by_rank inst TourCount carried one other = absurd one
-instances_by_rank inst TourLength carried one other = absurd one
-instances_by_rank inst DepotCount carried one other = absurd one
-instances_by_rank inst DepotDemand carried one other = absurd one
-instances_by_rank inst FixedEdgesInRoutes carried one other = absurd one
-instances_by_rank inst (DepotInRoute i) carried one other = absurd one
-instances_by_rank inst (NodeOutOfRange i) carried one other = absurd one
-instances_by_rank inst (RepeatedNode i) carried one other = absurd one
-instances_by_rank inst (FixedEdgeUnused i) carried one other = absurd one
-instances_by_rank inst (Unserved i) carried one other = absurd one
-instances_by_rank inst (Overload i) carried one other = absurd one
-instances_by_rank inst (LengthClaimed i) carried one other = absurd one
-instances_by_rank inst NotPotentials carried one other = absurd one
-instances_by_rank inst PotentialsDimension carried one other = absurd one
-instances_by_rank inst PotentialsKind carried one other = absurd one
-instances_by_rank inst (MultiplierNotFixed i) carried one other = absurd one
-instances_by_rank inst (MultiplierRepeated i) carried one other = absurd one
-instances_by_rank inst (DualInfeasible i j) carried one other = absurd one
-instances_by_rank inst NotBranches carried one other = absurd one
-instances_by_rank inst BranchesDimension carried one other = absurd one
-instances_by_rank inst (BadFamily i) carried one other = absurd one
-instances_by_rank inst (BadMemory i) carried one other = absurd one
-instances_by_rank inst (BadRow i) carried one other = absurd one
-instances_by_rank inst (BadBranch i) carried one other = absurd one
-instances_by_rank inst (BranchTwice i) carried one other = absurd one
-instances_by_rank inst (BadLeaf i) carried one other = absurd one
-instances_by_rank inst TooManyLoads carried one other = absurd one
-instances_by_rank inst (TooManyStates i) carried one other = absurd one
-instances_by_rank inst NotJudged carried one other = absurd one
-instances_by_rank inst (NotUsed field) carried one other = absurd one
+instances_by_rank inst reason carried one other = absurd one
 
 -- plan: by the reason: one without numbers is equal to itself; of one with numbers files have one first place or pair
-pub routings_by_rank : (inst : Fields) → IsOneByRank (AppliesToRouting inst)
-routings_by_rank inst NotASolution carried one other = absurd one
+routings_by_rank : (inst : Fields) → IsOneByRank (AppliesToRouting inst)
 routings_by_rank inst TooFewNodes carried one other = refl
-routings_by_rank inst (NotSymmetric i j) carried one other = absurd one
-routings_by_rank inst Dimension carried one other = absurd one
-routings_by_rank inst TourCount carried one other = absurd one
-routings_by_rank inst TourLength carried one other = absurd one
 routings_by_rank inst DepotCount carried one other = refl
 routings_by_rank inst DepotDemand carried one other = refl
 routings_by_rank inst FixedEdgesInRoutes carried one other = refl
-routings_by_rank inst (DepotInRoute i) carried one other = absurd one
-routings_by_rank inst (NodeOutOfRange i) carried one other = absurd one
-routings_by_rank inst (RepeatedNode i) carried one other = absurd one
-routings_by_rank inst (FixedEdgeUnused i) carried one other = absurd one
-routings_by_rank inst (Unserved i) carried one other = absurd one
-routings_by_rank inst (Overload i) carried one other = absurd one
-routings_by_rank inst (LengthClaimed i) carried one other = absurd one
-routings_by_rank inst NotPotentials carried one other = absurd one
-routings_by_rank inst PotentialsDimension carried one other = absurd one
-routings_by_rank inst PotentialsKind carried one other = absurd one
-routings_by_rank inst (MultiplierNotFixed i) carried one other = absurd one
-routings_by_rank inst (MultiplierRepeated i) carried one other = absurd one
-routings_by_rank inst (DualInfeasible i j) carried one other = absurd one
-routings_by_rank inst NotBranches carried one other = absurd one
-routings_by_rank inst BranchesDimension carried one other = absurd one
-routings_by_rank inst (BadFamily i) carried one other = absurd one
-routings_by_rank inst (BadMemory i) carried one other = absurd one
-routings_by_rank inst (BadRow i) carried one other = absurd one
-routings_by_rank inst (BadBranch i) carried one other = absurd one
-routings_by_rank inst (BranchTwice i) carried one other = absurd one
-routings_by_rank inst (BadLeaf i) carried one other = absurd one
-routings_by_rank inst TooManyLoads carried one other = absurd one
-routings_by_rank inst (TooManyStates i) carried one other = absurd one
-routings_by_rank inst NotJudged carried one other = absurd one
-routings_by_rank inst (NotUsed field) carried one other = absurd one
+routings_by_rank inst reason carried one other = absurd one
+
+pub instance_by_rank : (inst : Fields) → IsOneByRank (AppliesToInstance inst)
+instance_by_rank inst = instance_either inst.kind IsOneByRank inst (instances_by_rank inst) (routings_by_rank inst)
 
 -- ---- against routes
-
-one_unserved : (n depot : ℕ) (nodes : List ℕ) (a b : ℕ) → IsFirstUnserved n depot nodes a → IsFirstUnserved n depot nodes b
-    → a ≡ b
-one_unserved n depot nodes a b one other = elim (cases_order a b) [
-  | inl same ↦ same
-  | inr (inl less) ↦ absurd (one.unserved (other.first a one.customer less))
-  | inr (inr more) ↦ absurd (other.unserved (one.first b other.customer more))
-]
 
 -- plan: by the reason: one without numbers is equal to itself; of one with numbers files have one first place or pair
 pub routes_by_rank : (inst sol : Fields) → IsOneByRank (AppliesToRoutes inst sol)
 routes_by_rank inst sol NotASolution carried one other = refl
 routes_by_rank inst sol TooFewNodes carried one other = refl
-routes_by_rank inst sol (NotSymmetric i j) carried one other = absurd one
 routes_by_rank inst sol Dimension carried one other = refl
-routes_by_rank inst sol TourCount carried one other = absurd one
-routes_by_rank inst sol TourLength carried one other = absurd one
 routes_by_rank inst sol DepotCount carried one other = refl
 routes_by_rank inst sol DepotDemand carried one other = refl
 routes_by_rank inst sol FixedEdgesInRoutes carried one other = refl
-routes_by_rank inst sol (DepotInRoute i) carried one other = ap DepotInRoute (one_place _ _ i carried.0 one other)
-routes_by_rank inst sol (NodeOutOfRange i) carried one other = ap NodeOutOfRange (one_place _ _ i carried.0 one other)
-routes_by_rank inst sol (RepeatedNode i) carried one other = ap RepeatedNode (one_place _ _ i carried.0 one other)
-routes_by_rank inst sol (FixedEdgeUnused i) carried one other = absurd one
-routes_by_rank inst sol (Unserved i) carried one other = ap Unserved (one_unserved _ _ _ i carried.0 one other)
-routes_by_rank inst sol (Overload i) carried one other = ap Overload (one_place _ _ i carried.0 one other)
-routes_by_rank inst sol (LengthClaimed i) carried one other = absurd one
-routes_by_rank inst sol NotPotentials carried one other = absurd one
-routes_by_rank inst sol PotentialsDimension carried one other = absurd one
-routes_by_rank inst sol PotentialsKind carried one other = absurd one
-routes_by_rank inst sol (MultiplierNotFixed i) carried one other = absurd one
-routes_by_rank inst sol (MultiplierRepeated i) carried one other = absurd one
-routes_by_rank inst sol (DualInfeasible i j) carried one other = absurd one
-routes_by_rank inst sol NotBranches carried one other = absurd one
-routes_by_rank inst sol BranchesDimension carried one other = absurd one
-routes_by_rank inst sol (BadFamily i) carried one other = absurd one
-routes_by_rank inst sol (BadMemory i) carried one other = absurd one
-routes_by_rank inst sol (BadRow i) carried one other = absurd one
-routes_by_rank inst sol (BadBranch i) carried one other = absurd one
-routes_by_rank inst sol (BranchTwice i) carried one other = absurd one
-routes_by_rank inst sol (BadLeaf i) carried one other = absurd one
-routes_by_rank inst sol TooManyLoads carried one other = absurd one
-routes_by_rank inst sol (TooManyStates i) carried one other = absurd one
-routes_by_rank inst sol NotJudged carried one other = absurd one
-routes_by_rank inst sol (NotUsed field) carried one other = absurd one
+routes_by_rank inst sol (DepotInRoute i) carried one other = ap DepotInRoute (one_number _ _ i carried.0 one other (λ k here not. not here.0.0 here.1))
+routes_by_rank inst sol (NodeOutOfRange i) carried one other = ap NodeOutOfRange (one_number _ _ i carried.0 one other (λ k here not. not here.0.0 here.1))
+routes_by_rank inst sol (RepeatedNode i) carried one other = ap RepeatedNode (one_number _ _ i carried.0 one other (λ k here not. not here.0.0 here.1))
+routes_by_rank inst sol (Unserved i) carried one other = ap Unserved (one_number _ _ i carried.0 one other (λ k here served. here.1 (served here.0)))
+routes_by_rank inst sol (Overload i) carried one other = ap Overload (one_number _ _ i carried.0 one other (λ k here not. not here.0.0 here.1))
+routes_by_rank inst sol reason carried one other = absurd one
 
 -- ---- against a certificate by potentials
 
@@ -291,60 +183,17 @@ broken_by_rank inst pot i j carried one other =
 
 -- plan: by the reason: one without numbers is equal to itself; of one with numbers files have one first place or pair
 pub potentials_by_rank : (inst pot : Fields) → IsOneByRank (AppliesToPotentials inst pot)
-potentials_by_rank inst pot NotASolution carried one other = absurd one
-potentials_by_rank inst pot TooFewNodes carried one other = absurd one
-potentials_by_rank inst pot (NotSymmetric i j) carried one other = absurd one
-potentials_by_rank inst pot Dimension carried one other = absurd one
-potentials_by_rank inst pot TourCount carried one other = absurd one
-potentials_by_rank inst pot TourLength carried one other = absurd one
-potentials_by_rank inst pot DepotCount carried one other = absurd one
-potentials_by_rank inst pot DepotDemand carried one other = absurd one
-potentials_by_rank inst pot FixedEdgesInRoutes carried one other = absurd one
-potentials_by_rank inst pot (DepotInRoute i) carried one other = absurd one
-potentials_by_rank inst pot (NodeOutOfRange i) carried one other = absurd one
-potentials_by_rank inst pot (RepeatedNode i) carried one other = absurd one
-potentials_by_rank inst pot (FixedEdgeUnused i) carried one other = absurd one
-potentials_by_rank inst pot (Unserved i) carried one other = absurd one
-potentials_by_rank inst pot (Overload i) carried one other = absurd one
-potentials_by_rank inst pot (LengthClaimed i) carried one other = absurd one
 potentials_by_rank inst pot NotPotentials carried one other = refl
 potentials_by_rank inst pot PotentialsDimension carried one other = refl
 potentials_by_rank inst pot PotentialsKind carried one other = refl
 potentials_by_rank inst pot (MultiplierNotFixed i) carried one other =
-    ap MultiplierNotFixed (one_place _ _ i carried.0 one.1 other.1)
+    ap MultiplierNotFixed (one_number _ _ i carried.0 one.1 other.1 (λ k here not. not here.0.0 here.1))
 potentials_by_rank inst pot (MultiplierRepeated i) carried one other =
-    ap MultiplierRepeated (one_place _ _ i carried.0 one.1 other.1)
+    ap MultiplierRepeated (one_number _ _ i carried.0 one.1 other.1 (λ k here not. not here.0.0 here.1))
 potentials_by_rank inst pot (DualInfeasible i j) carried one other = broken_by_rank inst pot i j carried one.1 other.1
-potentials_by_rank inst pot NotBranches carried one other = absurd one
-potentials_by_rank inst pot BranchesDimension carried one other = absurd one
-potentials_by_rank inst pot (BadFamily i) carried one other = absurd one
-potentials_by_rank inst pot (BadMemory i) carried one other = absurd one
-potentials_by_rank inst pot (BadRow i) carried one other = absurd one
-potentials_by_rank inst pot (BadBranch i) carried one other = absurd one
-potentials_by_rank inst pot (BranchTwice i) carried one other = absurd one
-potentials_by_rank inst pot (BadLeaf i) carried one other = absurd one
-potentials_by_rank inst pot TooManyLoads carried one other = absurd one
-potentials_by_rank inst pot (TooManyStates i) carried one other = absurd one
-potentials_by_rank inst pot NotJudged carried one other = absurd one
-potentials_by_rank inst pot (NotUsed field) carried one other = absurd one
+potentials_by_rank inst pot reason carried one other = absurd one
 
 -- ---- against a certificate by branching
-
-one_twice : (directed : Bool) (given : List Decision) (steps : List listed.Step) (a b : ℕ) → IsFirstTwice directed given steps a
-    → IsFirstTwice directed given steps b → a ≡ b
-one_twice directed given steps a b one other = elim (cases_order a b) [
-  | inl same ↦ same
-  | inr (inl less) ↦ absurd (false≢true (sym (other.before a one.least less) ∙ one.twice))
-  | inr (inr more) ↦ absurd (false≢true (sym (one.before b other.least more) ∙ other.twice))
-]
-
-one_bad_leaf : (n : ℕ) (crossed : List Crossings) (steps : List listed.Step) (a b : ℕ) → IsFirstBadLeaf n crossed steps a
-    → IsFirstBadLeaf n crossed steps b → a ≡ b
-one_bad_leaf n crossed steps a b one other = elim (cases_order a b) [
-  | inl same ↦ same
-  | inr (inl less) ↦ absurd (one.bad (other.before a one.least less))
-  | inr (inr more) ↦ absurd (other.bad (one.before b other.least more))
-]
 
 -- the numbers of its families are the same
 pub one_crossed : NumbersAreUnique → (inst tree : Fields) (a b : List Crossings) → AreNumbersOf inst tree a
@@ -358,22 +207,14 @@ twice_by_rank : (inst tree : Fields) (a b : ℕ) → AppliesToBranches inst tree
 twice_by_rank inst tree a b one other =
     let steps = one_value tree.branches other.0 one.0 other.1 one.1 in
     let moved = subst (λ steps. IsFirstTwice (is_directed inst.kind) (given_in inst) steps b) steps other.2 in
-    one_twice (is_directed inst.kind) (given_in inst) one.0 a b one.2 moved
-
-one_bad_pair : (least most : ℕ) (steps : List listed.Step) (a b : ℕ) → pairs.IsFirstBadBranch least most steps a
-    → pairs.IsFirstBadBranch least most steps b → a ≡ b
-one_bad_pair least most steps a b one other = elim (cases_order a b) [
-  | inl same ↦ same
-  | inr (inl less) ↦ absurd (one.bad (other.before a one.from_one less))
-  | inr (inr more) ↦ absurd (other.bad (one.before b other.from_one more))
-]
+    one_number _ _ a b one.2 moved (λ k here not. false≢true (sym (not here.0.0) ∙ here.1))
 
 bad_pair_by_rank : (inst tree : Fields) (a b : ℕ) → AppliesToBranches inst tree (BadBranch a)
     → AppliesToBranches inst tree (BadBranch b) → a ≡ b
 bad_pair_by_rank inst tree a b one other =
     let steps = one_value tree.branches other.0 one.0 other.1 one.1 in
     let moved = subst (λ steps. pairs.IsFirstBadBranch 1 (nodes_of inst) steps b) steps other.2 in
-    one_bad_pair 1 (nodes_of inst) one.0 a b one.2 moved
+    one_number _ _ a b one.2 moved (λ k here good. here.1 (good here.0.0))
 
 bad_leaf_by_rank : NumbersAreUnique → (inst tree : Fields) (a b : ℕ) → AppliesToBranches inst tree (BadLeaf a)
     → AppliesToBranches inst tree (BadLeaf b) → a ≡ b
@@ -382,55 +223,22 @@ bad_leaf_by_rank unique inst tree a b one other =
     let crossed = one_crossed unique inst tree other.2 one.2 other.3 one.3 in
     let of_steps = subst (λ steps. IsFirstBadLeaf (nodes_of inst) other.2 steps b) steps other.4 in
     let moved = subst (λ crossed. IsFirstBadLeaf (nodes_of inst) crossed one.0 b) crossed of_steps in
-    one_bad_leaf (nodes_of inst) one.2 one.0 a b one.4 moved
+    one_number _ _ a b one.4 moved (λ k here good. here.1 (good here.0.0))
 
 -- plan: by the reason: one without numbers is equal to itself; of one with numbers files have one first place or pair
 pub trees_by_rank : NumbersAreUnique → (inst tree : Fields) → IsOneByRank (AppliesToBranches inst tree)
-trees_by_rank unique inst tree NotASolution carried one other = absurd one
-trees_by_rank unique inst tree TooFewNodes carried one other = absurd one
-trees_by_rank unique inst tree (NotSymmetric i j) carried one other = absurd one
-trees_by_rank unique inst tree Dimension carried one other = absurd one
-trees_by_rank unique inst tree TourCount carried one other = absurd one
-trees_by_rank unique inst tree TourLength carried one other = absurd one
-trees_by_rank unique inst tree DepotCount carried one other = absurd one
-trees_by_rank unique inst tree DepotDemand carried one other = absurd one
-trees_by_rank unique inst tree FixedEdgesInRoutes carried one other = absurd one
-trees_by_rank unique inst tree (DepotInRoute i) carried one other = absurd one
-trees_by_rank unique inst tree (NodeOutOfRange i) carried one other = absurd one
-trees_by_rank unique inst tree (RepeatedNode i) carried one other = absurd one
-trees_by_rank unique inst tree (FixedEdgeUnused i) carried one other = absurd one
-trees_by_rank unique inst tree (Unserved i) carried one other = absurd one
-trees_by_rank unique inst tree (Overload i) carried one other = absurd one
-trees_by_rank unique inst tree (LengthClaimed i) carried one other = absurd one
-trees_by_rank unique inst tree NotPotentials carried one other = absurd one
-trees_by_rank unique inst tree PotentialsDimension carried one other = absurd one
-trees_by_rank unique inst tree PotentialsKind carried one other = absurd one
-trees_by_rank unique inst tree (MultiplierNotFixed i) carried one other = absurd one
-trees_by_rank unique inst tree (MultiplierRepeated i) carried one other = absurd one
-trees_by_rank unique inst tree (DualInfeasible i j) carried one other = absurd one
 trees_by_rank unique inst tree NotBranches carried one other = refl
 trees_by_rank unique inst tree BranchesDimension carried one other = refl
-trees_by_rank unique inst tree (BadFamily i) carried one other = ap BadFamily (one_place _ _ i carried.0 one other)
+trees_by_rank unique inst tree (BadFamily i) carried one other = ap BadFamily (one_number _ _ i carried.0 one other (λ k here not. not here.0.0 here.1))
 trees_by_rank unique inst tree (BadMemory i) carried one other = ap BadMemory (one.1 ∙ sym other.1)
 trees_by_rank unique inst tree (BadRow i) carried one other = ap BadRow (one.1 ∙ sym other.1)
 trees_by_rank unique inst tree (BadBranch i) carried one other = ap BadBranch (bad_pair_by_rank inst tree i carried.0 one other)
 trees_by_rank unique inst tree (BranchTwice i) carried one other = ap BranchTwice (twice_by_rank inst tree i carried.0 one other)
 trees_by_rank unique inst tree (BadLeaf i) carried one other =
     ap BadLeaf (bad_leaf_by_rank unique inst tree i carried.0 one other)
-trees_by_rank unique inst tree TooManyLoads carried one other = absurd one
-trees_by_rank unique inst tree (TooManyStates i) carried one other = absurd one
-trees_by_rank unique inst tree NotJudged carried one other = absurd one
-trees_by_rank unique inst tree (NotUsed field) carried one other = absurd one
+trees_by_rank unique inst tree reason carried one other = absurd one
 
 -- ---- against a certificate for routes
-
-one_bad_set : (n depot : ℕ) (families : List (List (List ℕ))) (a b : ℕ) → IsFirstBadSet n depot families a
-    → IsFirstBadSet n depot families b → a ≡ b
-one_bad_set n depot families a b one other = elim (cases_order a b) [
-  | inl same ↦ same
-  | inr (inl less) ↦ absurd (one.bad (a - 1) (omega (arith, one.least)) (other.before (a - 1) (omega (arith, one.least, less))))
-  | inr (inr more) ↦ absurd (other.bad (b - 1) (omega (arith, other.least)) (one.before (b - 1) (omega (arith, other.least, more))))
-]
 
 one_bad_list : (n depot : ℕ) (lists : List (List ℕ)) (a b : ℕ) → IsFirstBadList n depot lists a → IsFirstBadList n depot lists b → a ≡ b
 one_bad_list n depot lists a b one other = elim (cases_order one.place other.place) [
@@ -454,26 +262,10 @@ one_bad_memory n depot lists rows a b (inl one) (inr other) = absurd (one.bad (o
 one_bad_memory n depot lists rows a b (inr one) (inl other) = absurd (other.bad (one.0 other.place other.inside))
 one_bad_memory n depot lists rows a b (inr one) (inr other) = one_full n depot lists rows a b one.2 other.2
 
-one_bad_row : (n depot : ℕ) (rows : List SubsetRow) (a b : ℕ) → IsFirstBadRow n depot rows a → IsFirstBadRow n depot rows b → a ≡ b
-one_bad_row n depot rows a b one other = elim (cases_order a b) [
-  | inl same ↦ same
-  | inr (inl less) ↦ absurd (one.bad (a - 1) (omega (arith, one.least)) (other.before (a - 1) (omega (arith, one.least, less))))
-  | inr (inr more) ↦ absurd (other.bad (b - 1) (omega (arith, other.least)) (one.before (b - 1) (omega (arith, other.least, more))))
-]
-
-one_bad_leaf_by : (Good : LeafNumbers → Type 0) (n families : ℕ) (steps : List listed.Step) (a b : ℕ)
-    → IsFirstBadLeafBy Good n families steps a → IsFirstBadLeafBy Good n families steps b → a ≡ b
-one_bad_leaf_by Good n families steps a b one other = elim (cases_order a b) [
-  | inl same ↦ same
-  | inr (inl less) ↦ absurd (one.bad (other.before a one.least less))
-  | inr (inr more) ↦ absurd (other.bad (one.before b other.least more))
-]
-
 one_bad_leaf_of : (by_runs : Bool) (n families rows : ℕ) (steps : List listed.Step) (a b : ℕ)
     → IsFirstBadLeafOf by_runs n families rows steps a → IsFirstBadLeafOf by_runs n families rows steps b → a ≡ b
-one_bad_leaf_of false n families rows steps a b one other = one_bad_leaf_by (ArePlanNumbers n families) n families steps a b one other
-one_bad_leaf_of true n families rows steps a b one other =
-    one_bad_leaf_by (AreRunNumbers n families rows) n (families + rows) (placed_steps n families steps) a b one other
+one_bad_leaf_of false n families rows steps a b one other = one_number _ _ a b one other (λ k here good. here.1 (good here.0.0))
+one_bad_leaf_of true n families rows steps a b one other = one_number _ _ a b one other (λ k here good. here.1 (good here.0.0))
 
 one_full_leaf : (problem : RoutingProblem) (scale : ℤ) (unit : ℕ) (families : List (List (List ℕ))) (lists : List (List ℕ))
     (rows : List SubsetRow) (steps : List listed.Step) (a b : ℕ) → HasFullLeaf problem scale unit families lists rows steps a
@@ -485,8 +277,7 @@ one_full_leaf problem scale unit families lists rows steps a b one other =
     let light : one.light ≡ other.light = one_light problem unit one.light other.light one.units other.units in
     let moved = subst (λ (cs : List Crossings). IsFirstFullLeaf (tree_with problem scale unit families lists rows other.light cs) steps a) crossed
     (subst (λ (l : ℕ). IsFirstFullLeaf (tree_with problem scale unit families lists rows l one.crossed) steps a) light one.first) in
-    one_bad_leaf_by (AreFewNumbers (tree_with problem scale unit families lists rows other.light other.crossed)) problem.nodes
-    (length families + length rows) (placed_steps problem.nodes (length families) steps) a b moved other.first
+    one_number _ _ a b moved other.first (λ k here good. here.1 (good here.0.0))
 
 full_leaf_by_rank : (inst tree : Fields) (a b : ℕ) → AppliesToQRoutes inst tree (TooManyStates a)
     → AppliesToQRoutes inst tree (TooManyStates b) → a ≡ b
@@ -502,7 +293,7 @@ bad_branch_by_rank : (inst tree : Fields) (a b : ℕ) → AppliesToQRoutes inst 
 bad_branch_by_rank inst tree a b one other =
     let steps = one_value tree.branches other.0 one.0 other.1 one.1 in
     let moved = subst (λ steps. IsFirstBadPlanBranch (nodes_of inst) (length (families_listed tree)) steps b) steps other.2 in
-    one_bad_pair (nodes_of inst + 1) (nodes_of inst + length (families_listed tree)) one.0 a b one.2 moved
+    one_number _ _ a b one.2 moved (λ k here good. here.1 (good here.0.0))
 
 bad_plan_leaf_by_rank : (inst tree : Fields) (a b : ℕ) → AppliesToQRoutes inst tree (BadLeaf a)
     → AppliesToQRoutes inst tree (BadLeaf b) → a ≡ b
@@ -514,40 +305,16 @@ bad_plan_leaf_by_rank inst tree a b one other =
 
 -- plan: by the reason: one without numbers is equal to itself; of one with numbers files have one first place or pair
 pub q_routes_by_rank : (inst tree : Fields) → IsOneByRank (AppliesToQRoutes inst tree)
-q_routes_by_rank inst tree NotASolution carried one other = absurd one
-q_routes_by_rank inst tree TooFewNodes carried one other = absurd one
-q_routes_by_rank inst tree (NotSymmetric i j) carried one other = absurd one
-q_routes_by_rank inst tree Dimension carried one other = absurd one
-q_routes_by_rank inst tree TourCount carried one other = absurd one
-q_routes_by_rank inst tree TourLength carried one other = absurd one
-q_routes_by_rank inst tree DepotCount carried one other = absurd one
-q_routes_by_rank inst tree DepotDemand carried one other = absurd one
-q_routes_by_rank inst tree FixedEdgesInRoutes carried one other = absurd one
-q_routes_by_rank inst tree (DepotInRoute i) carried one other = absurd one
-q_routes_by_rank inst tree (NodeOutOfRange i) carried one other = absurd one
-q_routes_by_rank inst tree (RepeatedNode i) carried one other = absurd one
-q_routes_by_rank inst tree (FixedEdgeUnused i) carried one other = absurd one
-q_routes_by_rank inst tree (Unserved i) carried one other = absurd one
-q_routes_by_rank inst tree (Overload i) carried one other = absurd one
-q_routes_by_rank inst tree (LengthClaimed i) carried one other = absurd one
-q_routes_by_rank inst tree NotPotentials carried one other = absurd one
-q_routes_by_rank inst tree PotentialsDimension carried one other = absurd one
-q_routes_by_rank inst tree PotentialsKind carried one other = absurd one
-q_routes_by_rank inst tree (MultiplierNotFixed i) carried one other = absurd one
-q_routes_by_rank inst tree (MultiplierRepeated i) carried one other = absurd one
-q_routes_by_rank inst tree (DualInfeasible i j) carried one other = absurd one
 q_routes_by_rank inst tree NotBranches carried one other = refl
 q_routes_by_rank inst tree BranchesDimension carried one other = refl
-q_routes_by_rank inst tree (BadFamily i) carried one other = ap BadFamily (one_bad_set _ _ _ i carried.0 one other)
+q_routes_by_rank inst tree (BadFamily i) carried one other = ap BadFamily (one_number _ _ i carried.0 one other (λ k here good. here.1 (good here.0.0)))
 q_routes_by_rank inst tree (BadMemory i) carried one other = ap BadMemory (one_bad_memory _ _ _ _ i carried.0 one other)
-q_routes_by_rank inst tree (BadRow i) carried one other = ap BadRow (one_bad_row _ _ _ i carried.0 one other)
+q_routes_by_rank inst tree (BadRow i) carried one other = ap BadRow (one_number _ _ i carried.0 one other (λ k here good. here.1 (good here.0.0)))
 q_routes_by_rank inst tree (BadBranch i) carried one other = ap BadBranch (bad_branch_by_rank inst tree i carried.0 one other)
-q_routes_by_rank inst tree (BranchTwice i) carried one other = absurd one
 q_routes_by_rank inst tree (BadLeaf i) carried one other = ap BadLeaf (bad_plan_leaf_by_rank inst tree i carried.0 one other)
 q_routes_by_rank inst tree TooManyLoads carried one other = refl
 q_routes_by_rank inst tree (TooManyStates i) carried one other = ap TooManyStates (full_leaf_by_rank inst tree i carried.0 one other)
-q_routes_by_rank inst tree NotJudged carried one other = absurd one
-q_routes_by_rank inst tree (NotUsed field) carried one other = absurd one
+q_routes_by_rank inst tree reason carried one other = absurd one
 
 -- ---- against either of two: a reason of one rank applies to one of them alone
 
@@ -560,39 +327,7 @@ certificates_by_rank unique Branches inst cert =
 -- a reason of the rank of another has that rank
 same_rank : (reason : Reason) (carried : Carried) → rank_of (reason_of (rank_of reason) carried) ≡ rank_of reason
 same_rank NotASolution carried = refl
-same_rank TooFewNodes carried = refl
-same_rank (NotSymmetric i j) carried = refl
-same_rank Dimension carried = refl
-same_rank TourCount carried = refl
-same_rank TourLength carried = refl
-same_rank DepotCount carried = refl
-same_rank DepotDemand carried = refl
-same_rank FixedEdgesInRoutes carried = refl
-same_rank (DepotInRoute i) carried = refl
-same_rank (NodeOutOfRange i) carried = refl
-same_rank (RepeatedNode i) carried = refl
-same_rank (FixedEdgeUnused i) carried = refl
-same_rank (Unserved i) carried = refl
-same_rank (Overload i) carried = refl
-same_rank (LengthClaimed i) carried = refl
-same_rank NotPotentials carried = refl
-same_rank PotentialsDimension carried = refl
-same_rank PotentialsKind carried = refl
-same_rank (MultiplierNotFixed i) carried = refl
-same_rank (MultiplierRepeated i) carried = refl
-same_rank (DualInfeasible i j) carried = refl
-same_rank NotBranches carried = refl
-same_rank BranchesDimension carried = refl
-same_rank (BadFamily i) carried = refl
-same_rank (BadMemory i) carried = refl
-same_rank (BadRow i) carried = refl
-same_rank (BadBranch i) carried = refl
-same_rank (BranchTwice i) carried = refl
-same_rank (BadLeaf i) carried = refl
-same_rank TooManyLoads carried = refl
-same_rank (TooManyStates i) carried = refl
-same_rank NotJudged carried = refl
-same_rank (NotUsed field) carried = refl
+same_rank reason carried = refl
 
 -- reasons against a solution or an instance come before those against a certificate, whatever they carry
 either_by_rank : NumbersAreUnique → (Own : Reason → Type 0) (by : CertificateKind) (inst cert : Fields) → AreOwn Own → IsOneByRank Own
@@ -627,5 +362,5 @@ certified_routes_by_rank unique by inst sol cert =
 
 pub bounded_by_rank : NumbersAreUnique → (by : CertificateKind) (inst cert : Fields)
     → IsOneByRank (AppliesToBounded by inst cert)
-bounded_by_rank unique by inst cert = either_by_rank unique (AppliesToInstance inst) by inst cert (instance_rank inst)
-    (instance_either inst.kind IsOneByRank inst (instances_by_rank inst) (routings_by_rank inst))
+bounded_by_rank unique by inst cert =
+    either_by_rank unique (AppliesToInstance inst) by inst cert (instance_rank inst) (instance_by_rank inst)

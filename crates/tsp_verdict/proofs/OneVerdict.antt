@@ -1,22 +1,21 @@
--- Files have one verdict: its reason has one rank and numbers, its length is that of the tour or plan, its bound one
--- number.
-use Rattle.tsp_verdict.proofs.Prelude.{◌≡◌, ◌∙◌, ℕ, false, List, [], ◌∷◌, get_or, inl, inr, refl, sym, ap, ap₂, subst, arith, Option, None, Some, ℤ, false≢true, ints, Kind, Fields, nodes_of, cost, scale_in, multipliers_in, families_listed, length_of, IsLeastRoutes, IsAdjustedBound, IsDualBound, is_directed, routing_of, capacity_of, Crossings, NumbersAreUnique, decided_number, CertificateKind, Potentials, Branches, Reason, LengthClaimed, Verdict, IsPlanBoundFound, PlanBoundsFoundAreUnique, memories_listed, rows_listed}
+-- For the law in src/one_verdict.rt: files have one verdict. Its reason has one rank and numbers, its length is that of
+-- the tour or plan, its bound one number.
+use Rattle.tsp_verdict.proofs.Prelude.{◌≡◌, ◌∙◌, ℕ, false, List, [], ◌∷◌, get_or, inl, inr, refl, sym, ap, ap₂, subst, arith, Option, None, Some, ℤ, false≢true, ints, Kind, Fields, nodes_of, cost, scale_in, multipliers_in, families_listed, length_of, IsAdjustedBound, IsDualBound, is_directed, routing_of, capacity_of, Crossings, NumbersAreUnique, decided_number, CertificateKind, Potentials, Branches, Reason, LengthClaimed, Verdict, IsPlanBoundFound, PlanBoundsFoundAreUnique, memories_listed, rows_listed}
 use Rattle.tsp_format.specs.declared.kinds.Kind.TheVariants as kinds
 use Rattle.tsp_format.specs.Steps as listed
 use Rattle.tsp_theory.proofs.Cycles.{one_bound as one_sum_bound}
 use Rattle.tsp_cases.specs.CaseTrees.{IsCaseTreeBound, CaseTreeBoundsAreUnique}
 use Rattle.tsp_report.specs.declared.verdict.KnownBound.{KnownBound}
-use Rattle.tsp_report.specs.declared.verdict.KnownBound.TheVariants as known_bounds
 use Rattle.tsp_report.specs.declared.verdict.BoundVerdict.{BoundVerdict}
 use Rattle.tsp_report.specs.declared.verdict.BoundVerdict.TheVariants as bounds
 use Rattle.tsp_report.specs.declared.verdict.Verdict.TheVariants.{Tour, Routes, No}
-use Rattle.tsp_verdict.proofs.KnownBounds.{same_least}
-use Rattle.tsp_verdict.specs.SolutionVerdict.{IsKnownBoundOfTours, IsKnownBoundOfRoutes, IsKnownBoundAlone, IsKnownBoundOfToursBy, IsKnownBoundOfRoutesBy, IsKnownBoundBy, IsKnownBoundWith, IsVerdictBy, IsVerdictOn, IsUnclaimedVerdict, IsFirstAgainstGiven, HasLength, IsOfLength, IsClaimedVerdict, FilesHaveOneVerdict, FilesHaveOneBound, FilesHaveOneKnownBound, SolutionsHaveOneVerdict}
-use Rattle.tsp_verdict.specs.Certified.{AppliesToTouring, AppliesToRouting, AppliesToBounded, IsBoundVerdict, is_bounded, IsBoundBy, IsBoundOf, HasNoBoundBy, AppliesToCertificate, IsCertified, AppliesToCertified, IsCertifiedTourVerdict, AppliesToCertifiedRoutes, IsCertifiedRoutesVerdict, IsCertifiedVerdictBy, IsCertifiedVerdict}
+use Rattle.tsp_verdict.proofs.KnownBounds.{same_least, least_of_routes}
+use Rattle.tsp_verdict.specs.SolutionVerdict.{IsFoundWith, IsLeastKnownBy, IsKnownBoundWith, IsVerdictBy, IsVerdictOn, IsUnclaimedVerdict, IsFirstAgainstGiven, HasLength, IsOfLength, IsClaimedVerdict, FilesHaveOneVerdict, FilesHaveOneBound, FilesHaveOneKnownBound, SolutionsHaveOneVerdict}
+use Rattle.tsp_verdict.specs.Certified.{AppliesToInstance, AppliesToBounded, IsBoundVerdict, is_bounded, IsBoundBy, IsBoundOf, HasNoBoundBy, AppliesToCertificate, IsCertified, AppliesToCertified, IsCertifiedTourVerdict, AppliesToCertifiedRoutes, IsCertifiedRoutesVerdict, IsCertifiedVerdictBy, IsCertifiedVerdict}
 use Rattle.tsp_verdict.specs.Certificates.{given_in, case_steps_in, families_with_numbers, HasBoundByBranches, IsBoundByNodes, IsBoundByDuals, unit_in, by_runs_in, HasBoundByQRoutes}
 use Rattle.tsp_verdict.specs.Solutions.{total_of, AppliesToRoutes, IsPlanned, IsRoutesVerdict, tours_of, AppliesToTour, IsTourVerdict}
 use Rattle.tsp_verdict.proofs.FirstReasons.{one_first}
-use Rattle.tsp_verdict.proofs.OneReason.{one_value, tours_by_rank, instances_by_rank, routings_by_rank, routes_by_rank, certificates_by_rank, certified_by_rank, certified_routes_by_rank, bounded_by_rank, one_crossed}
+use Rattle.tsp_verdict.proofs.OneReason.{one_value, tours_by_rank, instance_by_rank, routes_by_rank, certificates_by_rank, certified_by_rank, certified_routes_by_rank, bounded_by_rank, one_crossed}
 
 -- the laws of the crates below
 pub record Laws : Type 0 where
@@ -81,7 +80,7 @@ one_alone inst sol one other first second = one_by_kind inst.kind inst sol one o
 
 -- ---- bounds
 
--- two least 1-trees weigh the same
+-- two minimum 1-trees weigh the same
 one_adjusted : (n : ℕ) (cost : ℕ → ℕ → ℤ) (scale : ℤ) (potentials : List ℤ) (taken avoided : List (ℕ × ℕ × ℤ)) (a b : ℤ)
     → IsAdjustedBound n cost scale potentials taken avoided a → IsAdjustedBound n cost scale potentials taken avoided b → a ≡ b
 one_adjusted n cost scale potentials taken avoided a b one other =
@@ -467,134 +466,42 @@ one_verdict laws given (Some claim) inst sol one other first second = one_claime
 
 -- ---- what is known of all solutions
 
-one_of_tours : (inst : Fields) (one other : KnownBound) → IsKnownBoundOfTours inst one → IsKnownBoundOfTours inst other → one ≡ other
-one_of_tours inst (known_bounds.Tours None) (known_bounds.Tours None) one other = refl
-one_of_tours inst (known_bounds.Tours None) (known_bounds.Tours (Some bound)) one other = absurd other
-one_of_tours inst (known_bounds.Tours None) known_bounds.NoSolution one other = absurd other
-one_of_tours inst (known_bounds.Tours None) (known_bounds.Routes least bound) one other = absurd other
-one_of_tours inst (known_bounds.Tours None) (known_bounds.No reason) one other = absurd (one reason other.applies)
-one_of_tours inst (known_bounds.Tours (Some bound)) other one second = absurd one
-one_of_tours inst known_bounds.NoSolution other one second = absurd one
-one_of_tours inst (known_bounds.Routes least bound) other one second = absurd one
-one_of_tours inst (known_bounds.No reason) (known_bounds.Tours None) one other = absurd (other reason one.applies)
-one_of_tours inst (known_bounds.No reason) (known_bounds.Tours (Some bound)) one other = absurd other
-one_of_tours inst (known_bounds.No reason) known_bounds.NoSolution one other = absurd other
-one_of_tours inst (known_bounds.No reason) (known_bounds.Routes least bound) one other = absurd other
-one_of_tours inst (known_bounds.No a) (known_bounds.No b) one other =
-    ap known_bounds.No (one_first (AppliesToTouring inst) (instances_by_rank inst) a b one other)
+one_found : Laws → (given : Option (CertificateKind × Fields)) (inst : Fields) (one other : Option BoundVerdict)
+    → IsFoundWith given inst one → IsFoundWith given inst other → one ≡ other
+one_found laws None inst None None one other = refl
+one_found laws None inst None (Some (bounds.Bound bound)) one other = absurd other
+one_found laws None inst None (Some bounds.NoSolution) one other = absurd other
+one_found laws None inst None (Some (bounds.No reason)) one other = absurd (one reason other.applies)
+one_found laws None inst (Some (bounds.Bound bound)) other one second = absurd one
+one_found laws None inst (Some bounds.NoSolution) other one second = absurd one
+one_found laws None inst (Some (bounds.No reason)) None one other = absurd (other reason one.applies)
+one_found laws None inst (Some (bounds.No reason)) (Some (bounds.Bound bound)) one other = absurd other
+one_found laws None inst (Some (bounds.No reason)) (Some bounds.NoSolution) one other = absurd other
+one_found laws None inst (Some (bounds.No a)) (Some (bounds.No b)) one other =
+    ap (λ reason. Some (bounds.No reason)) (one_first (AppliesToInstance inst) (instance_by_rank inst) a b one other)
+one_found laws (Some given) inst None other one second = absurd one
+one_found laws (Some given) inst (Some found) None one other = absurd other
+one_found laws (Some given) inst (Some a) (Some b) one other = ap Some (one_bound laws given.0 inst given.1 a b one other)
 
-one_of_routes : (inst : Fields) (one other : KnownBound) → IsKnownBoundOfRoutes inst one → IsKnownBoundOfRoutes inst other → one ≡ other
-one_of_routes inst (known_bounds.Tours bound) other one second = absurd one
-one_of_routes inst known_bounds.NoSolution other one second = absurd one
-one_of_routes inst (known_bounds.Routes least (Some bound)) other one second = absurd one
-one_of_routes inst (known_bounds.Routes least None) (known_bounds.Tours bound) one other = absurd other
-one_of_routes inst (known_bounds.Routes least None) known_bounds.NoSolution one other = absurd other
-one_of_routes inst (known_bounds.Routes a None) (known_bounds.Routes b None) one other =
-    ap (λ least. known_bounds.Routes least None) (same_least (total_of inst) (capacity_of inst) a b one.1 other.1)
-one_of_routes inst (known_bounds.Routes least None) (known_bounds.Routes other (Some bound)) one second = absurd second
-one_of_routes inst (known_bounds.Routes least None) (known_bounds.No reason) one other = absurd (one.0 reason other.applies)
-one_of_routes inst (known_bounds.No reason) (known_bounds.Tours bound) one other = absurd other
-one_of_routes inst (known_bounds.No reason) known_bounds.NoSolution one other = absurd other
-one_of_routes inst (known_bounds.No reason) (known_bounds.Routes least None) one other = absurd (other.0 reason one.applies)
-one_of_routes inst (known_bounds.No reason) (known_bounds.Routes least (Some bound)) one other = absurd other
-one_of_routes inst (known_bounds.No a) (known_bounds.No b) one other =
-    ap known_bounds.No (one_first (AppliesToRouting inst) (routings_by_rank inst) a b one other)
-
-one_known_bound_alone : (kind : Option Kind) (inst : Fields) (one other : KnownBound) → IsKnownBoundAlone kind inst one
-    → IsKnownBoundAlone kind inst other
+one_least : (kind : Option Kind) (inst : Fields) (one other : Option ℕ) → IsLeastKnownBy kind inst one → IsLeastKnownBy kind inst other
     → one ≡ other
-one_known_bound_alone (Some kinds.Tsp) inst one other first second = one_of_tours inst one other first second
-one_known_bound_alone (Some kinds.Atsp) inst one other first second = one_of_tours inst one other first second
-one_known_bound_alone (Some kinds.Cvrp) inst one other first second = one_of_routes inst one other first second
-one_known_bound_alone (Some kinds.Tour) inst one other first second = absurd first
-one_known_bound_alone (Some kinds.Potentials) inst one other first second = absurd first
-one_known_bound_alone (Some kinds.Branches) inst one other first second = absurd first
-one_known_bound_alone None inst one other first second = absurd first
+one_least (Some kinds.Cvrp) inst one (Some other) first second = least_of_routes inst one other second first
+one_least (Some kinds.Cvrp) inst one None first second = absurd second
+one_least (Some kinds.Tsp) inst one other first second = first ∙ sym second
+one_least (Some kinds.Atsp) inst one other first second = first ∙ sym second
+one_least (Some kinds.Tour) inst one other first second = first ∙ sym second
+one_least (Some kinds.Potentials) inst one other first second = first ∙ sym second
+one_least (Some kinds.Branches) inst one other first second = first ∙ sym second
+one_least None inst one other first second = first ∙ sym second
 
--- a known bound with a certificate is what a bound without a solution says
-abbrev known_bound_of_bound : BoundVerdict → KnownBound
-known_bound_of_bound (bounds.Bound bound) = known_bounds.Tours (Some bound)
-known_bound_of_bound bounds.NoSolution = known_bounds.NoSolution
-known_bound_of_bound (bounds.No reason) = known_bounds.No reason
-
-said_by : (by : CertificateKind) (inst cert : Fields) (known_bound : KnownBound) → IsKnownBoundOfToursBy by inst cert known_bound
-    → (verdict : BoundVerdict) × IsBoundVerdict by inst cert verdict × (known_bound ≡ known_bound_of_bound verdict)
-said_by by inst cert (known_bounds.Tours None) is = absurd is
-said_by by inst cert (known_bounds.Tours (Some bound)) is = (bounds.Bound bound, is, refl)
-said_by by inst cert known_bounds.NoSolution is = (bounds.NoSolution, is, refl)
-said_by by inst cert (known_bounds.Routes least bound) is = absurd is
-said_by by inst cert (known_bounds.No reason) is = (bounds.No reason, is, refl)
-
-one_known_bound_of_tours : Laws → (by : CertificateKind) (inst cert : Fields) (one other : KnownBound) → IsKnownBoundOfToursBy by inst cert one
-    → IsKnownBoundOfToursBy by inst cert other → one ≡ other
-one_known_bound_of_tours laws by inst cert one other first second =
-    let said = said_by by inst cert one first in
-    let again = said_by by inst cert other second in
-    said.2 ∙ ap known_bound_of_bound (one_bound laws by inst cert said.0 again.0 said.1 again.1) ∙ sym again.2
-
--- of routes with the least number of routes beside it
-abbrev routes_of_bound : ℕ → BoundVerdict → KnownBound
-routes_of_bound least (bounds.Bound bound) = known_bounds.Routes least (Some bound)
-routes_of_bound least bounds.NoSolution = known_bounds.NoSolution
-routes_of_bound least (bounds.No reason) = known_bounds.No reason
-
-routes_said_by : (by : CertificateKind) (inst cert : Fields) (known_bound : KnownBound) → IsKnownBoundOfRoutesBy by inst cert known_bound
-    → (verdict : BoundVerdict) × IsBoundVerdict by inst cert verdict
-    × ((least : ℕ) → IsLeastRoutes (total_of inst) (capacity_of inst) least → known_bound ≡ routes_of_bound least verdict)
-routes_said_by by inst cert (known_bounds.Routes own None) is = absurd is
-routes_said_by by inst cert (known_bounds.Routes own (Some bound)) is = (
-  bounds.Bound bound,
-  is.0,
-  λ least is_least. ap (λ k. known_bounds.Routes k (Some bound)) (same_least (total_of inst) (capacity_of inst) own least is.1 is_least),
-)
-routes_said_by by inst cert known_bounds.NoSolution is = (bounds.NoSolution, is, λ least is_least. refl)
-routes_said_by by inst cert (known_bounds.Tours bound) is = absurd is
-routes_said_by by inst cert (known_bounds.No reason) is = (bounds.No reason, is, λ least is_least. refl)
-
--- plan: by the two known bounds; bounds and least numbers are one each
-one_known_bound_of_routes : Laws → (by : CertificateKind) (inst cert : Fields) (one other : KnownBound) → IsKnownBoundOfRoutesBy by inst cert one
-    → IsKnownBoundOfRoutesBy by inst cert other → one ≡ other
-one_known_bound_of_routes laws by inst cert (known_bounds.Routes least None) other first second = absurd first
-one_known_bound_of_routes laws by inst cert (known_bounds.Tours bound) other first second = absurd first
-one_known_bound_of_routes laws by inst cert (known_bounds.Routes least (Some bound)) other first second =
-    let again = routes_said_by by inst cert other second in
-    sym (again.2 least first.1 ∙ ap (routes_of_bound least)
-    (one_bound laws by inst cert again.0 (bounds.Bound bound) again.1 first.0))
-one_known_bound_of_routes laws by inst cert known_bounds.NoSolution (known_bounds.Routes least (Some bound)) first second =
-    absurd (never_none laws by inst cert bound second.0 first)
-one_known_bound_of_routes laws by inst cert known_bounds.NoSolution (known_bounds.Routes least None) first second = absurd second
-one_known_bound_of_routes laws by inst cert known_bounds.NoSolution (known_bounds.Tours bound) first second = absurd second
-one_known_bound_of_routes laws by inst cert known_bounds.NoSolution known_bounds.NoSolution first second = refl
-one_known_bound_of_routes laws by inst cert known_bounds.NoSolution (known_bounds.No reason) first second = absurd (first.0 reason second.applies)
-one_known_bound_of_routes laws by inst cert (known_bounds.No reason) (known_bounds.Routes least (Some bound)) first second =
-    absurd (second.0.0 reason first.applies)
-one_known_bound_of_routes laws by inst cert (known_bounds.No reason) (known_bounds.Routes least None) first second = absurd second
-one_known_bound_of_routes laws by inst cert (known_bounds.No reason) (known_bounds.Tours bound) first second = absurd second
-one_known_bound_of_routes laws by inst cert (known_bounds.No reason) known_bounds.NoSolution first second = absurd (second.0 reason first.applies)
-one_known_bound_of_routes laws by inst cert (known_bounds.No a) (known_bounds.No b) first second =
-    ap known_bound_of_bound (one_bound laws by inst cert (bounds.No a) (bounds.No b) first second)
-
-one_known_bound_by : Laws → (kind : Option Kind) (by : CertificateKind) (inst cert : Fields) (one other : KnownBound)
-    → IsKnownBoundBy kind by inst cert one → IsKnownBoundBy kind by inst cert other → one ≡ other
-one_known_bound_by laws (Some kinds.Cvrp) by inst cert one other first second =
-    one_known_bound_of_routes laws by inst cert one other first second
-one_known_bound_by laws (Some kinds.Tsp) by inst cert one other first second =
-    one_known_bound_of_tours laws by inst cert one other first second
-one_known_bound_by laws (Some kinds.Atsp) by inst cert one other first second =
-    one_known_bound_of_tours laws by inst cert one other first second
-one_known_bound_by laws (Some kinds.Tour) by inst cert one other first second =
-    one_known_bound_of_tours laws by inst cert one other first second
-one_known_bound_by laws (Some kinds.Potentials) by inst cert one other first second =
-    one_known_bound_of_tours laws by inst cert one other first second
-one_known_bound_by laws (Some kinds.Branches) by inst cert one other first second =
-    one_known_bound_of_tours laws by inst cert one other first second
-one_known_bound_by laws None by inst cert one other first second = one_known_bound_of_tours laws by inst cert one other first second
+abbrev known : Option ℕ → Option BoundVerdict → KnownBound
+known least_is found_is = record { least = least_is; found = found_is }
 
 one_known_bound_with : Laws → (given : Option (CertificateKind × Fields)) (inst : Fields) (one other : KnownBound) → IsKnownBoundWith given inst one
     → IsKnownBoundWith given inst other → one ≡ other
-one_known_bound_with laws None inst one other first second = one_known_bound_alone inst.kind inst one other first second
-one_known_bound_with laws (Some given) inst one other first second =
-    one_known_bound_by laws inst.kind given.0 inst given.1 one other first second
+one_known_bound_with laws given inst one other first second =
+    ap₂ known (one_least inst.kind inst one.least other.least first.0 second.0)
+    (one_found laws given inst one.found other.found first.1 second.1)
 
 pub one_known_bound : Laws → FilesHaveOneKnownBound
 one_known_bound laws given inst one other first second = one_known_bound_with laws given inst one other first.1 second.1

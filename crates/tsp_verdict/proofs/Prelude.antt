@@ -1,4 +1,5 @@
--- What the proofs of this crate use most of other crates, passed on from one place.
+-- Names of other crates, passed on to the files of this crate alone. It defines nothing: add or remove names freely;
+-- `tests/repository/names` sees that each is imported from here.
 pub use Rattle.std.proofs.Common.{Bool, List, None, Option, add-one, ap, ap₂, arith, cond, drop, drop-cons, eqb, false, get_or, inl, inr, leb, length, length-append, map, not, of_z, refl, replicate, rules, set, subst, subst₂, suc, sym, take, to_z, true, zero, ℕ, [], ◌&&◌, ◌*◌, ◌++◌, ◌+◌, ◌-◌, ◌/◌, ◌<◌, ◌||◌, ◌∙◌, ◌∷◌, ◌≡◌, ◌≢◌, ◌≤◌}
 pub use Rattle.std.proofs.lemmas.Bool.{and_from, and_parts, cases_Bool, cases_cond, cases_lt, cases_order, eq-eqb, eqb-true, false_from_ne_true, false≢true, le-leb, le-ltb, lt-leb, not-false, not-true, or_cases}
 pub use Rattle.std.proofs.lemmas.Int.{ints, to_z-of_z}
@@ -31,8 +32,8 @@ pub use Rattle.tsp_report.specs.declared.task.CertificateKind.TheVariants.{Branc
 pub use Rattle.tsp_report.specs.declared.verdict.Reason.{Reason}
 pub use Rattle.tsp_report.specs.declared.verdict.Reason.TheVariants.{BadBranch, BadFamily, BadLeaf, BadMemory, BadRow, BranchTwice, BranchesDimension, DepotCount, DepotDemand, DepotInRoute, Dimension, DualInfeasible, FixedEdgeUnused, FixedEdgesInRoutes, LengthClaimed, MultiplierNotFixed, MultiplierRepeated, NodeOutOfRange, NotASolution, NotBranches, NotJudged, NotPotentials, NotSymmetric, NotUsed, Overload, PotentialsDimension, PotentialsKind, RepeatedNode, TooFewNodes, TooManyLoads, TooManyStates, TourCount, TourLength, Unserved}
 pub use Rattle.tsp_report.specs.declared.verdict.Verdict.{Verdict}
-pub use Rattle.tsp_routing.proofs.SmallQRoutes.{of_customers}
-pub use Rattle.tsp_routing.specs.PlanVerdicts.{AreCapacityCuts, AreGoodBranches, HasTooManyLoads, IsFirstBadPlanBranch, IsFirstBadSet, most_entries, routing_with}
+pub use Rattle.tsp_routing.proofs.SmallCases.{of_customers}
+pub use Rattle.tsp_routing.specs.PlanVerdicts.{AreCapacityCuts, AreGoodBranches, HasTooManyLoads, IsFirstBadPlanBranch, most_entries, routing_with}
 pub use Rattle.tsp_routing.specs.RunVerdicts.{IsPlanBoundFound, IsPlanVerdict, PlanBoundsFoundAreUnique, VerdictBoundsPlans}
 pub use Rattle.tsp_theory.specs.Bounds.{AdjustedBoundsBoundCycles, AreGood, AreOnPairs, DualsBoundCycles, IsAdjustedBound, IsAdjustedBoundOf, IsBoundSized, IsDualBound, IsFirstBroken, IsScale, UsesEach, adjusted, entry, is_same_pair, numbers_on, pair_of, weight_between}
 pub use Rattle.tsp_theory.specs.Tour.{AreNeighbours, BoundsTours, HasNoTour, IsCustomer, IsCycle, IsLeastRoutes, IsPlan, RoutingProblem, Uses, demand_of, length_of, links_to, load_of, plan_length, sum_int_by}

@@ -1,4 +1,5 @@
--- Routes as they stand in a file: places, lengths, loads, and the least number of routes.
+-- For src/routes.rt, and partly src/tour.rt and src/certificate.rt: routes as they stand in a file, with places, lengths,
+-- loads, and the least number of routes; and lists of a file that are lent to the code.
 use Rattle.tsp_verdict.proofs.Prelude.{◌≡◌, ℕ, zero, suc, ◌+◌, ◌-◌, ◌<◌, ◌≤◌, List, [], ◌∷◌, ◌++◌, length, get_or, take, refl, sym, ap, subst, ◌∙◌, inl, inr, arith, length-append, ◌≢◌, true, false, Option, None, Some, eqb, drop, to_z, of_z, drop-cons, add-one, ◌*◌, cases_lt, false≢true, ints, get_or_default, length-map, get_or_past, All-weaker, All-from_recursion, recursion_from_All, Vec, w64, All, concat, AllByRecursion, sum_by, Contains, range_with_len, remove, ◌⊎◌, slice_index_or, map, unwrap_or, ◌^◌, ℤ, pos, ◌+ℤ◌, ◌*ℤ◌, ◌≤ℤ◌, neg_ℤ, int_lt, most_nodes, most_tour_nodes, most_changes, most_weight, most_demand, IsNode, nodes_to, Kind, Fields, nodes_of, is_tour_file, AreTours, IsNodeList, IsStep, AreTreeSteps, IsDemand, sum_int_by, RoutingProblem, demand_of, IsPlan, IsLeastRoutes, links_to, length_of, plan_length, load_of, IsListedStep}
 use Rattle.std.proofs.Math.IntN.{+ℤ_assoc, +ℤ_idr}
 use Rattle.std.proofs.lemmas.Bool.Decides.{eqb_tells}
@@ -7,6 +8,7 @@ use Rattle.std.proofs.lemmas.List.Folds.{length-flat_map-take}
 use Rattle.std.proofs.lemmas.List.Sorted.{IsPermutation-remove, Contains-permutation}
 use Rattle.std.proofs.lemmas.List.Sums.{sum_by-cons}
 use Rattle.std.specs.List.Sorted.{IsPermutation}
+use Rattle.std.specs.Prelude.{◌<ℤ◌}
 use Rattle.tsp_format.proofs.Basics.{both_all}
 use Rattle.tsp_format.specs.Steps.{Step, Branch, Leaf, are_whole, branch_count, leaf_count, change_count}
 use Rattle.tsp_format.specs.declared.kinds.Kind.TheVariants as kinds
@@ -14,7 +16,8 @@ use Rattle.tsp_format.specs.declared.steps.TreeStep.{TreeStep}
 use Rattle.tsp_format.specs.states.TreeSteps.{step_of, steps_of}
 use Rattle.tsp_theory.proofs.Sums.{run_parts}
 use Rattle.tsp_routing.proofs.Plans.{within_all}
-use Rattle.tsp_verdict.specs.Solutions.{node_at, IsFirstPlace, visited, tours_of}
+use Rattle.tsp_theory.specs.First.{IsFirstPlace}
+use Rattle.tsp_verdict.specs.Solutions.{node_at, visited, tours_of, IsOverloaded}
 use Rattle.tsp_verdict.specs.states.Marks.{StandsAfter, nodes_in, AreToursOf, IsSumOf}
 
 -- a route is after the nodes of those before it
@@ -60,15 +63,17 @@ pub count_here : (routes : List (Vec ℕ)) (i before : ℕ) (route : Vec ℕ) (n
 count_here routes i before route nodes lt is counted same =
     omega (arith, count_more routes i route lt is, counted, ap length same)
 
--- the first place of a route at which P holds is the first one of all, where P holds nowhere before
+-- the first place of a route at which P holds is the first one of all, if P holds nowhere before
 pub first_after : (P Q : ℕ → Type 0) (nodes piece : List ℕ) (before place : ℕ) → ((v : ℕ) → P v → Q v → ⊥)
     → StandsAfter before nodes piece
     → ((k d : ℕ) → k < before → Q (slice_index_or nodes k d)) → IsFirstPlace (λ k. P (node_at piece k)) piece place
     → IsFirstPlace (λ k. P (node_at nodes k)) nodes (before + place)
 first_after P Q nodes piece before place apart applies none first = record {
-  here = (omega (arith, first.here.0), omega (arith, first.here.1, applies.inside));
-  holds = subst P (at_place place first.here.0 first.here.1) first.holds;
-  first = λ earlier low less. earlier_out earlier low less (cases_lt before earlier);
+  applies = (
+    (omega (arith, first.applies.0.0), omega (arith, first.applies.0.1, applies.inside)),
+    subst P (at_place place first.applies.0.0 first.applies.0.1) first.applies.1,
+  );
+  none_before = λ earlier less low. earlier_out earlier low less (cases_lt before earlier);
 }
   where
     at_place : (k : ℕ) → 1 ≤ k → k ≤ length piece → node_at piece k ≡ node_at nodes (before + k)
@@ -79,8 +84,8 @@ first_after P Q nodes piece before place apart applies none first = record {
     earlier_out earlier low less (inl after) p =
         let k : ℕ = earlier - before in
         let is : before + k ≡ earlier = omega (arith, after) in
-        first.first k (omega (arith, after)) (omega (arith, after, less))
-        (subst P (sym (at_place k (omega (arith, after)) (omega (arith, less, first.here.1, after)) ∙ ap (node_at nodes) is)) p)
+        first.none_before k (omega (arith, after, less)) (omega (arith, after))
+        (subst P (sym (at_place k (omega (arith, after)) (omega (arith, less, first.applies.0.1, after)) ∙ ap (node_at nodes) is)) p)
     earlier_out earlier low less (inr le) p = apart (node_at nodes earlier) p (none (earlier - 1) 0 (omega (arith, low, le)))
 
 -- what holds of all nodes before a route and of the route's nodes
@@ -251,7 +256,7 @@ still_there xs i x w lt is other there =
     let found = Contains-permutation xs (x ∷ remove xs i) w taken there in
     in_tail x (remove xs i) w found.0 found.1 found.2 other
 
--- a run of numbers that are all in a list sums to no more than the list, where nothing is below 0
+-- a run of numbers that are all in a list sums to no more than the list, if nothing is below 0
 run_sum : (f : ℕ → ℤ) → ((v : ℕ) → pos 0 ≤ℤ f v) → (m a : ℕ) (xs : List ℕ) → ((v : ℕ) → a ≤ v → v < a + m → Contains xs v)
     → sum_int_by f (range_with_len a m) ≤ℤ sum_int_by f xs
 run_sum f low zero a xs inside = all_low xs
@@ -425,3 +430,26 @@ carried_more demands capacity routes i route lt is carries so_far k d less = by_
 
 pub not_over : (a b : ℤ) → int_lt b a ≡ false → a ≤ℤ b
 not_over a b e = grind (arith, ints)
+
+pub is_over : (a b : ℤ) → int_lt b a ≡ true → b <ℤ a
+is_over a b e = grind (arith, ints)
+
+-- the first route above the capacity
+pub over_here : (demands : List ℤ) (capacity : ℤ) (routes : List (Vec ℕ)) (i place : ℕ) (route : Vec ℕ) → i < length routes
+    → route ≡ get_or routes i route → place ≡ i + 1 → capacity <ℤ load_of demands route.items
+    → ((k : ℕ) (d : List ℕ) → k < i → load_of demands (slice_index_or (map (λ (r : Vec ℕ). r.items) routes) k d) ≤ℤ capacity)
+    → IsFirstPlace (IsOverloaded demands capacity (map (λ (r : Vec ℕ). r.items) routes)) (map (λ (r : Vec ℕ). r.items) routes) place
+over_here demands capacity routes i place route lt is counted over so_far =
+    let lists : List (List ℕ) = map (λ (r : Vec ℕ). r.items) routes in
+    let here : place - 1 ≡ i = omega (arith, counted) in
+    let same : get_or lists (place - 1) [] ≡ route.items = ap (λ j. get_or lists j []) here ∙ read_route routes i route [] lt is in
+    let wide = length-map routes (λ (r : Vec ℕ). r.items) in
+    record {
+      applies = (
+        (omega (arith, counted), omega (arith, counted, lt, wide)),
+        subst (λ (xs : List ℕ). capacity <ℤ load_of demands xs) (sym same) over,
+      );
+      none_before = λ earlier less from more.
+          let most = so_far (earlier - 1) [] (omega (arith, less, from, counted)) in
+          omega (arith, ints, most, more);
+    }

@@ -1,5 +1,5 @@
--- Reasons against routes and their certificate, ruled out one by one, and the verdict.
-use Rattle.tsp_verdict.proofs.Prelude.{ℕ, ◌≤◌, arith, ◌≡◌, ◌≢◌, ◌+◌, ◌-◌, ◌<◌, Bool, true, false, List, [], length, None, refl, sym, ap, subst, ◌∙◌, ◌*◌, ◌∷◌, to_z, of_z, false≢true, ints, to_z-of_z, length-map, All-from_recursion, recursion_from_All, Vec, w64, All, Contains, AllByRecursion, slice_index_or, ℤ, pos, ◌≤ℤ◌, FitsSigned, ◌^◌, unwrap_or, nat_abs, Option, Some, most_changes, IsNode, nodes_to, cost, HoldsCases, scale_in, families_listed, Fields, nodes_of, is_branches_file, IsDemand, IsStep, AreTreeSteps, families_of, IsBoundSized, demand_of, load_of, IsCustomer, plan_length, IsLeastRoutes, RoutingProblem, depot_of, demands_of, capacity_of, routing_of, memories_listed, rows_listed, HoldsMemory, sum_by, map, inl, inr, families_with, leaf_changes, Crossings, of_customers, IsFirstBadSet, AreCapacityCuts, AreGoodBranches, IsFirstBadPlanBranch, routing_with, most_entries, HasTooManyLoads, IsPlanBoundFound, IsPlanVerdict, VerdictBoundsPlans, rank_of, Branches, Reason, DepotCount, DepotDemand, FixedEdgesInRoutes, NotPotentials, PotentialsDimension, PotentialsKind, MultiplierNotFixed, MultiplierRepeated, DualInfeasible, NotSymmetric, TourCount, TourLength, NodeOutOfRange, RepeatedNode, FixedEdgeUnused, DepotInRoute, Unserved, Overload, NotBranches, BranchesDimension, BadFamily, BadMemory, BadRow, BadBranch, BranchTwice, BadLeaf, TooManyLoads, TooManyStates, LengthClaimed, NotJudged, NotUsed}
+-- For src/routes.rt: reasons against routes and their certificate, ruled out one by one, and the verdict.
+use Rattle.tsp_verdict.proofs.Prelude.{ℕ, ◌≤◌, arith, ◌≡◌, ◌≢◌, ◌+◌, ◌-◌, ◌<◌, Bool, true, false, List, [], length, None, refl, sym, ap, subst, ◌∙◌, ◌*◌, ◌∷◌, to_z, of_z, false≢true, ints, to_z-of_z, length-map, All-from_recursion, recursion_from_All, Vec, w64, All, Contains, AllByRecursion, slice_index_or, ℤ, pos, ◌≤ℤ◌, FitsSigned, ◌^◌, unwrap_or, nat_abs, Option, Some, most_changes, IsNode, nodes_to, cost, HoldsCases, scale_in, families_listed, Fields, nodes_of, is_branches_file, IsDemand, IsStep, AreTreeSteps, families_of, IsBoundSized, demand_of, load_of, IsCustomer, plan_length, IsLeastRoutes, RoutingProblem, depot_of, demands_of, capacity_of, routing_of, memories_listed, rows_listed, HoldsMemory, sum_by, map, inl, inr, families_with, leaf_changes, Crossings, of_customers, AreCapacityCuts, AreGoodBranches, IsFirstBadPlanBranch, routing_with, most_entries, HasTooManyLoads, IsPlanBoundFound, IsPlanVerdict, VerdictBoundsPlans, rank_of, Branches, Reason, DepotCount, DepotDemand, FixedEdgesInRoutes, NodeOutOfRange, RepeatedNode, FixedEdgeUnused, DepotInRoute, Unserved, Overload, NotBranches, BranchesDimension, BadFamily, BadMemory, BadRow, BadBranch, BadLeaf, TooManyLoads, TooManyStates}
 use Rattle.std.proofs.lemmas.List.Sums.{sum_by-cons}
 use Rattle.tsp_file.specs.Cost.{AreSomeLists, AreSomeRows}
 use Rattle.tsp_file.specs.Valid.{IsSetOf, IsRowOf}
@@ -20,12 +20,14 @@ use Rattle.tsp_routing.specs.states.LeafWeights.{IsPlanStep}
 use Rattle.tsp_report.specs.declared.verdict.BoundVerdict.TheVariants as bounds
 use Rattle.tsp_report.specs.declared.verdict.Verdict.TheVariants.{Routes}
 use Rattle.tsp_verdict.proofs.CarriedBounds.{fitting}
+use Rattle.tsp_verdict.proofs.FirstReasons.{routes_rank}
 use Rattle.tsp_verdict.proofs.OneReason.{one_value}
 use Rattle.tsp_verdict.proofs.RouteFiles.{demand_low, none_fewer}
 use Rattle.tsp_verdict.proofs.TourVerdicts.{all_apart, marked_there, there_marked}
 use Rattle.tsp_verdict.specs.Certificates.{unit_in, by_runs_in, AppliesToQRoutes, HasBoundByQRoutes}
 use Rattle.tsp_verdict.specs.Certified.{AppliesToRouting, NoneAgainstRouting, IsBoundBy, HasNoBoundBy, BoundsSolutionsBy, HasNoSolutionBy, AppliesToCertificateBy, AppliesToCertificate, FindsBound}
-use Rattle.tsp_verdict.specs.Solutions.{IsFirstPlace, IsLarger, IsAt, IsAtEarlierPlace, visited, tours_of, NoneBefore, IsFirstUnserved, IsOverloaded, AppliesToRoutes, NoneOfRoutesBefore, NoneOfRoutesBeforePlaces, total_of, AreCustomers, IsFirstAgainstRoutes, IsRoutesVerdict, IsFirstReason}
+use Rattle.tsp_theory.specs.First.{IsFirstPlace}
+use Rattle.tsp_verdict.specs.Solutions.{IsLarger, IsAt, IsAtEarlierPlace, visited, tours_of, NoneBefore, IsFirstUnserved, IsOverloaded, AppliesToRoutes, NoneOfRoutesBefore, NoneOfRoutesBeforePlaces, total_of, AreCustomers, IsFirstAgainstRoutes, IsRoutesVerdict, IsFirstReason}
 use Rattle.tsp_verdict.proofs.TreeReasons.{pairs_few}
 use Rattle.tsp_verdict.specs.states.Marks.{Marked}
 use Rattle.tsp_verdict.specs.states.TreeFound.{IsNumbered, found_by_tree}
@@ -39,7 +41,7 @@ up_to_places inst sol rank few before none DepotDemand low applies = none DepotD
 up_to_places inst sol rank few before none FixedEdgesInRoutes low applies = none FixedEdgesInRoutes low applies
 up_to_places inst sol rank few before none reason low applies = before reason (omega (arith, few, low)) applies
 
--- where none applies, the nodes of the routes are judged next
+-- if none applies, the nodes of the routes are judged next
 pub after_routing : (inst sol : Fields) → NoneOfRoutesBefore inst sol DepotCount → NoneAgainstRouting inst
     → NoneOfRoutesBeforePlaces inst sol
 after_routing inst sol before none place =
@@ -76,30 +78,7 @@ pub after_loads : (inst sol : Fields) → NoneOfRoutesBefore inst sol (Overload 
     → ((route : ℕ) → IsFirstPlace (IsOverloaded (demands_of inst) (capacity_of inst) (tours_of sol)) (tours_of sol) route → ⊥)
     → (reason : Reason) → AppliesToRoutes inst sol reason → ⊥
 after_loads inst sol before carried (Overload route) applies = carried route applies
-after_loads inst sol before carried (NotSymmetric i j) applies = applies
-after_loads inst sol before carried TourCount applies = applies
-after_loads inst sol before carried TourLength applies = applies
-after_loads inst sol before carried (FixedEdgeUnused index) applies = applies
-after_loads inst sol before carried NotPotentials applies = applies
-after_loads inst sol before carried PotentialsDimension applies = applies
-after_loads inst sol before carried PotentialsKind applies = applies
-after_loads inst sol before carried (MultiplierNotFixed index) applies = applies
-after_loads inst sol before carried (MultiplierRepeated index) applies = applies
-after_loads inst sol before carried (DualInfeasible i j) applies = applies
-after_loads inst sol before carried NotBranches applies = applies
-after_loads inst sol before carried BranchesDimension applies = applies
-after_loads inst sol before carried (BadFamily index) applies = applies
-after_loads inst sol before carried (BadMemory node) applies = applies
-after_loads inst sol before carried (BadRow index) applies = applies
-after_loads inst sol before carried (BadBranch index) applies = applies
-after_loads inst sol before carried (BranchTwice index) applies = applies
-after_loads inst sol before carried (BadLeaf index) applies = applies
-after_loads inst sol before carried TooManyLoads applies = applies
-after_loads inst sol before carried (TooManyStates index) applies = applies
-after_loads inst sol before carried (LengthClaimed length) applies = applies
-after_loads inst sol before carried NotJudged applies = applies
-after_loads inst sol before carried (NotUsed field) applies = applies
-after_loads inst sol before carried reason applies = before reason (omega arith) applies
+after_loads inst sol before carried reason applies = before reason (omega (arith, routes_rank inst sol reason applies)) applies
 
 -- ---- the verdict on routes
 
@@ -120,7 +99,7 @@ pub no_depot : (inst sol : Fields) (nodes : List ℕ) (depot : ℕ) → nodes �
 no_depot inst sol nodes depot are is none others =
     let all : All (λ node. node ≢ depot_of inst) (visited sol) =
     subst (λ d. All (λ node. node ≢ d) (visited sol)) is (subst (λ (xs : List ℕ). All (λ node. node ≢ depot) xs) are others) in
-    after_depot inst sol none (λ place first. all (place - 1) 0 (omega (arith, first.here.0, first.here.1)) first.holds)
+    after_depot inst sol none (λ place first. all (place - 1) 0 (omega (arith, first.applies.0.0, first.applies.0.1)) first.applies.1)
 
 pub larger_first : (inst sol : Fields) (nodes : List ℕ) (n place : ℕ) → nodes ≡ visited sol → n ≡ nodes_of inst
     → NoneOfRoutesBefore inst sol (NodeOutOfRange 1)
@@ -143,7 +122,7 @@ customers inst sol nodes n depot are n_is depot_is none low other high =
     (subst (λ (xs : List ℕ). All (IsCustomer n depot) xs) are all)) in (
       there,
       after_range inst sol none
-          (λ place first. omega (arith, first.holds, (there (place - 1) 0 (omega (arith, first.here.0, first.here.1))).0.1)),
+          (λ place first. omega (arith, first.applies.1, (there (place - 1) 0 (omega (arith, first.applies.0.0, first.applies.0.1))).0.1)),
     )
 
 pub customers_in : (inst sol : Fields) (nodes : List ℕ) (n : ℕ) → nodes ≡ visited sol → n ≡ nodes_of inst → AreCustomers inst sol
@@ -178,7 +157,7 @@ is_marked inst sol nodes seen size are wide none m =
       marks = there;
       wide = wide;
       none =
-          after_repeats inst sol none (λ place first. there.once place first.here.0 first.here.1 first.holds);
+          after_repeats inst sol none (λ place first. there.once place first.applies.0.0 first.applies.0.1 first.applies.1);
     }
 
 pub unserved_first : (inst sol : Fields) (seen : List Bool) (size depot node : ℕ) → IsMarked inst sol seen size
@@ -188,9 +167,11 @@ pub unserved_first : (inst sol : Fields) (seen : List Bool) (size depot node : �
     → IsFirstAgainstRoutes inst sol (Unserved node)
 unserved_first inst sol seen size depot node m is found = record {
   applies = record {
-    customer = ((found.0, omega (arith, found.1, m.wide)), λ same. found.2 (same ∙ sym is));
-    unserved = λ there. false≢true (sym found.3 ∙ there_marked (visited sol) seen node m.marks there);
-    first = λ other of_customers less. marked_there (visited sol) seen other m.marks
+    applies = (
+      ((found.0, omega (arith, found.1, m.wide)), λ same. found.2 (same ∙ sym is)),
+      λ there. false≢true (sym found.3 ∙ there_marked (visited sol) seen node m.marks there),
+    );
+    none_before = λ other less of_customers. marked_there (visited sol) seen other m.marks
         (found.4 other of_customers.0.0 less (λ same. of_customers.1 (same ∙ is)));
   };
   none_before = m.none;
@@ -207,7 +188,7 @@ all_served inst sol seen size depot m is all node of_customers =
 pub none_unserved : (inst sol : Fields) → NoneOfRoutesBefore inst sol (Unserved 1)
     → ((node : ℕ) → IsCustomer (nodes_of inst) (depot_of inst) node → Contains (visited sol) node)
     → NoneOfRoutesBefore inst sol (Overload 1)
-none_unserved inst sol none served = after_served inst sol none (λ node first. first.unserved (served node first.customer))
+none_unserved inst sol none served = after_served inst sol none (λ node first. first.applies.1 (served node first.applies.0))
 
 -- ---- the carried demands
 
@@ -222,7 +203,7 @@ overload_first inst sol routes demands capacity place are demands_are capacity_i
   none_before = none;
 }
 
--- where no test finds anything, the plan is accepted
+-- if no test finds anything, the plan is accepted
 -- plan: each test found nothing, so no reason applies; `after_loads` for the loads, `none_fewer` for the least number
 pub is_planned : (inst sol : Fields) (seen : List Bool) (size : ℕ) (routes : List (List ℕ)) (demands : List ℤ) (capacity : ℤ)
     (depot : ℕ) (measured : ℤ) (count least : ℕ)
@@ -265,7 +246,7 @@ is_planned inst sol seen size routes demands capacity depot measured count least
     over : (place : ℕ) → IsFirstPlace (IsOverloaded (demands_of inst) (capacity_of inst) (tours_of sol)) (tours_of sol) place
         → All (λ route. load_of (demands_of inst) route ≤ℤ capacity_of inst) (tours_of sol) → ⊥
     over place first carried =
-        omega (arith, ints, first.holds, carried (place - 1) [] (omega (arith, first.here.0, first.here.1)))
+        omega (arith, ints, first.applies.1, carried (place - 1) [] (omega (arith, first.applies.0.0, first.applies.0.1)))
 
 -- ---- of four nodes with the depot 1 the customers are 2, 3 and 4
 
@@ -369,8 +350,8 @@ placed_few n families steps leaf most =
 
 pub leaf_few : (by_runs : Bool) (n families rows : ℕ) (steps : List Step) (leaf : ℕ)
     → IsFirstBadLeafOf by_runs n families rows steps leaf → leaf ≤ length steps
-leaf_few false n families rows steps leaf bad = let most = bad.most in let few = leaves_few steps in omega (arith, most, few)
-leaf_few true n families rows steps leaf bad = placed_few n families steps leaf bad.most
+leaf_few false n families rows steps leaf bad = let most = bad.applies.0.1 in let few = leaves_few steps in omega (arith, most, few)
+leaf_few true n families rows steps leaf bad = placed_few n families steps leaf bad.applies.0.1
 
 -- a branch of a file has a number from 1 to n second, and the differences of a leaf are some of all
 by_steps : (n most : ℕ) (steps : List Step) → most < 2 ^ 32 → AllByRecursion (IsStep n) steps → change_count steps ≤ most
@@ -393,7 +374,7 @@ plan_steps f steps held =
 no_bad_set : (inst tree : Fields) (crossed : List Crossings) → AreCapacityCuts (routing_of inst) (families_listed tree) crossed
     → (index : ℕ) → AppliesToQRoutes inst tree (BadFamily index) → ⊥
 no_bad_set inst tree crossed cuts index bad =
-    bad.bad (index - 1) (omega (arith, bad.least)) (cuts.good (index - 1) (omega (arith, bad.least, bad.most)))
+    bad.applies.1 (cuts.good (index - 1) (omega (arith, bad.applies.0.0, bad.applies.0.1)))
 
 no_bad_branch : (inst tree : Fields) (steps : List Step) → tree.branches ≡ Some steps
     → AreGoodBranches (nodes_of inst) (length (families_listed tree)) steps
@@ -401,7 +382,7 @@ no_bad_branch : (inst tree : Fields) (steps : List Step) → tree.branches ≡ S
 no_bad_branch inst tree steps are good index applies =
     let same = one_value tree.branches applies.0 steps applies.1 are in
     let bad = subst (λ steps. IsFirstBadPlanBranch (nodes_of inst) (length (families_listed tree)) steps index) same applies.2 in
-    bad.bad (good (index - 1) (0, 0) (omega (arith, bad.from_one, bad.inside)))
+    bad.applies.1 (good (index - 1) (0, 0) (omega (arith, bad.applies.0.0, bad.applies.0.1)))
 
 no_bad_memory : (n depot : ℕ) (lists : List (List ℕ)) (rows : List SubsetRow) → IsGoodMemory n depot lists rows → (node : ℕ)
     → IsBadMemory n depot lists rows node → ⊥
@@ -410,9 +391,9 @@ no_bad_memory n depot lists rows good node (inr full) = full.2.full (good.fits n
 
 no_bad_row : (n depot : ℕ) (rows : List SubsetRow) → AreGoodRows n depot rows → (row : ℕ) → IsFirstBadRow n depot rows row → ⊥
 no_bad_row n depot rows good row bad =
-    bad.bad (row - 1) (omega (arith, bad.least)) (good (row - 1) (omega (arith, bad.least, bad.most)))
+    bad.applies.1 (good (row - 1) (omega (arith, bad.applies.0.0, bad.applies.0.1)))
 
--- where lists are good and a row isn't, no list is bad, and it doesn't matter what customers keep
+-- if lists are good and a row isn't, no list is bad, and it doesn't matter what customers keep
 row_alone : (n depot : ℕ) (lists : List (List ℕ)) (rows : List SubsetRow) (row : ℕ) → AreGoodLists n depot lists
     → IsFirstBadRow n depot rows row → (node : ℕ) → IsBadMemory n depot lists rows node → ⊥
 row_alone n depot lists rows row good bad node (inl first) = first.bad (good first.place first.inside)
@@ -420,8 +401,8 @@ row_alone n depot lists rows row good bad node (inr full) = no_bad_row n depot r
 
 good_leaf : (by_runs : Bool) (n families rows : ℕ) (steps : List Step) → AreGoodLeavesOf by_runs n families rows steps → (leaf : ℕ)
     → IsFirstBadLeafOf by_runs n families rows steps leaf → ⊥
-good_leaf false n families rows steps good leaf bad = bad.bad (good leaf bad.least bad.most)
-good_leaf true n families rows steps good leaf bad = bad.bad (good leaf bad.least bad.most)
+good_leaf false n families rows steps good leaf bad = bad.applies.1 (good leaf bad.applies.0.0 bad.applies.0.1)
+good_leaf true n families rows steps good leaf bad = bad.applies.1 (good leaf bad.applies.0.0 bad.applies.0.1)
 
 no_bad_plan_leaf : (inst tree : Fields) (steps : List Step) → tree.branches ≡ Some steps
     → AreGoodLeavesOf (by_runs_in tree) (nodes_of inst) (length (families_listed tree)) (length (rows_listed tree)) steps
@@ -467,7 +448,7 @@ for_q_routes P inst tree cvrp first = subst (λ k. P (AppliesToCertificateBy Bra
 
 -- ---- the verdict
 
--- the numbers of all leaves are good, where one of them has too many states
+-- the numbers of all leaves are good, if one of them has too many states
 run_leaves : (inst tree : Fields) (steps : List Step) (index : ℕ)
     → HasFullLeaf (routing_of inst) (scale_in tree) (unit_in tree) (families_listed tree) (memories_listed tree) (rows_listed tree) steps index
     → AreGoodLeavesOf (by_runs_in tree) (nodes_of inst) (length (families_listed tree)) (length (rows_listed tree)) steps
@@ -596,7 +577,7 @@ module _ (problem : RoutingProblem) (scale : ℤ) (unit : ℕ) (families : List 
       let light : full.light ≡ is.light = one_light problem unit full.light is.light full.units is.units in
       let first = subst (λ (cs : List Crossings). IsFirstFullLeaf (tree_with problem scale unit families lists rows is.light cs) steps leaf) crossed
       (subst (λ (l : ℕ). IsFirstFullLeaf (tree_with problem scale unit families lists rows l full.crossed) steps leaf) light full.first) in
-      first.bad (is.states leaf first.least first.most)
+      first.applies.1 (is.states leaf first.applies.0.0 first.applies.0.1)
 
 none_of_q_routes : (inst tree : Fields) (bound : Option ℤ) → is_branches_file tree.kind ≡ true → nodes_of tree ≡ nodes_of inst
     → IsReportedOfRoutes inst tree (found.Bound bound) → (reason : Reason) → AppliesToQRoutes inst tree reason → ⊥
@@ -669,17 +650,17 @@ pub plans_numbered : (problem : RoutingProblem) (scale : ℤ) (unit : ℕ) (fami
     (rows : List SubsetRow) (steps : List Step) (verdict : TreeVerdict) → length families < 2 ^ 32 → length rows < 2 ^ 32
     → length steps < 2 ^ 32 → IsPlanVerdict problem scale unit families lists rows steps verdict → IsNumbered verdict
 plans_numbered problem scale unit families lists rows steps (found.Bound bound) sets_few rows_few few is = tt
-plans_numbered problem scale unit families lists rows steps (found.BadFamily index) sets_few rows_few few is = omega (arith, is.most, sets_few)
+plans_numbered problem scale unit families lists rows steps (found.BadFamily index) sets_few rows_few few is = omega (arith, is.applies.0.1, sets_few)
 plans_numbered problem scale unit families lists rows steps (found.BadMemory node) sets_few rows_few few is = tt
-plans_numbered problem scale unit families lists rows steps (found.BadRow index) sets_few rows_few few is = omega (arith, is.2.most, rows_few)
+plans_numbered problem scale unit families lists rows steps (found.BadRow index) sets_few rows_few few is = omega (arith, is.2.applies.0.1, rows_few)
 plans_numbered problem scale unit families lists rows steps (found.BadBranch index) sets_few rows_few few is =
-    omega (arith, is.2.inside, pairs_few steps, few)
+    omega (arith, is.2.applies.0.1, pairs_few steps, few)
 plans_numbered problem scale unit families lists rows steps (found.BranchTwice index) sets_few rows_few few is = absurd is
 plans_numbered problem scale unit families lists rows steps (found.BadLeaf index) sets_few rows_few few is =
     omega (arith, leaf_few (is_by_runs lists rows) problem.nodes (length families) (length rows) steps index is.2, few)
 plans_numbered problem scale unit families lists rows steps found.TooManyLoads sets_few rows_few few is = tt
 plans_numbered problem scale unit families lists rows steps (found.TooManyStates index) sets_few rows_few few is =
-    omega (arith, placed_few problem.nodes (length families) steps index is.3.first.most, few)
+    omega (arith, placed_few problem.nodes (length families) steps index is.3.first.applies.0.1, few)
 
 -- ---- memories and rows as plans have them
 

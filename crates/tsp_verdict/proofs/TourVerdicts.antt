@@ -1,7 +1,10 @@
--- Reasons against a tour, ruled out one by one: marks of nodes, fixed pairs, and the verdict.
-use Rattle.tsp_verdict.proofs.Prelude.{◌≡◌, ◌≢◌, ℕ, zero, suc, ◌+◌, ◌-◌, ◌<◌, ◌≤◌, Bool, true, false, List, [], ◌∷◌, length, Option, None, Some, get_or, set, replicate, refl, sym, ap, subst, ◌∙◌, arith, inl, inr, map, eqb, ◌++◌, add-one, cases_lt, false≢true, eqb-true, eq-eqb, get_or_default, append-nil, Vec, AllPairs, Contains, All, concat, ◌⊎◌, MatchOption, ℤ, MatchBool, fixed_of, cost, Fields, nodes_of, length_of, IsCycle, Uses, links_to, is_directed, IsTourOf, Reason, Dimension, TourCount, TourLength, NodeOutOfRange, RepeatedNode, FixedEdgeUnused, NotPotentials, PotentialsDimension, PotentialsKind, MultiplierNotFixed, MultiplierRepeated, DualInfeasible, DepotCount, DepotDemand, FixedEdgesInRoutes, DepotInRoute, Unserved, Overload, NotBranches, BranchesDimension, BadFamily, BadMemory, BadRow, BadBranch, BranchTwice, BadLeaf, TooManyLoads, TooManyStates, LengthClaimed, NotJudged, NotUsed}
+-- For src/tour.rt and src/solution_verdict.rt: reasons against a tour, ruled out one by one, by marks of nodes and
+-- fixed pairs, and the verdict.
+use Rattle.tsp_verdict.proofs.Prelude.{◌≡◌, ◌≢◌, ℕ, zero, suc, ◌+◌, ◌-◌, ◌<◌, ◌≤◌, Bool, true, false, List, [], ◌∷◌, length, Option, None, Some, get_or, set, replicate, refl, sym, ap, subst, ◌∙◌, arith, inl, inr, map, eqb, ◌++◌, add-one, cases_lt, false≢true, eqb-true, eq-eqb, get_or_default, append-nil, Vec, AllPairs, Contains, All, concat, ◌⊎◌, MatchOption, ℤ, MatchBool, fixed_of, cost, Fields, nodes_of, length_of, IsCycle, Uses, links_to, is_directed, IsTourOf, Reason, Dimension, TourCount, TourLength, NodeOutOfRange, RepeatedNode, FixedEdgeUnused, DepotCount, DepotDemand, FixedEdgesInRoutes, DepotInRoute, Unserved, Overload}
 use Rattle.tsp_bound.proofs.RoundJoins.{set_kept}
-use Rattle.tsp_verdict.specs.Solutions.{node_at, HoldsAtNone, IsAtEarlierPlace, IsFirstPlace, IsLarger, IsUnused, visited, tours_of, AppliesToTour, NoneOfTourBefore, IsFirstAgainstTour}
+use Rattle.tsp_theory.specs.First.{IsFirstPlace}
+use Rattle.tsp_verdict.proofs.FirstReasons.{tour_rank}
+use Rattle.tsp_verdict.specs.Solutions.{node_at, HoldsAtNone, IsAtEarlierPlace, IsLarger, IsUnused, visited, tours_of, AppliesToTour, NoneOfTourBefore, IsFirstAgainstTour}
 use Rattle.tsp_verdict.specs.states.Marks.{Marked, StandsAfter, AreNext}
 
 set_adds : (seen : List Bool) (k m : ℕ) → get_or (set seen k true) m false ≡ true → (m ≡ k) ⊎ (get_or seen m false ≡ true)
@@ -78,9 +81,11 @@ pub repeated_here : (nodes : List ℕ) (seen : List Bool) (count : ℕ) → coun
 repeated_here nodes seen count lt taken m =
     let found = m.only (get_or nodes count 0) taken in
     record {
-      here = (omega arith, omega arith);
-      holds = (found.0, found.1, omega (arith, found.2), found.3 ∙ sym (here nodes (count + 1) count refl));
-      first = λ earlier low high. m.once earlier low (omega (arith, high));
+      applies = (
+        (omega arith, omega arith),
+        (found.0, found.1, omega (arith, found.2), found.3 ∙ sym (here nodes (count + 1) count refl)),
+      );
+      none_before = λ earlier high low. m.once earlier low (omega (arith, high));
     }
 
 -- the mark of a node, as the code reads it
@@ -152,7 +157,7 @@ all_apart xs once i j d before inside same =
     once (suc j) (omega arith) (omega (arith, inside))
     (suc i, omega arith, omega (arith, before), first ∙ sym first_is ∙ same ∙ second_is ∙ sym second)
 
--- a node is marked exactly where the list has it
+-- a node is marked exactly if the list has it
 pub marked_there : (nodes : List ℕ) (seen : List Bool) (node : ℕ) → Marked nodes seen (length nodes)
     → get_or seen node false ≡ true → Contains nodes node
 marked_there nodes seen node m is =
@@ -208,32 +213,9 @@ pub after_fixed : (inst sol : Fields) → NoneOfTourBefore inst sol (FixedEdgeUn
     → IsFirstPlace (IsUnused (is_directed inst.kind) (visited sol) (fixed_of inst)) (fixed_of inst) index → ⊥) → (reason : Reason)
     → AppliesToTour inst sol reason → ⊥
 after_fixed inst sol before used (FixedEdgeUnused index) applies = used index applies
-after_fixed inst sol before used NotPotentials applies = applies
-after_fixed inst sol before used PotentialsDimension applies = applies
-after_fixed inst sol before used PotentialsKind applies = applies
-after_fixed inst sol before used (MultiplierNotFixed index) applies = applies
-after_fixed inst sol before used (MultiplierRepeated index) applies = applies
-after_fixed inst sol before used (DualInfeasible i j) applies = applies
-after_fixed inst sol before used DepotCount applies = applies
-after_fixed inst sol before used DepotDemand applies = applies
-after_fixed inst sol before used FixedEdgesInRoutes applies = applies
-after_fixed inst sol before used (DepotInRoute place) applies = applies
-after_fixed inst sol before used (Unserved node) applies = applies
-after_fixed inst sol before used (Overload route) applies = applies
-after_fixed inst sol before used NotBranches applies = applies
-after_fixed inst sol before used BranchesDimension applies = applies
-after_fixed inst sol before used (BadFamily index) applies = applies
-after_fixed inst sol before used (BadMemory node) applies = applies
-after_fixed inst sol before used (BadRow index) applies = applies
-after_fixed inst sol before used (BadBranch index) applies = applies
-after_fixed inst sol before used (BranchTwice index) applies = applies
-after_fixed inst sol before used (BadLeaf index) applies = applies
-after_fixed inst sol before used TooManyLoads applies = applies
-after_fixed inst sol before used (TooManyStates index) applies = applies
-after_fixed inst sol before used (LengthClaimed length) applies = applies
-after_fixed inst sol before used NotJudged applies = applies
-after_fixed inst sol before used (NotUsed field) applies = applies
-after_fixed inst sol before used reason applies = before reason (omega arith) applies
+after_fixed inst sol before used (Unserved node) applies = absurd applies
+after_fixed inst sol before used (Overload route) applies = absurd applies
+after_fixed inst sol before used reason applies = before reason (omega (arith, tour_rank inst sol reason applies)) applies
 
 -- ---- the verdict on a tour
 
@@ -281,7 +263,7 @@ larger_first inst sol tour n place only n_is none first = record {
   none_before = none;
 }
 
--- where no node is too large, the reasons up to that are ruled out
+-- if no node is too large, the reasons up to that are ruled out
 pub none_up_to_repeats : (inst sol : Fields) (tour : List ℕ) → tours_of sol ≡ tour ∷ []
     → NoneOfTourBefore inst sol (NodeOutOfRange 1)
     → All (λ node. node ≤ nodes_of inst) tour
@@ -290,7 +272,7 @@ none_up_to_repeats inst sol tour only none high =
     let high_all : All (λ node. node ≤ nodes_of inst) (visited sol) =
     subst (λ (xs : List ℕ). All (λ node. node ≤ nodes_of inst) xs) (sym (visited_is sol tour only)) high in
     after_range inst sol none
-    (λ place first. omega (arith, first.holds, high_all (place - 1) 0 (omega (arith, first.here.0, first.here.1))))
+    (λ place first. omega (arith, first.applies.1, high_all (place - 1) 0 (omega (arith, first.applies.0.0, first.applies.0.1))))
 
 -- the first node that an earlier place has
 pub repeated_first : (inst sol : Fields) (tour : List ℕ) (place : ℕ) → tours_of sol ≡ tour ∷ []
@@ -311,9 +293,9 @@ none_up_to_fixed inst sol tour only none high once =
     let once_all : HoldsAtNone (IsAtEarlierPlace (visited sol)) (length (visited sol)) =
     subst (λ (xs : List ℕ). HoldsAtNone (IsAtEarlierPlace xs) (length xs)) is once in
     after_repeats inst sol (none_up_to_repeats inst sol tour only none high)
-    (λ place first. once_all place first.here.0 first.here.1 first.holds)
+    (λ place first. once_all place first.applies.0.0 first.applies.0.1 first.applies.1)
 
--- where each node is at most n, and none repeated, the tour is a cycle, and reasons 1 to 8 are ruled out
+-- if each node is at most n, and none repeated, the tour is a cycle, and reasons 1 to 8 are ruled out
 pub cycle_found : (inst sol : Fields) (tour : List ℕ) (n : ℕ) → tours_of sol ≡ tour ∷ [] → length tour ≡ nodes_of inst
     → All (λ node. 1 ≤ node) tour → NoneOfTourBefore inst sol (NodeOutOfRange 1) → n ≡ nodes_of inst → All (λ node. node ≤ n) tour
     → HoldsAtNone (IsAtEarlierPlace tour) (length tour)
@@ -337,7 +319,7 @@ unused_first inst sol tour directed pairs index only way listed none first = rec
   none_before = none;
 }
 
--- where every fixed pair is used it is accepted
+-- if every fixed pair is used it is accepted
 pub is_yes : (inst sol : Fields) (tour : List ℕ) (directed : Bool) (pairs : List (ℕ × ℕ)) (size : ℤ) → tours_of sol ≡ tour ∷ []
     → directed ≡ is_directed inst.kind → pairs ≡ fixed_of inst
     → NoneOfTourBefore inst sol (FixedEdgeUnused 1) → IsCycle (nodes_of inst) tour → All (Uses directed tour) pairs
@@ -352,13 +334,13 @@ is_yes inst sol tour directed pairs size only way listed none cycle used measure
     let used_there : All (Uses (is_directed inst.kind) (visited sol)) (fixed_of inst) =
     subst (λ (xs : List ℕ). All (Uses (is_directed inst.kind) xs) (fixed_of inst)) is used_all in (
       after_fixed inst sol none
-          (λ index first. first.holds (used_there (index - 1) (0, 0) (omega (arith, first.here.0, first.here.1)))),
+          (λ index first. first.applies.1 (used_there (index - 1) (0, 0) (omega (arith, first.applies.0.0, first.applies.0.1)))),
       (tour, only, record { cycle = cycle; fixed_used = used_all }, measured),
     )
 
 -- ---- whether a cycle uses a pair, by the table of the next node of each node
 
--- where the second node doesn't come next, the first one must, and there may be no direction
+-- if the second node doesn't come next, the first one must, and there may be no direction
 pub uses_other : (directed : Bool) (cycle next : List ℕ) (pair : ℕ × ℕ) (back : Bool) → AreNext cycle next → 1 ≤ pair.0
     → get_or next pair.0 0 ≢ pair.1
     → directed ≡ false → back ≡ eqb (get_or next pair.1 0) pair.0

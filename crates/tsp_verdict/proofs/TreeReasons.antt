@@ -1,5 +1,6 @@
--- Reasons against a certificate by branching, ruled out one by one, and the bound that it gives.
-use Rattle.tsp_verdict.proofs.Prelude.{◌≡◌, ℕ, ◌<◌, ◌≤◌, List, [], ◌∷◌, length, refl, ap₂, arith, ◌≢◌, ◌∙◌, ◌-◌, Bool, true, false, get_or, inl, inr, sym, ap, subst, subst₂, false≢true, length-map, All-weaker, All-from_recursion, recursion_from_All, Vec, All, AllByRecursion, sum_by, ◌^◌, ◌⊎◌, Option, None, Some, unwrap_or, ℤ, most_family_nodes, IsNode, IsSymmetric, Kind, AreSomeSets, cost, scale_in, fixed_of, families_listed, Fields, nodes_of, is_branches_file, IsSetOf, AreSets, families_of as lists_of_families, IsScale, IsBoundSized, BoundsTours, HasNoTour, is_directed, problem_of, IsTourOf, decide, KeepsAll, take_pairs, decided_number, IsFamily, NumbersAreUnique, family_with, families_with, Family, IsGoodFamily, IsFirstBadFamily, AreFamilies, branch_pairs, IsFirstBadBranch, leaf_changes, listed_steps, AreGoodLeaves, IsFirstBadLeaf, branches_of_cases, IsFirstTwice, Crossings, rank_of, Branches, Reason, NotBranches, BranchesDimension, BadFamily, BadMemory, BadRow, BadBranch, BranchTwice, BadLeaf, TooManyLoads, TooManyStates, slice_index_or, memories_listed, rows_listed, HoldsMemory, map}
+-- For src/certificate.rt: reasons against a certificate by branching, ruled out one by one, and the bound that it
+-- gives.
+use Rattle.tsp_verdict.proofs.Prelude.{◌≡◌, ℕ, ◌<◌, ◌≤◌, List, [], ◌∷◌, length, refl, ap₂, arith, ◌≢◌, ◌∙◌, ◌-◌, Bool, true, false, get_or, inl, inr, sym, ap, subst, subst₂, false≢true, length-map, All-weaker, All-from_recursion, recursion_from_All, Vec, All, AllByRecursion, sum_by, ◌^◌, ◌⊎◌, Option, None, Some, unwrap_or, ℤ, most_family_nodes, IsNode, IsSymmetric, Kind, AreSomeSets, cost, scale_in, fixed_of, families_listed, Fields, nodes_of, is_branches_file, IsSetOf, AreSets, families_of as lists_of_families, IsScale, IsBoundSized, BoundsTours, HasNoTour, is_directed, problem_of, IsTourOf, decide, KeepsAll, take_pairs, decided_number, IsFamily, NumbersAreUnique, family_with, families_with, IsGoodFamily, IsFirstBadFamily, AreFamilies, branch_pairs, IsFirstBadBranch, leaf_changes, listed_steps, AreGoodLeaves, IsFirstBadLeaf, branches_of_cases, IsFirstTwice, Crossings, rank_of, Branches, Reason, NotBranches, BranchesDimension, BadFamily, BadMemory, BadRow, BadBranch, BranchTwice, BadLeaf, TooManyLoads, TooManyStates, slice_index_or, memories_listed, rows_listed, HoldsMemory, map}
 use Rattle.tsp_format.specs.Steps.{SubsetRow}
 use Rattle.tsp_file.specs.Cost.{AreSomeLists}
 use Rattle.tsp_routing.specs.RunTrees.{owner_of}
@@ -17,11 +18,12 @@ use Rattle.tsp_cases.specs.JudgedLeaves.{IsSizedVerdict}
 use Rattle.tsp_cases.specs.declared.judged.TreeVerdict.{TreeVerdict}
 use Rattle.tsp_cases.specs.declared.judged.TreeVerdict.TheVariants as found
 use Rattle.tsp_verdict.proofs.CarriedBounds.{Same, fitting}
-use Rattle.tsp_verdict.proofs.FirstReasons.{tree_either}
+use Rattle.tsp_verdict.proofs.FirstReasons.{tree_either, branches_rank, q_routes_rank, past_all, is_ranked}
 use Rattle.tsp_verdict.proofs.GivenPairs.{keeps_given}
 use Rattle.tsp_verdict.specs.Certificates.{each_once, given_in, case_steps_in, families_with_numbers, AreNumbersOf, IsBadFamily, AppliesToBranches, HasBoundByBranches, IsBoundByBranches, HasNoBoundByBranches, AppliesToQRoutes}
 use Rattle.tsp_verdict.specs.Certified.{IsBoundBy, HasNoBoundBy, HasNoBound, AppliesToCertificateBy, AppliesToCertificate, BoundsSolutionsBy, BoundsSolutions, HasNoSolutionBy, HasNoSolution, IsCertified, FindsBound}
-use Rattle.tsp_verdict.specs.Solutions.{IsFirstPlace, NoneBefore, IsFirstReason}
+use Rattle.tsp_theory.specs.First.{IsFirstPlace}
+use Rattle.tsp_verdict.specs.Solutions.{NoneBefore, IsFirstReason}
 use Rattle.tsp_verdict.specs.states.TourKnownBounds.{IsSymmetricTsp}
 use Rattle.tsp_verdict.specs.states.TreeFound.{IsNumbered, found_by_tree}
 
@@ -98,7 +100,7 @@ branches_within (case ∷ cases) (listed.Leaf changes ∷ steps) = let less = br
 pub twice_within : (directed : Bool) (given : List Decision) (steps : List listed.Step) (first : ℕ)
     → IsFirstTwice directed given steps first → first ≤ length steps
 twice_within directed given steps first h =
-    let most = h.most in
+    let most = h.applies.0.1 in
     let less = branches_within (given ∷ []) steps in
     omega (arith, most, less)
 
@@ -110,7 +112,7 @@ leaves_within (listed.Leaf changes ∷ steps) = let less = leaves_within steps i
 pub bad_within : (n : ℕ) (crossed : List Crossings) (steps : List listed.Step) (bad : ℕ) → IsFirstBadLeaf n crossed steps bad
     → bad ≤ length steps
 bad_within n crossed steps bad h =
-    let most = h.most in
+    let most = h.applies.0.1 in
     let less = leaves_within steps in
     omega (arith, most, less)
 
@@ -198,17 +200,16 @@ bad_family : (inst tree : Fields) (index : ℕ)
     → IsFirstBadFamily (nodes_of inst) (families_listed tree) index
     → IsFirstPlace (IsBadFamily (nodes_of inst) (families_listed tree)) (families_listed tree) index
 bad_family inst tree index bad = record {
-  here = (bad.least, bad.most);
-  holds = λ good. bad.bad (index - 1) (let some = bad.least in omega (arith, some)) good;
-  first = λ earlier from before is. is (bad.before (earlier - 1) (omega (arith, from, before)));
+  applies = bad.applies;
+  none_before = λ earlier before from is. is (bad.none_before earlier before from);
 }
 
--- where all families are good, none is bad
+-- if all families are good, none is bad
 no_bad_family : (inst tree : Fields)
     → ((family : ℕ) → family < length (families_listed tree) → IsGoodFamily (nodes_of inst) (get_or (families_listed tree) family []))
     → (index : ℕ) → AppliesToBranches inst tree (BadFamily index) → ⊥
 no_bad_family inst tree good index applies =
-    applies.holds (good (index - 1) (omega (arith, applies.here.0, applies.here.1)))
+    applies.applies.1 (good (index - 1) (omega (arith, applies.applies.0.0, applies.applies.0.1)))
 
 -- the numbers of the families are those of the file's
 numbers_reported : (inst tree : Fields) (crossed : List Crossings)
@@ -219,7 +220,7 @@ numbers_reported inst tree crossed are = record {
   are = are.are;
 }
 
--- where all leaves are good, none is bad, by whichever numbers
+-- if all leaves are good, none is bad, by whichever numbers
 no_bad_leaf : NumbersAreUnique → (inst tree : Fields) (steps : List listed.Step) (crossed : List Crossings)
     → tree.branches ≡ Some steps → AreNumbersOf inst tree crossed
     → AreGoodLeaves (nodes_of inst) crossed steps → (index : ℕ) → AppliesToBranches inst tree (BadLeaf index) → ⊥
@@ -231,9 +232,9 @@ no_bad_leaf unique inst tree steps crossed steps_are are good index applies =
     (recursion_from_All (IsFamily n) (families_with_numbers tree crossed) are.are) in
     let bad = subst₂ (λ (cs : List Crossings) (ss : List listed.Step). IsFirstBadLeaf n cs ss index) same
     (one_list tree.branches applies.0 steps applies.1 steps_are) applies.4 in
-    bad.bad (good index bad.least bad.most)
+    bad.applies.1 (good index bad.applies.0.0 bad.applies.0.1)
 
--- where no case is divided twice, none is, as the file lists its steps
+-- if no case is divided twice, none is, as the file lists its steps
 no_twice : (inst tree : Fields) (steps : List listed.Step) → tree.branches ≡ Some steps
     → ((index : ℕ) → IsFirstTwice (is_directed inst.kind) (given_in inst) steps index → ⊥) → (index : ℕ)
     → AppliesToBranches inst tree (BranchTwice index) → ⊥
@@ -241,7 +242,7 @@ no_twice inst tree steps steps_are none index applies =
     none index (subst (λ (ss : List listed.Step). IsFirstTwice (is_directed inst.kind) (given_in inst) ss index)
     (one_list tree.branches applies.0 steps applies.1 steps_are) applies.2)
 
--- where each branch is on two nodes, none is bad, as the file lists its steps
+-- if each branch is on two nodes, none is bad, as the file lists its steps
 no_bad_pair : (inst tree : Fields) (steps : List listed.Step) → tree.branches ≡ Some steps
     → ((index : ℕ) → IsFirstBadBranch 1 (nodes_of inst) steps index → ⊥) → (index : ℕ)
     → AppliesToBranches inst tree (BadBranch index) → ⊥
@@ -254,14 +255,6 @@ pub pairs_few : (steps : List listed.Step) → length (branch_pairs steps) ≤ l
 pairs_few [] = omega arith
 pairs_few (listed.Branch a b ∷ steps) = let rest = pairs_few steps in omega (arith, rest)
 pairs_few (listed.Leaf changes ∷ steps) = let rest = pairs_few steps in omega (arith, rest)
-
-no_memory : (inst tree : Fields) → ListsNeither tree → (node : ℕ) → AppliesToBranches inst tree (BadMemory node) → ⊥
-no_memory inst tree neither node applies =
-    let none = ap (λ (xs : List (List ℕ)). length xs) neither.0 in omega (arith, applies.0, none)
-
-no_row : (inst tree : Fields) → ListsNeither tree → (index : ℕ) → AppliesToBranches inst tree (BadRow index) → ⊥
-no_row inst tree neither index applies =
-    let none = ap (λ (xs : List SubsetRow). length xs) neither.1 in omega (arith, applies.0, none)
 
 -- the facts before a rank rule out the reasons before it
 none_before : (inst tree : Fields) (rank : ℕ) → (rank_of NotBranches < rank → is_branches_file tree.kind ≡ true)
@@ -290,31 +283,8 @@ pub no_branches : (inst tree : Fields) → is_branches_file tree.kind ≡ false
     → IsFirstReason (AppliesToCertificate Branches inst tree) NotBranches
 no_branches inst tree other =
     tree_either inst.kind (λ Applies. IsFirstReason Applies NotBranches) inst tree
-    (record { applies = other; none_before = λ reason low applies. of_tours reason low applies })
-    (record { applies = other; none_before = λ reason low applies. of_q_routes reason low applies })
-  where
-    of_tours : (reason : Reason) → rank_of reason < rank_of NotBranches → AppliesToBranches inst tree reason → ⊥
-    of_tours NotBranches low applies = omega (arith, low)
-    of_tours BranchesDimension low applies = omega (arith, low)
-    of_tours (BadFamily index) low applies = omega (arith, low)
-    of_tours (BadMemory node) low applies = omega (arith, low)
-    of_tours (BadRow index) low applies = omega (arith, low)
-    of_tours (BadBranch index) low applies = omega (arith, low)
-    of_tours (BranchTwice index) low applies = omega (arith, low)
-    of_tours (BadLeaf index) low applies = omega (arith, low)
-    of_tours reason low applies = applies
-
-    of_q_routes : (reason : Reason) → rank_of reason < rank_of NotBranches → AppliesToQRoutes inst tree reason → ⊥
-    of_q_routes NotBranches low applies = omega (arith, low)
-    of_q_routes BranchesDimension low applies = omega (arith, low)
-    of_q_routes (BadFamily index) low applies = omega (arith, low)
-    of_q_routes (BadMemory node) low applies = omega (arith, low)
-    of_q_routes (BadRow index) low applies = omega (arith, low)
-    of_q_routes (BadBranch index) low applies = omega (arith, low)
-    of_q_routes (BadLeaf index) low applies = omega (arith, low)
-    of_q_routes TooManyLoads low applies = omega (arith, low)
-    of_q_routes (TooManyStates index) low applies = omega (arith, low)
-    of_q_routes reason low applies = applies
+    (record { applies = other; none_before = λ reason low applies. omega (arith, low, branches_rank inst tree reason applies) })
+    (record { applies = other; none_before = λ reason low applies. omega (arith, low, q_routes_rank inst tree reason applies) })
 
 pub other_dimension : (inst tree : Fields) → is_branches_file tree.kind ≡ true → nodes_of tree ≢ nodes_of inst
     → IsFirstReason (AppliesToCertificate Branches inst tree) BranchesDimension
@@ -325,26 +295,11 @@ other_dimension inst tree sort other =
   where
     of_tours : (reason : Reason) → rank_of reason < rank_of BranchesDimension → AppliesToBranches inst tree reason → ⊥
     of_tours NotBranches low applies = false≢true (sym applies ∙ sort)
-    of_tours BranchesDimension low applies = omega (arith, low)
-    of_tours (BadFamily index) low applies = omega (arith, low)
-    of_tours (BadMemory node) low applies = omega (arith, low)
-    of_tours (BadRow index) low applies = omega (arith, low)
-    of_tours (BadBranch index) low applies = omega (arith, low)
-    of_tours (BranchTwice index) low applies = omega (arith, low)
-    of_tours (BadLeaf index) low applies = omega (arith, low)
-    of_tours reason low applies = applies
+    of_tours reason low applies = omega (arith, low, branches_rank inst tree reason applies)
 
     of_q_routes : (reason : Reason) → rank_of reason < rank_of BranchesDimension → AppliesToQRoutes inst tree reason → ⊥
     of_q_routes NotBranches low applies = false≢true (sym applies ∙ sort)
-    of_q_routes BranchesDimension low applies = omega (arith, low)
-    of_q_routes (BadFamily index) low applies = omega (arith, low)
-    of_q_routes (BadMemory node) low applies = omega (arith, low)
-    of_q_routes (BadRow index) low applies = omega (arith, low)
-    of_q_routes (BadBranch index) low applies = omega (arith, low)
-    of_q_routes (BadLeaf index) low applies = omega (arith, low)
-    of_q_routes TooManyLoads low applies = omega (arith, low)
-    of_q_routes (TooManyStates index) low applies = omega (arith, low)
-    of_q_routes reason low applies = applies
+    of_q_routes reason low applies = omega (arith, low, q_routes_rank inst tree reason applies)
 
 -- a TSP or an ATSP
 abbrev pub HasArcsOrEdges : Fields → Type 0
@@ -412,20 +367,14 @@ none_of_branches : NumbersAreUnique → (inst tree : Fields) (costs : ℕ → �
     → is_branches_file tree.kind ≡ true
     → nodes_of tree ≡ nodes_of inst → IsReported inst tree costs (found.Bound bound)
     → (reason : Reason) → AppliesToBranches inst tree reason → ⊥
-none_of_branches unique inst tree costs bound sort size is NotBranches applies = false≢true (sym applies ∙ sort)
-none_of_branches unique inst tree costs bound sort size is BranchesDimension applies = applies size
-none_of_branches unique inst tree costs bound sort size is (BadFamily index) applies =
-    no_bad_family inst tree is.by_steps.are_families.good index applies
-none_of_branches unique inst tree costs bound sort size is (BadMemory node) applies = no_memory inst tree is.neither node applies
-none_of_branches unique inst tree costs bound sort size is (BadRow index) applies = no_row inst tree is.neither index applies
-none_of_branches unique inst tree costs bound sort size is (BadBranch index) applies =
-    no_bad_pair inst tree is.steps is.steps_are is.by_steps.on_nodes.0 index applies
-none_of_branches unique inst tree costs bound sort size is (BranchTwice index) applies =
-    no_twice inst tree is.steps is.steps_are is.by_steps.are_once.0 index applies
-none_of_branches unique inst tree costs bound sort size is (BadLeaf index) applies =
-    no_bad_leaf unique inst tree is.steps is.by_steps.crossed is.steps_are
-    (numbers_reported inst tree is.by_steps.crossed is.by_steps.are_families) is.by_steps.leaves.2 index applies
-none_of_branches unique inst tree costs bound sort size is reason applies = applies
+none_of_branches unique inst tree costs bound sort size is reason applies =
+    none_before inst tree past_all (λ low. sort) (λ low. size) (λ low. no_bad_family inst tree is.by_steps.are_families.good)
+    (λ low. is.neither.0) (λ low. is.neither.1)
+    (λ low. no_bad_pair inst tree is.steps is.steps_are is.by_steps.on_nodes.0)
+    (λ low. no_twice inst tree is.steps is.steps_are is.by_steps.are_once.0)
+    (λ low. no_bad_leaf unique inst tree is.steps is.by_steps.crossed is.steps_are
+    (numbers_reported inst tree is.by_steps.crossed is.by_steps.are_families) is.by_steps.leaves.2)
+    reason (is_ranked reason) applies
 
 pub nothing_applies : NumbersAreUnique → (inst tree : Fields) (costs : ℕ → ℕ → ℤ) (bound : Option ℤ) → HasArcsOrEdges inst
     → is_branches_file tree.kind ≡ true
@@ -477,7 +426,7 @@ pub directed_is : (directed : Bool) (inst : Fields) (kind : Kind) → directed �
     → directed ≡ is_directed inst.kind
 directed_is directed inst kind is same = is ∙ ap is_directed same
 
--- the costs of a view are the same in both directions where those of the instance are
+-- the costs of a view are the same in both directions if those of the instance are
 pub symmetric_view : (inst : Fields) (directed : Bool) (costs : ℕ → ℕ → ℤ) → HasArcsOrEdges inst → directed ≡ is_directed inst.kind
     → IsSymmetricTsp inst → Same costs (cost inst)
     → directed ≡ false → IsSymmetric costs
@@ -556,7 +505,7 @@ certified inst tree costs bound law kind some even scaled same sized is = (
   fitting bound sized,
 )
 
--- where no leaf has a bound, the certificate gives none, and the instance has no tour
+-- if no leaf has a bound, the certificate gives none, and the instance has no tour
 pub no_tour : (inst tree : Fields) (costs : ℕ → ℕ → ℤ) → CaseTreesBoundCycles → HasArcsOrEdges inst → 3 ≤ nodes_of inst
     → IsSymmetricTsp inst → IsScale (scale_in tree)
     → Same costs (cost inst) → IsReported inst tree costs (found.Bound None)
@@ -581,24 +530,21 @@ tree_finds unique law inst tree costs (found.Bound None) kind sort size some eve
     let gone = no_tour inst tree costs law kind some even scaled same is in
     (nothing_applies unique inst tree costs None kind sort size is, gone.0, gone.1)
 tree_finds unique law inst tree costs (found.BadFamily index) kind sort size some even scaled same sized is = family_first inst tree costs index kind sort size is
-tree_finds unique law inst tree costs (found.BadMemory node) kind sort size some even scaled same sized is = absurd is.by_steps.leaves
-tree_finds unique law inst tree costs (found.BadRow index) kind sort size some even scaled same sized is = absurd is.by_steps.leaves
 tree_finds unique law inst tree costs (found.BadBranch index) kind sort size some even scaled same sized is = pair_first inst tree costs index kind sort size is
 tree_finds unique law inst tree costs (found.BranchTwice index) kind sort size some even scaled same sized is = twice_first inst tree costs index kind sort size is
 tree_finds unique law inst tree costs (found.BadLeaf index) kind sort size some even scaled same sized is = leaf_first inst tree costs index kind sort size is
-tree_finds unique law inst tree costs found.TooManyLoads kind sort size some even scaled same sized is = absurd is.by_steps.leaves
-tree_finds unique law inst tree costs (found.TooManyStates index) kind sort size some even scaled same sized is = absurd is.by_steps.leaves
+tree_finds unique law inst tree costs other kind sort size some even scaled same sized is = absurd is.by_steps.leaves
 
 -- its number fits 32 bits
 pub tree_numbered : (directed : Bool) (n : ℕ) (costs : ℕ → ℕ → ℤ) (scale : ℤ) (families : List (List (List ℕ))) (given : List Decision)
     (steps : List listed.Step) (verdict : TreeVerdict) → length families < 2 ^ 32 → length steps < 2 ^ 32
     → IsBranchVerdict directed n costs scale families given steps verdict → IsNumbered verdict
 tree_numbered directed n costs scale families given steps (found.Bound bound) few_families few_steps is = tt
-tree_numbered directed n costs scale families given steps (found.BadFamily index) few_families few_steps is = omega (arith, is.most, few_families)
+tree_numbered directed n costs scale families given steps (found.BadFamily index) few_families few_steps is = omega (arith, is.applies.0.1, few_families)
 tree_numbered directed n costs scale families given steps (found.BadMemory node) few_families few_steps is = tt
 tree_numbered directed n costs scale families given steps (found.BadRow index) few_families few_steps is = absurd is.leaves
 tree_numbered directed n costs scale families given steps (found.BadBranch index) few_families few_steps is =
-    omega (arith, is.2.inside, pairs_few steps, few_steps)
+    omega (arith, is.2.applies.0.1, pairs_few steps, few_steps)
 tree_numbered directed n costs scale families given steps (found.BranchTwice index) few_families few_steps is =
     omega (arith, twice_within directed given steps index is.3, few_steps)
 tree_numbered directed n costs scale families given steps (found.BadLeaf index) few_families few_steps is =

@@ -1,7 +1,9 @@
--- What is accepted with `strict`: it was accepted without, and every line of the instance is judged.
-use Rattle.tsp_verdict.proofs.Prelude.{Bool, true, false, List, [], ◌∷◌, Option, None, Some, ◌≡◌, ◌&&◌, refl, sym, subst, cond, ℕ, IsTrue, false≢true, Fields, Reason, Verdict}
+-- For src/strict.rt: what is accepted with `strict` was accepted without, and every line of the instance is judged.
+-- Proofs in tsp_judge and tsp_c use it, too.
+use Rattle.tsp_verdict.proofs.Prelude.{Bool, true, false, List, [], ◌∷◌, Option, None, Some, ap, ◌≡◌, ◌&&◌, refl, sym, subst, cond, ℕ, IsTrue, false≢true, Fields, Reason, Verdict}
 use Rattle.std.proofs.lemmas.Option.{none-some, same_Some}
 use Rattle.std.specs.List.{find}
+use Rattle.std.specs.Option.{option_map_or}
 use Rattle.std.specs.Str.{bytes_eq}
 use Rattle.tsp_format.specs.Words.{field_found, field_word, fields_in_order}
 use Rattle.tsp_format.specs.declared.keyword.Field.{Field}
@@ -10,11 +12,10 @@ use Rattle.tsp_report.specs.Verdicts.{is_bound_yes, is_clear, is_yes}
 use Rattle.tsp_report.specs.declared.verdict.BoundVerdict.{BoundVerdict}
 use Rattle.tsp_report.specs.declared.verdict.BoundVerdict.TheVariants as bounds
 use Rattle.tsp_report.specs.declared.verdict.KnownBound.{KnownBound}
-use Rattle.tsp_report.specs.declared.verdict.KnownBound.TheVariants as known_bounds
 use Rattle.tsp_report.specs.declared.verdict.Verdict.TheVariants as verdicts
-use Rattle.tsp_verdict.specs.Strict.{IsJudgedWhole, UsesItsFields, first_unused, leaves_unused, reason_by, stands_unused, strict_bound, strict_known_bound, strict_reason, strict_verdict}
+use Rattle.tsp_verdict.specs.Strict.{IsJudgedWhole, UsesItsFields, first_unused, leaves_unused, reason_by, stands_unused, strict_bound, strict_found, strict_known_bound, strict_reason, strict_verdict}
 
--- ---- where there is no reason by `strict`, every line is judged
+-- ---- if there is no reason by `strict`, every line is judged
 
 -- one element more
 fails_more : {V : Type 0} (test : V → Bool) (passes is_it : Bool) (value first : V) (left found : Option V)
@@ -25,7 +26,7 @@ fails_more test false true value first left found is none is_found others =
     subst (λ other. test other ≡ false) (same_Some first value is_found) is
 fails_more test false false value first left found is none is_found others = others none is_found
 
--- where no element passes a test, the one that another search finds doesn't
+-- if no element passes a test, the one that another search finds doesn't
 found_fails : {V : Type 0} (test is_it : V → Bool) (value : V) (values : List V) → find test values ≡ None
     → find is_it values ≡ Some value → test value ≡ false
 found_fails test is_it value [] none is_found = absurd (none-some value is_found)
@@ -71,10 +72,16 @@ bounded_before (Some reason) (bounds.Bound bound) is = absurd (false≢true is)
 bounded_before (Some reason) bounds.NoSolution is = absurd (false≢true is)
 bounded_before (Some reason) (bounds.No other) is = absurd (false≢true is)
 
+clear_found : (strict : Option Reason) (found : Option BoundVerdict) → option_map_or is_bound_yes (strict_found strict found) true ≡ true
+    → (strict_found strict found ≡ found) × (strict ≡ None)
+clear_found None found is = (refl, refl)
+clear_found (Some reason) None is = absurd (false≢true is)
+clear_found (Some reason) (Some (bounds.Bound bound)) is = absurd (false≢true is)
+clear_found (Some reason) (Some bounds.NoSolution) is = absurd (false≢true is)
+clear_found (Some reason) (Some (bounds.No other)) is = absurd (false≢true is)
+
 pub clear_before : (strict : Option Reason) (plain : KnownBound) → is_clear (strict_known_bound strict plain) ≡ true
     → (strict_known_bound strict plain ≡ plain) × (strict ≡ None)
-clear_before None plain is = (refl, refl)
-clear_before (Some reason) (known_bounds.Tours bound) is = absurd (false≢true is)
-clear_before (Some reason) known_bounds.NoSolution is = absurd (false≢true is)
-clear_before (Some reason) (known_bounds.Routes least bound) is = absurd (false≢true is)
-clear_before (Some reason) (known_bounds.No other) is = absurd (false≢true is)
+clear_before strict plain is =
+    let found = clear_found strict plain.found is in
+    (ap (λ (it : Option BoundVerdict). record plain { found = it }) found.0, found.1)

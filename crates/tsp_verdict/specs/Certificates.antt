@@ -1,6 +1,6 @@
 -- Circle 3 of docs/trust.md.
--- When a reason applies to a certificate, and its bound: by potentials, by branches for tours, and by branches for
--- routes.
+-- When a reason applies to a certificate, and which bound it gives: potentials, branches for tours, and branches for
+-- routes. Certified.antt chooses among the three.
 use Rattle.tsp_verdict.specs.Prelude.{All, Contains, ℕ, true, List, slice_index_or, ℤ, pos, Bool, false, [], Option, None, Some, is_some, not, length, filter, nat_abs, Kind, fixed_of, scale_in, multipliers_in, cost, families_listed, memories_listed, rows_listed, load_unit_in, Fields, nodes_of, is_potentials_file, is_branches_file, pair_of, is_same_pair, AreGood, IsFirstBroken, IsDualBound, IsAdjustedBound, is_directed, depot_of, routing_of, CaseStep, take_pairs, is_same, decided_number, Reason, NotPotentials, PotentialsDimension, PotentialsKind, MultiplierNotFixed, MultiplierRepeated, DualInfeasible, NotBranches, BranchesDimension, BadFamily, BadMemory, BadRow, BadBranch, BranchTwice, BadLeaf, TooManyLoads, TooManyStates}
 use Rattle.std.specs.Prelude.{◌≡◌, ◌-◌, ◌<◌, ◌≤◌, ◌⊎◌, ◌≢◌, ◌&&◌, ◌∷◌}
 use Rattle.tsp_format.specs.Steps as listed
@@ -13,7 +13,7 @@ use Rattle.tsp_cases.specs.declared.decision.Decision.{Decision}
 use Rattle.tsp_routing.specs.PlanVerdicts.{IsFirstBadSet, IsFirstBadPlanBranch, HasTooManyLoads}
 use Rattle.tsp_routing.specs.RunTrees.{owner_of, IsFirstBadRow, IsBadMemory}
 use Rattle.tsp_routing.specs.RunVerdicts.{is_by_runs, IsFirstBadLeafOf, HasFullLeaf, IsPlanBoundFound}
-use Rattle.tsp_verdict.specs.Solutions.{IsFirstPlace}
+use Rattle.tsp_theory.specs.First.{IsFirstPlace}
 
 -- a pair is listed, in either direction
 abbrev pub IsListedEitherWay : List (ℕ × ℕ) → ℕ × ℕ → Type 0
@@ -71,7 +71,7 @@ AppliesToPotentials instance certificate reason = ⊥
 
 -- ---- its bound
 
--- for a TSP: the bound of a least 1-tree under the potentials of nodes and the multipliers
+-- for a TSP: the bound of a minimum 1-tree under the potentials of nodes and the multipliers
 pub record IsBoundByNodes (instance certificate : Fields) (bound : ℤ) : Type 0 where
   pub potentials : List ℤ
   pub potentials_are : certificate.node_potentials ≡ Some potentials
@@ -120,7 +120,7 @@ pub record AreNumbersOf (instance tree : Fields) (crossed : List Crossings) : Ty
 abbrev pub IsBadFamily : ℕ → List (List (List ℕ)) → ℕ → Type 0
 IsBadFamily n families place = IsGoodFamily n (slice_index_or families (place - 1) []) → ⊥
 
--- the first node of the first list, where there is a list
+-- the first node of the first list, if there is a list
 abbrev pub IsFirstOwner : List (List ℕ) → ℕ → Type 0
 IsFirstOwner lists node = (1 ≤ length lists) × (node ≡ owner_of (slice_index_or lists 0 []))
 
@@ -142,8 +142,8 @@ AppliesToBranches instance tree reason = ⊥
 
 -- ---- its bound
 
--- the families are good, the tree is whole with good numbers at its leaves, and the least of the bounds of these is
--- `found`: by 1-trees, for an ATSP by least links
+-- the families are good, the tree is whole with good numbers at its leaves, and `found` is the smallest bound of a
+-- leaf: by 1-trees, or for an ATSP by least links
 pub record HasBoundByBranches (instance tree : Fields) (found : Option ℤ) : Type 0 where
   pub steps : List listed.Step
   pub steps_are : tree.branches ≡ Some steps
@@ -196,8 +196,8 @@ AppliesToQRoutes instance tree reason = ⊥
 
 -- ---- its bound
 
--- the families are sets of customers, the tree is whole with good numbers at its leaves, and the least of the bounds of
--- these, by least q-routes or least runs, is `found`; None where there is no q-route
+-- the families are sets of customers, the tree is whole with good numbers at its leaves, and `found` is the smallest
+-- bound of a leaf, by least q-routes or least runs; None if there is no q-route
 pub record HasBoundByQRoutes (instance tree : Fields) (found : Option ℤ) : Type 0 where
   pub steps : List listed.Step
   pub steps_are : tree.branches ≡ Some steps

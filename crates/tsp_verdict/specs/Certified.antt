@@ -1,5 +1,7 @@
 -- Circle 3 of docs/trust.md.
--- The bound of a certificate of each TYPE, and the verdict on an instance and a certificate without a solution.
+-- What a certificate does to a verdict, by TYPE: its bound, the reasons against it, and the verdicts on a tour, on
+-- routes, and on an instance alone. Accepted.antt in tsp_judge uses `kind_of` and `IsBoundOf`; src/certificate.rt,
+-- src/known_bound.rt and src/solution_verdict.rt promise the rest.
 use Rattle.tsp_verdict.specs.Prelude.{ℕ, Bool, true, false, List, [], Option, None, Some, ℤ, pos, neg_ℤ, length, IsFromTo, IsFirstAsymmetric, Kind, cost, fixed_of, Fields, nodes_of, length_of, BoundsTours, HasNoTour, demand_of, problem_of, routing_of, IsTourOf, depots_of, demands_of, depot_of, rank_of, CertificateKind, Reason, MultiplierNotFixed, BadFamily, TooFewNodes, NotSymmetric, DepotCount, DepotDemand, FixedEdgesInRoutes, Verdict}
 use Rattle.std.specs.Prelude.{◌≡◌, ◌⊎◌, ◌∷◌, ◌^◌, ◌≢◌, ◌<◌, ◌≤◌}
 use Rattle.tsp_format.specs.declared.kinds.Kind.TheVariants as kinds
@@ -25,7 +27,7 @@ is_bounded by (Some kinds.Atsp) = true
 is_bounded Branches (Some kinds.Cvrp) = true
 is_bounded by other = false
 
--- the bound that it gives tours or routes of this TYPE
+-- the bound that it gives for tours or routes of an instance of this TYPE
 abbrev pub IsBoundBy : CertificateKind → Option Kind → Fields → Fields → ℤ → Type 0
 IsBoundBy Potentials (Some kinds.Tsp) instance certificate bound = IsBoundByNodes instance certificate bound
 IsBoundBy Potentials (Some kinds.Atsp) instance certificate bound = IsBoundByDuals instance certificate bound
@@ -34,7 +36,7 @@ IsBoundBy Branches (Some kinds.Atsp) instance certificate bound = IsBoundByBranc
 IsBoundBy Branches (Some kinds.Cvrp) instance certificate bound = HasBoundByQRoutes instance certificate (Some bound)
 IsBoundBy by other instance certificate bound = ⊥
 
--- the bound that it gives the instance
+-- the bound that it gives for the instance
 abbrev pub IsBoundOf : CertificateKind → Fields → Fields → ℤ → Type 0
 IsBoundOf by instance certificate bound = IsBoundBy by instance.kind instance certificate bound
 
@@ -45,7 +47,7 @@ HasNoBoundBy Branches (Some kinds.Atsp) instance certificate = HasNoBoundByBranc
 HasNoBoundBy Branches (Some kinds.Cvrp) instance certificate = HasBoundByQRoutes instance certificate None
 HasNoBoundBy by other instance certificate = ⊥
 
--- it gives the instance no bound
+-- it gives no bound for the instance
 abbrev pub HasNoBound : CertificateKind → Fields → Fields → Type 0
 HasNoBound by instance certificate = HasNoBoundBy by instance.kind instance certificate
 
@@ -100,7 +102,7 @@ abbrev pub IsCertified : CertificateKind → Fields → Fields → ℤ → Type 
 IsCertified by instance certificate bound = IsBoundOf by instance certificate bound × BoundsSolutions instance bound
     × IsBoundFitting bound
 
--- What a certificate gives, of an instance to which no reason applies: a bound, or that there is no solution, or the
+-- What a certificate gives for an instance to which no reason applies: a bound, or that there is no solution, or the
 -- first reason against the certificate.
 abbrev pub FindsBound : CertificateKind → Fields → Fields → BoundVerdict → Type 0
 FindsBound by instance certificate (bounds.Bound bound) =
@@ -122,8 +124,8 @@ abbrev pub IsFirstAgainstCertified : CertificateKind → Fields → Fields → F
 IsFirstAgainstCertified by instance solution certificate reason = IsFirstReason
     (AppliesToCertified by instance solution certificate) reason
 
--- Accepted: the one tour is a tour of the instance, of this length, and the bound is that of the certificate; every
--- tour of the instance is at least as long as the bound, so that one whose length equals it is a shortest.
+-- Accepted: the only tour is a tour of the instance, of this length, and the bound is the certificate's. Every tour of
+-- the instance is at least as long as the bound, so a tour of this length is a shortest one.
 pub record IsCertifiedTour (by : CertificateKind) (instance solution certificate : Fields) (length_is : ℤ)
     (bound : Option ℤ) : Type 0 where
   pub tour : List ℕ
@@ -152,8 +154,8 @@ abbrev pub AppliesToCertifiedRoutes : CertificateKind → Fields → Fields → 
 AppliesToCertifiedRoutes by instance solution certificate reason = AppliesToRoutes instance solution reason
     ⊎ AppliesToCertificate by instance certificate reason
 
--- Accepted: the routes are a plan as without a certificate, and the bound is that of the certificate; every filled plan
--- of the instance is at least as long as the bound.
+-- Accepted: the routes are a plan, as without a certificate, and the bound is the certificate's. Every filled plan of
+-- the instance is at least as long as the bound.
 pub record AreCertifiedRoutes (by : CertificateKind) (instance solution certificate : Fields) (length_is : ℤ) (routes fewest : ℕ)
     (bound : Option ℤ) : Type 0 where
   pub planned : IsPlanned instance (tours_of solution) length_is routes fewest
@@ -188,7 +190,8 @@ IsCertifiedVerdict by instance solution certificate verdict =
 
 -- ---- the verdict on an instance and a certificate without a solution
 
--- When a reason applies to an instance, whatever the tour: the two that are judged of a tour too. No other reason does.
+-- When a reason applies to an instance, whatever the tour: the two against a tour that are about its instance. No other
+-- reason does.
 abbrev pub AppliesToTouring : Fields → Reason → Type 0
 AppliesToTouring instance TooFewNodes = nodes_of instance < 3
 AppliesToTouring instance (NotSymmetric i j) = (instance.kind ≡ Some kinds.Tsp)
@@ -199,7 +202,8 @@ AppliesToTouring instance reason = ⊥
 abbrev pub NoneAgainstTouring : Fields → Type 0
 NoneAgainstTouring instance = (reason : Reason) → AppliesToTouring instance reason → ⊥
 
--- When a reason applies to an instance, whatever the routes: those that are judged of routes too. No other reason does.
+-- When a reason applies to an instance, whatever the routes: those against routes that are about their instance. No
+-- other reason does.
 abbrev pub AppliesToRouting : Fields → Reason → Type 0
 AppliesToRouting instance TooFewNodes = nodes_of instance < 2
 AppliesToRouting instance DepotCount = length (depots_of instance) ≢ 1

@@ -1,6 +1,7 @@
--- Small instances, solutions and certificates.
+-- Small instances, solutions and certificates, for the examples here and in tsp_judge. No other contract uses them.
 use Rattle.tsp_verdict.specs.Prelude.{codes, ℕ, List, [], Option, None, Some, ℤ, pos, Kind, Step, Branch, Leaf, Fields, blank_fields, Reason, rank_of}
 use Rattle.std.specs.Prelude.{◌<◌, ◌∷◌}
+use Rattle.tsp_format.specs.Steps.{SubsetRow}
 use Rattle.tsp_format.specs.declared.kinds.Kind.TheVariants as kinds
 use Rattle.tsp_format.specs.declared.kinds.WeightFormat.{WeightFormat}
 use Rattle.tsp_format.specs.declared.kinds.WeightKind.{WeightKind}
@@ -110,6 +111,14 @@ halves_of_leaf = record (branching 3 [] (Leaf [] ∷ [])) { scale = Some (pos 2)
 -- branches with a single leaf, whose loads are counted by five
 abbrev pub by_fives : Fields
 by_fives = record (branching 4 [] (Leaf [] ∷ [])) { load_unit = Some (pos 5) }
+
+-- branches with a single leaf, with these lists of memories and these subset rows
+abbrev pub remembering : List (List ℕ) → List SubsetRow → Fields
+remembering lists rows = record (branching 4 [] (Leaf [] ∷ [])) { memories = Some lists; subset_rows = Some rows }
+
+-- a subset row of nodes 2 and 3
+abbrev pub pair_row : SubsetRow
+pair_row = record { set = 2 ∷ 3 ∷ []; further = [] }
 
 -- a family of two sets, the first of which has a node twice
 abbrev pub node_twice : List (List ℕ)

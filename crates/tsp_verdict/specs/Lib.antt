@@ -1,4 +1,6 @@
--- The files of definitions of this crate. Crates above may import them.
+-- Definitions of when a reason applies: to a solution (Solutions), to a certificate (Certificates), and by `--strict`
+-- (Strict); and of the verdicts that follow (Certified, SolutionVerdict). The runs of tsp_judge and tsp_c are stated by
+-- them.
 pub mod Prelude
 pub mod states
 pub mod Certificates

@@ -1,4 +1,5 @@
--- What the definitions and contracts of this crate use most of other crates, passed on from one place.
+-- Names of other crates, passed on to the files of this crate alone. It defines nothing: add or remove names freely;
+-- `tests/repository/names` sees that each is imported from here.
 pub use Rattle.std.specs.List.{All, AllPairs, Contains, concat, flat_map, list_any}
 pub use Rattle.std.specs.Prelude.{Bool, IfOk, IsErr, IsOk, IsTrue, List, MatchBool, MatchOption, MatchResult, None, Option, Some, codes, false, filter, is_some, length, map, nat_abs, nat_le, neg_ℤ, negsuc, not, option_map, pos, slice_index, slice_index_or, true, unwrap_or, vec_len, ℕ, ℤ, []}
 pub use Rattle.tsp_cases.specs.Cases.{CaseStep, decided_number, is_same, take_pairs}

@@ -1,14 +1,14 @@
--- The verdict on a solution, with a certificate or without, by what is known of its instance, and with lines that aren't
--- judged as a reason.
-use Rattle.tsp_verdict.specs.Prelude.{Bool, Option, None, Some, ℤ, IsTrue, ℕ, Kind, Fields, is_instance, IsLeastRoutes, capacity_of, CertificateKind, Reason, LengthClaimed, Verdict}
+-- The verdict on a solution: with or without a certificate, a claimed length and `--strict`, and in a comparison by
+-- what is known about the instance. In no circle of docs/trust.md: Accepted.antt in tsp_judge says what an accepted
+-- verdict means, without this file.
+use Rattle.tsp_verdict.specs.Prelude.{Bool, Option, None, Some, option_map, ℤ, IsTrue, ℕ, Kind, Fields, is_instance, IsLeastRoutes, capacity_of, CertificateKind, Reason, LengthClaimed, Verdict}
 use Rattle.std.specs.Prelude.{◌≡◌, ◌≢◌, ◌⊎◌}
 use Rattle.tsp_format.specs.declared.kinds.Kind.TheVariants as kinds
 use Rattle.tsp_report.specs.declared.verdict.KnownBound.{KnownBound}
-use Rattle.tsp_report.specs.declared.verdict.KnownBound.TheVariants as known_bounds
 use Rattle.tsp_report.specs.declared.verdict.BoundVerdict.{BoundVerdict}
 use Rattle.tsp_report.specs.declared.verdict.BoundVerdict.TheVariants as bounds
 use Rattle.tsp_report.specs.declared.verdict.Verdict.TheVariants.{Tour, Routes, No}
-use Rattle.tsp_verdict.specs.Certified.{is_bounded, AppliesToCertificate, IsCertifiedVerdict, AppliesToTouring, NoneAgainstTouring, AppliesToRouting, NoneAgainstRouting, NoneAgainstInstance, IsBoundVerdict, NoneWithoutMemory}
+use Rattle.tsp_verdict.specs.Certified.{is_bounded, AppliesToCertificate, IsCertifiedVerdict, AppliesToInstance, NoneAgainstInstance, IsBoundVerdict, NoneWithoutMemory}
 use Rattle.tsp_verdict.specs.Strict.{strict_reason, strict_verdict, strict_bound, strict_known_bound}
 use Rattle.tsp_verdict.specs.Solutions.{IsFirstReason, IsRoutesVerdict, NoneOfRoutesBeforeRepeats, IsTourVerdict, NoneOfTourBeforeRepeats, total_of}
 
@@ -39,17 +39,17 @@ NoneBeforeRepeatsOn instance solution = NoneBeforeRepeatsBy instance.kind instan
 
 -- ---- with a certificate or without
 
--- whether solutions of instances of this TYPE are judged, with such a certificate or with none
+-- whether solutions of instances of this TYPE can be judged, with such a certificate or without one
 abbrev pub is_judged : Option (CertificateKind × Fields) → Option Kind → Bool
 is_judged None kind = is_instance kind
 is_judged (Some given) kind = is_bounded given.0 kind
 
--- the verdict, with a certificate or without, where no length is claimed
+-- the verdict, with a certificate or without, if no length is claimed
 abbrev pub IsUnclaimedVerdict : Option (CertificateKind × Fields) → Fields → Fields → Verdict → Type 0
 IsUnclaimedVerdict None instance solution verdict = IsVerdictOn instance solution verdict
 IsUnclaimedVerdict (Some given) instance solution verdict = IsCertifiedVerdict given.0 instance solution given.1 verdict
 
--- the first reason against the certificate, where there is one
+-- the first reason against the certificate, if there is one
 abbrev pub IsFirstAgainstGiven : Option (CertificateKind × Fields) → Fields → Reason → Type 0
 IsFirstAgainstGiven None instance reason = ⊥
 IsFirstAgainstGiven (Some given) instance reason = IsFirstReason (AppliesToCertificate given.0 instance given.1) reason
@@ -99,103 +99,71 @@ abbrev pub IsVerdictWith : Option (CertificateKind × Fields) → Option ℤ →
 IsVerdictWith given None instance solution verdict = IsUnclaimedVerdict given instance solution verdict
 IsVerdictWith given (Some claim) instance solution verdict = IsClaimedVerdict claim given instance solution verdict
 
--- ---- what is known of all solutions of an instance, before any is read
+-- ---- what is known about all solutions of an instance, before any is read
 
--- ---- without a certificate, by the TYPE of the instance
+-- the least number of routes that carry all demands, for an instance of routes
+abbrev pub IsLeastKnownBy : Option Kind → Fields → Option ℕ → Type 0
+IsLeastKnownBy (Some kinds.Cvrp) instance None = ⊥
+IsLeastKnownBy (Some kinds.Cvrp) instance (Some least) = IsLeastRoutes (total_of instance) (capacity_of instance) least
+IsLeastKnownBy other instance least = least ≡ None
 
--- tours: no reason applies to the instance, or this is the first that does
-abbrev pub IsKnownBoundOfTours : Fields → KnownBound → Type 0
-IsKnownBoundOfTours instance (known_bounds.Tours None) = NoneAgainstTouring instance
-IsKnownBoundOfTours instance (known_bounds.Tours (Some bound)) = ⊥
-IsKnownBoundOfTours instance known_bounds.NoSolution = ⊥
-IsKnownBoundOfTours instance (known_bounds.Routes least bound) = ⊥
-IsKnownBoundOfTours instance (known_bounds.No reason) = IsFirstReason (AppliesToTouring instance) reason
-
--- routes: the least number that carries all demands, or the first reason against the instance
-abbrev pub IsKnownBoundOfRoutes : Fields → KnownBound → Type 0
-IsKnownBoundOfRoutes instance (known_bounds.Tours bound) = ⊥
-IsKnownBoundOfRoutes instance known_bounds.NoSolution = ⊥
-IsKnownBoundOfRoutes instance (known_bounds.Routes least None) = NoneAgainstRouting instance
-    × IsLeastRoutes (total_of instance) (capacity_of instance) least
-IsKnownBoundOfRoutes instance (known_bounds.Routes least (Some bound)) = ⊥
-IsKnownBoundOfRoutes instance (known_bounds.No reason) = IsFirstReason (AppliesToRouting instance) reason
-
--- the known bound without a certificate
-abbrev pub IsKnownBoundAlone : Option Kind → Fields → KnownBound → Type 0
-IsKnownBoundAlone (Some kinds.Tsp) instance known_bound = IsKnownBoundOfTours instance known_bound
-IsKnownBoundAlone (Some kinds.Atsp) instance known_bound = IsKnownBoundOfTours instance known_bound
-IsKnownBoundAlone (Some kinds.Cvrp) instance known_bound = IsKnownBoundOfRoutes instance known_bound
-IsKnownBoundAlone other instance known_bound = ⊥
-
--- ---- with a certificate: the verdict on a bound without a solution
-
--- tours: the bound of the certificate, or that there is no tour, or the first reason against instance and certificate
-abbrev pub IsKnownBoundOfToursBy : CertificateKind → Fields → Fields → KnownBound → Type 0
-IsKnownBoundOfToursBy by instance certificate (known_bounds.Tours None) = ⊥
-IsKnownBoundOfToursBy by instance certificate (known_bounds.Tours (Some bound)) = IsBoundVerdict by instance certificate (bounds.Bound bound)
-IsKnownBoundOfToursBy by instance certificate known_bounds.NoSolution = IsBoundVerdict by instance certificate bounds.NoSolution
-IsKnownBoundOfToursBy by instance certificate (known_bounds.Routes least bound) = ⊥
-IsKnownBoundOfToursBy by instance certificate (known_bounds.No reason) = IsBoundVerdict by instance certificate (bounds.No reason)
-
--- routes: the same, with the least number that carries all demands
-abbrev pub IsKnownBoundOfRoutesBy : CertificateKind → Fields → Fields → KnownBound → Type 0
-IsKnownBoundOfRoutesBy by instance certificate (known_bounds.Routes least None) = ⊥
-IsKnownBoundOfRoutesBy by instance certificate (known_bounds.Routes least (Some bound)) =
-    IsBoundVerdict by instance certificate (bounds.Bound bound) × IsLeastRoutes (total_of instance) (capacity_of instance) least
-IsKnownBoundOfRoutesBy by instance certificate known_bounds.NoSolution = IsBoundVerdict by instance certificate bounds.NoSolution
-IsKnownBoundOfRoutesBy by instance certificate (known_bounds.Tours bound) = ⊥
-IsKnownBoundOfRoutesBy by instance certificate (known_bounds.No reason) = IsBoundVerdict by instance certificate (bounds.No reason)
-
--- the known bound with a certificate
-abbrev pub IsKnownBoundBy : Option Kind → CertificateKind → Fields → Fields → KnownBound → Type 0
-IsKnownBoundBy (Some kinds.Cvrp) by instance certificate known_bound = IsKnownBoundOfRoutesBy by instance certificate known_bound
-IsKnownBoundBy other by instance certificate known_bound = IsKnownBoundOfToursBy by instance certificate known_bound
-
--- ---- either
+-- What is found. Without a certificate: the first reason against the instance, or nothing. With one: its bound, or that
+-- there is no solution, or the first reason against the instance or the certificate.
+abbrev pub IsFoundWith : Option (CertificateKind × Fields) → Fields → Option BoundVerdict → Type 0
+IsFoundWith None instance None = NoneAgainstInstance instance
+IsFoundWith None instance (Some (bounds.Bound bound)) = ⊥
+IsFoundWith None instance (Some bounds.NoSolution) = ⊥
+IsFoundWith None instance (Some (bounds.No reason)) = IsFirstReason (AppliesToInstance instance) reason
+IsFoundWith (Some given) instance None = ⊥
+IsFoundWith (Some given) instance (Some found) = IsBoundVerdict given.0 instance given.1 found
 
 -- the known bound, with a certificate or without
 abbrev pub IsKnownBoundWith : Option (CertificateKind × Fields) → Fields → KnownBound → Type 0
-IsKnownBoundWith None instance known_bound = IsKnownBoundAlone instance.kind instance known_bound
-IsKnownBoundWith (Some given) instance known_bound = IsKnownBoundBy instance.kind given.0 instance given.1 known_bound
+IsKnownBoundWith given instance known_bound = IsLeastKnownBy instance.kind instance known_bound.least
+    × IsFoundWith given instance known_bound.found
 
--- the known bound of an instance whose solutions are judged so
+-- the known bound of an instance whose TYPE the certificate, if there is one, can bound
 abbrev pub IsKnownBound : Option (CertificateKind × Fields) → Fields → KnownBound → Type 0
 IsKnownBound given instance known_bound = IsTrue (is_judged given instance.kind) × IsKnownBoundWith given instance known_bound
 
--- Out of memory: no reason applies to the instance, nor one to the certificate that is found without memory. Without a
--- certificate none is taken.
+-- If memory runs out: no reason applies to the instance, and none that is found without memory applies to the
+-- certificate. Without a certificate, no memory is taken.
 abbrev pub NoneOfKnownBoundWithoutMemory : Option (CertificateKind × Fields) → Fields → Type 0
 NoneOfKnownBoundWithoutMemory None instance = ⊥
 NoneOfKnownBoundWithoutMemory (Some given) instance = NoneAgainstInstance instance × NoneWithoutMemory given.0 instance given.1
 
 -- ---- a solution
 
--- an accepted solution has the bound of the known bound, or its least number of routes
-abbrev pub HasKnownBound : Verdict → KnownBound → Type 0
-HasKnownBound (Tour length bound) known_bound = known_bound ≡ known_bounds.Tours bound
-HasKnownBound (Routes length routes least bound) known_bound = known_bound ≡ known_bounds.Routes least bound
-HasKnownBound (No reason) known_bound = Unit {0}
+-- an accepted solution has the bound that was found, and the least number of routes
+abbrev pub IsAsFound : Verdict → Option ℕ → Option BoundVerdict → Type 0
+IsAsFound (Tour length bound) least found = (least ≡ None) × (found ≡ option_map bounds.Bound bound)
+IsAsFound (Routes length routes own bound) least found = (least ≡ Some own) × (found ≡ option_map bounds.Bound bound)
+IsAsFound (No reason) least found = Unit {0}
 
--- the verdict on a solution by a known bound, with a claimed length or without: it is the verdict with each certificate that
+-- it has those of the known bound
+abbrev pub HasKnownBound : Verdict → KnownBound → Type 0
+HasKnownBound verdict known_bound = IsAsFound verdict known_bound.least known_bound.found
+
+-- the verdict on a solution by a known bound, with a claimed length or without: the same as with each certificate that
 -- gives the instance this known bound
 abbrev pub IsVerdictFrom : KnownBound → Option ℤ → Fields → Fields → Verdict → Type 0
 IsVerdictFrom known_bound claimed instance solution verdict = HasKnownBound verdict known_bound
     × ((given : Option (CertificateKind × Fields)) → IsKnownBound given instance known_bound
     → IsVerdictWith given claimed instance solution verdict)
 
--- ---- with lines that aren't judged as a reason, or without
+-- ---- with or without `--strict`
 
--- the verdict on a solution, with lines that aren't judged as a reason or not
+-- the verdict on a solution, with or without `--strict`
 abbrev pub IsVerdictAsked : Bool → Option (CertificateKind × Fields) → Option ℤ → Fields → Fields → Verdict → Type 0
 IsVerdictAsked strict given claimed instance solution verdict = (plain : Verdict)
     × IsVerdictWith given claimed instance solution plain × (verdict ≡ strict_verdict (strict_reason strict instance) plain)
 
--- the same of a bound without a solution
+-- the same for a bound without a solution
 abbrev pub IsBoundAsked : Bool → CertificateKind → Fields → Fields → BoundVerdict → Type 0
 IsBoundAsked strict by instance certificate found = (plain : BoundVerdict)
     × IsBoundVerdict by instance certificate plain × (found ≡ strict_bound (strict_reason strict instance) plain)
 
--- the same of a known bound
+-- the same for a known bound
 abbrev pub IsKnownBoundAsked : Bool → Option (CertificateKind × Fields) → Fields → KnownBound → Type 0
 IsKnownBoundAsked strict given instance known_bound = (plain : KnownBound)
     × IsKnownBound given instance plain × (known_bound ≡ strict_known_bound (strict_reason strict instance) plain)

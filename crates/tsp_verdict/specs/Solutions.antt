@@ -1,27 +1,18 @@
 -- The verdict on a tour or on routes without a certificate: the first reason that applies, in the order in which
--- reasons are judged.
+-- reasons are judged. The line `no` rests on it, and `yes` doesn't, so it is in no circle of docs/trust.md.
 use Rattle.tsp_verdict.specs.Prelude.{concat, All, Contains, ℕ, Bool, List, length, slice_index, slice_index_or, [], unwrap_or, false, None, Some, ℤ, pos, nodes_to, IsFirstAsymmetric, cost, fixed_of, Fields, nodes_of, is_tour_file, Uses, length_of, load_of, IsCustomer, demand_of, plan_length, IsLeastRoutes, is_directed, IsTourOf, demands_of, depot_of, IsPlanOf, depots_of, capacity_of, rank_of, Reason, NotASolution, TooFewNodes, NotSymmetric, Dimension, TourCount, TourLength, NodeOutOfRange, RepeatedNode, FixedEdgeUnused, DepotCount, DepotDemand, FixedEdgesInRoutes, DepotInRoute, Unserved, Overload, Verdict}
 use Rattle.std.specs.Prelude.{◌≡◌, ◌-◌, ◌<◌, ◌≤◌, ◌≢◌, ◌∷◌, ◌<ℤ◌}
 use Rattle.tsp_format.specs.declared.kinds.Kind.TheVariants as kinds
+use Rattle.tsp_theory.specs.First.{IsFirst, IsFirstPlace}
 use Rattle.tsp_report.specs.declared.verdict.Verdict.TheVariants as verdicts
 
 -- the node at a place of a list of nodes
 abbrev pub node_at : List ℕ → ℕ → ℕ
 node_at nodes place = slice_index nodes (place - 1)
 
--- the list has an element at this place
-abbrev pub IsPlace : {X : Type 0} → List X → ℕ → Type 0
-IsPlace xs place = (1 ≤ place) × (place ≤ length xs)
-
 -- P holds at none of the first `count` places
 abbrev pub HoldsAtNone : (ℕ → Type 0) → ℕ → Type 0
 HoldsAtNone P count = (place : ℕ) → 1 ≤ place → place ≤ count → P place → ⊥
-
--- the first place of the list at which P holds
-pub record IsFirstPlace {X : Type 0} (P : ℕ → Type 0) (xs : List X) (place : ℕ) : Type 0 where
-  pub here : IsPlace xs place
-  pub holds : P place
-  pub first : (earlier : ℕ) → 1 ≤ earlier → earlier < place → P earlier → ⊥
 
 -- the node at the place is larger than n
 abbrev pub IsLarger : ℕ → List ℕ → ℕ → Type 0
@@ -46,13 +37,12 @@ abbrev pub NoneBefore : (Reason → Type 0) → ℕ → Type 0
 NoneBefore Applies rank = (reason : Reason) → rank_of reason < rank → Applies reason → ⊥
 
 -- the reason applies, and none that is judged before it
-pub record IsFirstReason (Applies : Reason → Type 0) (reason : Reason) : Type 0 where
-  pub applies : Applies reason
-  pub none_before : NoneBefore Applies (rank_of reason)
+abbrev pub IsFirstReason : (Reason → Type 0) → Reason → Type 0
+IsFirstReason Applies reason = IsFirst rank_of Applies (λ earlier. Applies earlier → ⊥) reason
 
 -- ---- the tours or routes of a solution's file, and all nodes of these
 
--- the tours, or routes; of a file without any there is a reason before these are judged
+-- the tours, or routes; if a file has none, a reason applies before they are judged
 abbrev pub tours_of : Fields → List (List ℕ)
 tours_of f = unwrap_or f.tours []
 
@@ -87,7 +77,7 @@ NoneOfTourBefore instance solution reason = NoneBefore (AppliesToTour instance s
 abbrev pub IsFirstAgainstTour : Fields → Fields → Reason → Type 0
 IsFirstAgainstTour instance solution reason = IsFirstReason (AppliesToTour instance solution) reason
 
--- No: the first reason that applies. Tour: no reason applies, the solution's one tour is a tour of the instance, and
+-- No: the first reason that applies. Tour: no reason applies, the solution's only tour is a tour of the instance, and
 -- this is its length, without a bound.
 abbrev pub IsTourVerdict : Fields → Fields → Verdict → Type 0
 IsTourVerdict instance solution (verdicts.No reason) = IsFirstAgainstTour instance solution reason
@@ -97,7 +87,7 @@ IsTourVerdict instance solution (verdicts.Tour length bound) =
     × (bound ≡ None)
 IsTourVerdict instance solution (verdicts.Routes length routes least bound) = ⊥
 
--- No reason applies that needs no look at the nodes of the tour.
+-- No reason applies that comes before those about the nodes of the tour.
 abbrev pub NoneOfTourBeforeNodes : Fields → Fields → Type 0
 NoneOfTourBeforeNodes instance solution = (place : ℕ) → NoneOfTourBefore instance solution (NodeOutOfRange place)
 
@@ -118,10 +108,9 @@ AreCustomers instance solution = All (IsCustomer (nodes_of instance) (depot_of i
 -- ---- the verdict on routes without a certificate
 
 -- the least customer that isn't among the nodes
-pub record IsFirstUnserved (n depot : ℕ) (nodes : List ℕ) (node : ℕ) : Type 0 where
-  pub customer : IsCustomer n depot node
-  pub unserved : Contains nodes node → ⊥
-  pub first : (other : ℕ) → IsCustomer n depot other → other < node → Contains nodes other
+abbrev pub IsFirstUnserved : ℕ → ℕ → List ℕ → ℕ → Type 0
+IsFirstUnserved n depot nodes node = IsFirst (λ k. k) (λ k. IsCustomer n depot k × (Contains nodes k → ⊥))
+    (λ k. IsCustomer n depot k → Contains nodes k) node
 
 -- the demands of the route sum to more than the capacity
 abbrev pub IsOverloaded : List ℤ → ℤ → List (List ℕ) → ℕ → Type 0
@@ -155,8 +144,8 @@ NoneOfRoutesBefore instance solution reason = NoneBefore (AppliesToRoutes instan
 abbrev pub IsFirstAgainstRoutes : Fields → Fields → Reason → Type 0
 IsFirstAgainstRoutes instance solution reason = IsFirstReason (AppliesToRoutes instance solution) reason
 
--- Accepted routes: they are a plan of the instance, each with a customer, of this length and number, and no plan at all
--- has fewer routes than the least number that carries all demands.
+-- Accepted routes: they are a plan of the instance, without empty routes, of this length and number. No plan at all has
+-- fewer routes than the least number that carries all demands.
 pub record IsPlanned (instance : Fields) (plan : List (List ℕ)) (length_is : ℤ) (routes least : ℕ) : Type 0 where
   pub plan_of : IsPlanOf instance plan
   pub filled : All (λ route. route ≢ []) plan
@@ -174,7 +163,7 @@ IsRoutesVerdict instance solution (verdicts.Routes length_is routes least bound)
     × IsPlanned instance (tours_of solution) length_is routes least × (bound ≡ None)
 IsRoutesVerdict instance solution (verdicts.Tour length_is bound) = ⊥
 
--- No reason applies that needs no look at the nodes of the routes.
+-- No reason applies that comes before those about the nodes of the routes.
 abbrev pub NoneOfRoutesBeforePlaces : Fields → Fields → Type 0
 NoneOfRoutesBeforePlaces instance solution = (place : ℕ) → NoneOfRoutesBefore instance solution (DepotInRoute place)
 

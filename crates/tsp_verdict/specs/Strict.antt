@@ -1,6 +1,6 @@
 -- Circle 2 of docs/trust.md.
--- What `--strict` asks for: that an instance has no line that isn't judged. A line isn't judged if its keyword is unknown,
--- or if the TYPE or the weight type of the instance doesn't use its field.
+-- What `--strict` demands: that the verdict ignores no line of the instance. It ignores a line with an unknown keyword,
+-- and one whose field the TYPE or the weight type of the instance doesn't use.
 use Rattle.tsp_verdict.specs.Prelude.{Bool, true, false, not, IsTrue, Option, None, Some, is_some, option_map, ℕ, List, [], Fields, Reason, NotJudged, NotUsed, Verdict}
 use Rattle.std.specs.Prelude.{◌≡◌, ◌&&◌, ◌∷◌}
 use Rattle.std.specs.List.{find}
@@ -10,16 +10,15 @@ use Rattle.tsp_format.specs.declared.keyword.Field.TheVariants as fields
 use Rattle.tsp_file.specs.Fields.{stands_in}
 use Rattle.tsp_file.specs.Rules.{is_explicit, is_function, is_routing}
 use Rattle.tsp_report.specs.declared.verdict.KnownBound.{KnownBound}
-use Rattle.tsp_report.specs.declared.verdict.KnownBound.TheVariants as known_bounds
 use Rattle.tsp_report.specs.declared.verdict.BoundVerdict.{BoundVerdict}
 use Rattle.tsp_report.specs.declared.verdict.BoundVerdict.TheVariants as bounds
 use Rattle.tsp_report.specs.declared.verdict.Verdict.TheVariants.{Tour, Routes, No}
 
 -- ---- the fields that an instance has but doesn't use
 
--- Each field by TYPE, weight type and weight format. Every instance uses those that name it or draw it. Coordinates beside
--- EXPLICIT are for drawing. EDGE_WEIGHT_FORMAT : FUNCTION says that there is no matrix, so it goes with every other weight
--- type. The last row is for SCALE, LOAD_UNIT, TOUR_SECTION and the sections of certificates, which no instance uses.
+-- Each field by TYPE, weight type and weight format. Every instance uses those that name or draw it. With EXPLICIT,
+-- coordinates are for drawing. EDGE_WEIGHT_FORMAT : FUNCTION says that there is no matrix, so it goes with all other
+-- weight types. No instance uses those in the last row: SCALE, LOAD_UNIT, TOUR_SECTION and certificates' sections.
 abbrev pub leaves_unused : Fields → Field → Bool
 leaves_unused instance fields.NameKey = false
 leaves_unused instance fields.TypeKey = false
@@ -51,41 +50,43 @@ first_unused instance = find (stands_unused instance) fields_in_order
 abbrev pub UsesItsFields : Fields → Type 0
 UsesItsFields instance = (field : Field) → IsTrue (stands_in instance field) → leaves_unused instance field ≡ false
 
--- every line of the instance is judged
+-- the verdict ignores no line of the instance
 abbrev pub IsJudgedWhole : Fields → Type 0
 IsJudgedWhole instance = (instance.others ≡ []) × UsesItsFields instance
 
--- ---- lines that aren't judged, as a reason
+-- ---- ignored lines as a reason
 
--- the first reason by these lines of unknown keywords and this field that isn't used
+-- the reason for these lines of unknown keywords and this unused field; unknown keywords come first
 abbrev pub reason_by : List (List ℕ × List ℕ) → Option Field → Option Reason
 reason_by [] None = None
 reason_by [] (Some field) = Some (NotUsed field)
 reason_by (line ∷ lines) field = Some NotJudged
 
--- the reason against an instance, where such lines are one
+-- with `--strict`, the reason against an instance with an ignored line
 abbrev pub strict_reason : Bool → Fields → Option Reason
 strict_reason false instance = None
 strict_reason true instance = reason_by instance.others (first_unused instance)
 
--- the verdict where there is such a reason: an accepted solution is rejected, and a rejected one keeps its reason
+-- the verdict if there is such a reason: an accepted solution is rejected, and a rejected one keeps its reason
 abbrev pub strict_verdict : Option Reason → Verdict → Verdict
 strict_verdict None verdict = verdict
 strict_verdict (Some strict) (Tour length bound) = No strict
 strict_verdict (Some strict) (Routes length routes least bound) = No strict
 strict_verdict (Some strict) (No reason) = No reason
 
--- the same of a bound without a solution
+-- the same for a bound without a solution
 abbrev pub strict_bound : Option Reason → BoundVerdict → BoundVerdict
 strict_bound None found = found
 strict_bound (Some strict) (bounds.Bound bound) = bounds.No strict
 strict_bound (Some strict) bounds.NoSolution = bounds.No strict
 strict_bound (Some strict) (bounds.No reason) = bounds.No reason
 
--- the same of a known bound
+-- the same for what is found for all solutions, with or without a certificate
+abbrev pub strict_found : Option Reason → Option BoundVerdict → Option BoundVerdict
+strict_found None found = found
+strict_found (Some strict) None = Some (bounds.No strict)
+strict_found (Some strict) (Some found) = Some (strict_bound (Some strict) found)
+
+-- the same for a known bound
 abbrev pub strict_known_bound : Option Reason → KnownBound → KnownBound
-strict_known_bound None known_bound = known_bound
-strict_known_bound (Some strict) (known_bounds.Tours bound) = known_bounds.No strict
-strict_known_bound (Some strict) known_bounds.NoSolution = known_bounds.No strict
-strict_known_bound (Some strict) (known_bounds.Routes least bound) = known_bounds.No strict
-strict_known_bound (Some strict) (known_bounds.No reason) = known_bounds.No reason
+strict_known_bound strict known_bound = record known_bound { found = strict_found strict known_bound.found }

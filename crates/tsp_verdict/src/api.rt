@@ -1,5 +1,6 @@
-//! Public calls for the verdict on a tour or on routes, as example_check makes. Each is a case of
-//! `judge` in `src/solution_verdict.rt`, and returns a refusal as std's `AllocError`.
+//! Calls for other Rattle programs, such as example_check: verdicts on tours and routes. Each is a
+//! special case of `judge` in `solution_verdict.rt`, and returns std's `AllocError` if memory runs
+//! out. tsp_judge re-exports them.
 
 ghost use Rattle.std.specs.Prelude.{◌≡◌, ◌⊎◌, Some, MatchResult};
 ghost use Rattle.tsp_format.specs.declared.kinds.Kind.TheVariants as kinds;
@@ -13,12 +14,12 @@ use tsp_cost::Instance;
 use tsp_file::File;
 use tsp_report::{CertificateKind, Verdict};
 
-/// The verdict on a solution of an instance of TYPE TSP or ATSP: rejected with the first reason
-/// against it, or accepted, if the solution is one tour of the instance, with its length.
+/// The verdict on a solution of a TSP or an ATSP: accepted with its length if it is one tour of the
+/// instance, otherwise rejected with the first reason.
 ///
-/// A tour has each node of the instance once and uses every fixed pair (TSPLIB 95): as neighbours
-/// in either direction, under TYPE ATSP from the pair's first to its second node. The reasons are
-/// judged in the order of [`Reason`], up to `FixedEdgeUnused`. The bound is `None`.
+/// A tour visits each node of the instance once and uses every fixed pair (TSPLIB 95): as
+/// neighbours in either direction or, for an ATSP, from the pair's first to its second node. The
+/// reasons are judged in the order of [`Reason`], up to `FixedEdgeUnused`. The bound is `None`.
 ///
 /// # Requires
 ///
@@ -26,8 +27,8 @@ use tsp_report::{CertificateKind, Verdict};
 ///
 /// # Errors
 ///
-/// Out of memory for a mark and a number for each node, and then no reason up to `NodeOutOfRange`
-/// applies: those are found without memory.
+/// Out of memory. It allocates a mark and a number for each node, after the reasons up to
+/// `NodeOutOfRange`, none of which applies then.
 pub fn judge_tour(alloc: Global, inst: &Instance, sol: &File) -> Result<Verdict, AllocError>
     requires { (inst.now.kind ≡ Some kinds.Tsp) ⊎ (inst.now.kind ≡ Some kinds.Atsp) }
     ensures { MatchResult result
@@ -37,15 +38,15 @@ pub fn judge_tour(alloc: Global, inst: &Instance, sol: &File) -> Result<Verdict,
     Ok(judge(alloc, inst, sol, None, None)?)
 }
 
-/// The verdict on a solution of an instance of TYPE CVRP: rejected with the first reason against
-/// it, or accepted, if its tours are a plan of routes, with their length and number.
+/// The verdict on a solution of a CVRP: accepted with its length and its number of routes if it is
+/// a plan, otherwise rejected with the first reason.
 ///
-/// A plan's routes hold each node other than the depot exactly once and nothing else, and the
-/// demands of each sum to at most the capacity (TSPLIB 95). Each route goes from the depot through
-/// its nodes and back. `least` is the least L with `L * capacity` at least the sum of all demands:
-/// no plan has fewer routes. The reasons are judged in the order that [`Reason`] says.
+/// A plan's routes contain each node other than the depot exactly once and nothing else, and no
+/// route's demands exceed the capacity (TSPLIB 95). Each route goes from the depot through its
+/// nodes and back. `least` is the least L with `L * capacity` at least the sum of all demands, so
+/// no plan has fewer routes. The reasons are judged in the order of [`Reason`].
 ///
-/// With a file of branches, call [`crate::judge`]: it also judges routes with a certificate.
+/// For routes with a branches file, call [`crate::judge`].
 ///
 /// # Requires
 ///
@@ -53,8 +54,8 @@ pub fn judge_tour(alloc: Global, inst: &Instance, sol: &File) -> Result<Verdict,
 ///
 /// # Errors
 ///
-/// Out of memory for a mark for each node, and then no reason up to `NodeOutOfRange` in that order
-/// applies: those are found without memory.
+/// Out of memory. It allocates a mark for each node, after the reasons up to `NodeOutOfRange` in
+/// that order, none of which applies then.
 pub fn judge_routes(alloc: Global, inst: &Instance, sol: &File) -> Result<Verdict, AllocError>
     requires { inst.now.kind ≡ Some kinds.Cvrp }
     ensures { MatchResult result
@@ -64,13 +65,13 @@ pub fn judge_routes(alloc: Global, inst: &Instance, sol: &File) -> Result<Verdic
     Ok(judge(alloc, inst, sol, None, None)?)
 }
 
-/// The verdict on a solution of an instance of TYPE TSP or ATSP with a file of potentials: rejected
-/// with the first reason against either, or accepted with the tour's length and a bound that no
-/// tour of the instance is below.
+/// The verdict on a solution of a TSP or an ATSP with a potentials file: accepted with the tour's
+/// length and a bound, or rejected with the first reason against either. No tour of the instance is
+/// shorter than the bound.
 ///
-/// The reasons of [`judge_tour`] are judged first, then those of the certificate.
-/// Under TYPE TSP the bound is that of a least 1-tree under the potentials (Held and Karp, 1970)
-/// and the multipliers of fixed pairs, under TYPE ATSP that of duals of the assignment problem.
+/// The reasons of [`judge_tour`] come first, then those against the certificate. For a TSP, the
+/// bound is that of a minimum 1-tree under the potentials (Held and Karp, 1970) and the multipliers
+/// of fixed pairs; for an ATSP, that of duals of the assignment problem.
 ///
 /// # Requires
 ///
@@ -78,7 +79,7 @@ pub fn judge_routes(alloc: Global, inst: &Instance, sol: &File) -> Result<Verdic
 ///
 /// # Errors
 ///
-/// Out of memory, and then no reason up to `NodeOutOfRange` applies.
+/// Out of memory. Then no reason up to `NodeOutOfRange` applies.
 pub fn judge_tour_bound(
     alloc: Global,
     inst: &Instance,
@@ -94,14 +95,14 @@ pub fn judge_tour_bound(
     Ok(judge(alloc, inst, sol, by, None)?)
 }
 
-/// The verdict on a solution of an instance of TYPE TSP or ATSP with a file of branches, as of
+/// The verdict on a solution of a TSP or an ATSP with a branches file, like that of
 /// [`judge_tour_bound`].
 ///
-/// The reasons of the certificate are those from `NotBranches` to `BadLeaf`. The bound is the least
-/// of those of the leaves. Under TYPE TSP each of these is that of a least 1-tree under the leaf's
-/// potentials, its multipliers of families of sets, and the decisions above it. Under TYPE ATSP
-/// it is that of the least link from each node, and a leaf whose decisions leave some node no link
-/// counts for nothing. The fixed pairs are taken in all cases. For TYPE CVRP, call [`crate::judge`].
+/// The reasons against the certificate are those from `NotBranches` to `BadLeaf`. The bound is the
+/// smallest one of a leaf. For a TSP, a leaf's bound is that of a minimum 1-tree under its
+/// potentials, its multipliers of families of sets, and the decisions above it. For an ATSP, it is
+/// that of the least arc from each node, and a leaf whose decisions leave some node without an arc
+/// has no bound. The fixed pairs are taken in all cases. For a CVRP, call [`crate::judge`].
 ///
 /// # Requires
 ///
@@ -109,7 +110,7 @@ pub fn judge_tour_bound(
 ///
 /// # Errors
 ///
-/// Out of memory, and then no reason up to `NodeOutOfRange` applies.
+/// Out of memory. Then no reason up to `NodeOutOfRange` applies.
 pub fn judge_tour_branches(
     alloc: Global,
     instance: &Instance,

@@ -1,6 +1,7 @@
-//! The bound that a certificate gives the tours of an instance, and which TYPEs it can be for. A
-//! tree of cases is judged here, with the fixed pairs as decisions of all its cases; potentials in
-//! `potentials_certificate.rt`, and the trees of a CVRP in `routes.rt`.
+//! The bound that a certificate gives for tours, and which TYPEs it can bound (`is_bounded`, which
+//! tsp_judge calls). Judges branches files for tours here, and sends potentials to
+//! `potentials_certificate.rt`; `routes.rt` judges branches files for routes. `IsBoundBy` in
+//! `specs/Certified.antt` pins the bound.
 
 ghost use Rattle.tsp_verdict.specs.Prelude.{All, Some, IfOk, IsOk, IsErr, true, length, map, MatchResult, nodes_of, is_branches_file, HoldsCases, HoldsMemory, take_pairs};
 ghost use Rattle.std.specs.Prelude.{◌≡◌, ◌⊎◌, ◌≤◌};
@@ -45,13 +46,14 @@ pub fn is_bounded(by: CertificateKind, kind: Kind) -> bool
     }
 }
 
-/// The bound of the tours by a certificate, or the first reason against it.
+/// The bound that a certificate gives for tours, or that the instance has no tour, or the first
+/// reason against the certificate.
 ///
-/// Or that the instance has no tour. Duals take no memory.
+/// Duals take no memory.
 ///
 /// # Errors
 ///
-/// Out of memory, and then no reason applies to the certificate that is found without it.
+/// Out of memory. Then no reason that is found without memory applies to the certificate.
 pub(crate) fn bound_by(
     alloc: Global,
     by: CertificateKind,
@@ -81,13 +83,12 @@ pub(crate) fn bound_by(
 
 // ---- the bound that a tree of cases gives tours, or the first reason against it
 
-/// The bound that a certificate by branching gives an instance of TYPE TSP or ATSP, or that it has
-/// no tour; or the first reason against the certificate.
+/// The bound that a branches file gives for a TSP or an ATSP, or that the instance has no tour, or
+/// the first reason against the file.
 ///
 /// # Errors
 ///
-/// Out of memory, and then neither `NotBranches` nor `BranchesDimension` applies to the
-/// certificate.
+/// Out of memory. Then neither `NotBranches` nor `BranchesDimension` applies to the certificate.
 fn tour_tree_bound(
     alloc: Global,
     instance: &Instance,
@@ -105,7 +106,7 @@ fn tour_tree_bound(
         Ok(tree) => tree,
         Err(reason) => return Ok(BoundVerdict::No(reason)),
     };
-    // A view has found once and for all where the costs are.
+    // Each view is its own type, so that no lookup of a cost has to find out where the costs are.
     match instance.view() {
         View::Plane(points) => match points.euclidean() {
             Some(euclidean) => judge_tour_tree(alloc, instance, branches, &tree, &euclidean),
@@ -117,11 +118,11 @@ fn tour_tree_bound(
     }
 }
 
-/// The tree that a certificate holds.
+/// The tree in a branches file.
 ///
 /// # Errors
 ///
-/// `NotBranches` or `BranchesDimension`: the reasons that show before the tree is looked at.
+/// `NotBranches` or `BranchesDimension`, the reasons that come before the tree.
 pub(crate) fn tree_of<'a>(instance: &Instance, branches: &'a File) -> Result<TreeData<'a>, Reason>
     ensures { MatchResult result (λ tree. (is_branches_file branches.now.kind ≡ true)
         × (nodes_of branches.now ≡ nodes_of instance.now)
@@ -140,8 +141,8 @@ pub(crate) fn tree_of<'a>(instance: &Instance, branches: &'a File) -> Result<Tre
     Ok(tree)
 }
 
-/// The bound over the costs of a view, or the first reason against the families, the branches or
-/// the leaves.
+/// The bound over these costs, or the first reason against the families, the branches or the
+/// leaves.
 ///
 /// # Errors
 ///
@@ -186,7 +187,8 @@ fn judge_tour_tree<C: Costs>(
     Ok(found_by_tree(verdict))
 }
 
-/// What a certificate gives, by the verdict on its tree of cases, for tours and for routes.
+/// What a certificate gives, by the verdict on its tree of cases. Tours and routes share this
+/// table.
 pub(crate) fn found_by_tree(verdict: TreeVerdict) -> BoundVerdict
     requires { IsNumbered verdict }
     ensures { result ≡ found_by_tree verdict }
@@ -217,10 +219,10 @@ pub(crate) fn found_by_tree(verdict: TreeVerdict) -> BoundVerdict
     }
 }
 
-// ---- memories and subset rows, which are for routes alone
+// ---- memories and subset rows, which are only for routes
 
-/// The reason against a certificate for tours that lists memories or subset rows; none if it lists
-/// neither.
+/// The reason against a branches file for tours that lists memories or subset rows; `None` if it
+/// lists neither.
 fn memory_reason(memories: &[Vec<u32>], rows: &[RowSets]) -> Option<Reason>
     requires { All (λ list. 1 ≤ length list.items) memories.now }
     ensures { IsMemoryReason (map (λ list. list.items) memories.now) (subset_rows_of rows.now) result }
@@ -236,7 +238,7 @@ fn memory_reason(memories: &[Vec<u32>], rows: &[RowSets]) -> Option<Reason>
     None
 }
 
-/// The first bad family of a certificate for tours, counted from 1.
+/// The first bad family of a branches file for tours, counted from 1.
 ///
 /// # Errors
 ///
@@ -253,7 +255,7 @@ fn first_bad_family<C: Costs>(
     }
 }
 
-/// That a family is bad, if there is one; or else another reason.
+/// `BadFamily` if a family is bad, otherwise the other reason.
 fn family_or(family: Option<u32>, reason: Reason) -> Reason
     ensures { result ≡ family_or family reason }
 {
@@ -265,8 +267,8 @@ fn family_or(family: Option<u32>, reason: Reason) -> Reason
 
 // ---- the fixed pairs of an instance as decisions of all cases, each once
 
-/// Pairs as decisions that take them, each once: without those that are an earlier one; if pairs
-/// have no direction, in either.
+/// Decisions that take these pairs, each pair once. Without a direction, (i, j) and (j, i) are one
+/// pair.
 ///
 /// # Errors
 ///
@@ -293,7 +295,7 @@ fn taken_once(alloc: Global, directed: bool, pairs: &[(u32, u32)]) -> Result<Vec
 
 // ---- a pair of nodes as the key of a set of pairs
 
-/// A pair as a set of pairs has it: as it is, or with its smaller node first if pairs have no
+/// A pair as the key of a set: unchanged, or with its smaller node first if pairs have no
 /// direction.
 pub(crate) fn key_of(directed: bool, pair: (u32, u32)) -> (u32, u32)
     ensures { result ≡ key_of directed pair }

@@ -1,21 +1,22 @@
 //! Laws that state values of the definitions in `specs/`, worked out by hand: which reasons apply
-//! to small instances, tours, routes and certificates, in which order, and with which bounds.
+//! to small instances, tours, routes and certificates, in which order, and with which bounds. No
+//! code calls them. If someone makes the same mistake in a definition and in the code, every
+//! contract still holds, but one of these laws fails.
 
-ghost use Rattle.tsp_verdict.specs.Prelude.{[], None, Some, pos, negsuc, ℕ, Option, ℤ, Branch, Leaf, cost, scale_in, Fields, nodes_of, IsAdjustedBound, entry, is_directed, depot_of, capacity_of, routing_of, IsPlanOf, decided_number, IsLeastRoutes, plan_length, CertificateKind};
+ghost use Rattle.tsp_verdict.specs.Prelude.{[], None, Some, true, false, pos, negsuc, ℕ, Option, ℤ, Branch, Leaf, cost, scale_in, Fields, nodes_of, IsAdjustedBound, entry, is_directed, depot_of, capacity_of, routing_of, IsPlanOf, decided_number, IsLeastRoutes, plan_length, CertificateKind};
 ghost use Rattle.std.specs.Prelude.{◌≡◌, ◌∷◌, ◌+◌, ◌*◌, ◌<◌, ◌+ℤ◌, ◌*ℤ◌, ◌<ℤ◌};
 ghost use Rattle.tsp_format.specs.declared.keyword.Field.TheVariants as fields;
 ghost use Rattle.tsp_format.specs.declared.kinds.Kind.TheVariants as kinds;
 ghost use Rattle.tsp_cases.specs.CaseTrees.{IsCaseTreeBound};
 ghost use Rattle.tsp_cases.specs.Examples.{with_pair};
 ghost use Rattle.tsp_routing.specs.PlanVerdicts.{HasTooManyLoads, IsBoundFound};
-ghost use Rattle.tsp_verdict.specs.SolutionVerdict.{IsKnownBoundOfRoutes, IsAsClaimed, IsOtherClaimed, IsOfLength, IsVerdictOn, IsVerdictWith, HasLength, HasNoLength};
+ghost use Rattle.tsp_verdict.specs.SolutionVerdict.{IsLeastKnownBy, IsAsClaimed, IsOtherClaimed, IsOfLength, IsVerdictOn, IsVerdictWith, HasLength, HasNoLength};
 ghost use Rattle.tsp_verdict.specs.Certified.{AppliesToInstance, AppliesToTouring, AppliesToRouting, AppliesToCertificate, NoneWithoutMemory, IsCertifiedTourVerdict, IsCertifiedRoutesVerdict};
-ghost use Rattle.tsp_verdict.specs.Certificates.{given_in, unit_in, AppliesToBranches, AppliesToQRoutes, HasBoundByBranches, HasBoundByQRoutes, case_steps_in, AppliesToPotentials, IsBoundByNodes, IsBoundByDuals};
-ghost use Rattle.tsp_verdict.specs.Examples.{instance_with, of_nodes, of_rows, of_both, multiplying, vehicles, carrying, solution, sized, lone, both, branching, two_leaves, three_leaves, node_twice, IsJudgedBefore, halves_of_nodes, halves_of_rows, halves_of_leaf, by_fives, bad_leaves};
+ghost use Rattle.tsp_verdict.specs.Certificates.{given_in, unit_in, by_runs_in, AppliesToBranches, AppliesToQRoutes, HasBoundByBranches, HasBoundByQRoutes, case_steps_in, AppliesToPotentials, IsBoundByNodes, IsBoundByDuals};
+ghost use Rattle.tsp_verdict.specs.Examples.{instance_with, of_nodes, of_rows, of_both, multiplying, vehicles, carrying, solution, sized, lone, both, branching, two_leaves, three_leaves, node_twice, IsJudgedBefore, halves_of_nodes, halves_of_rows, halves_of_leaf, by_fives, remembering, pair_row, bad_leaves};
 ghost use Rattle.tsp_theory.specs.Examples.{two, three, four};
 ghost use Rattle.tsp_verdict.specs.Solutions.{total_of, AppliesToRoutes, NoneOfRoutesBeforeRepeats, IsRoutesVerdict, AppliesToTour, NoneOfTourBeforeRepeats, IsTourVerdict};
 ghost use Rattle.tsp_report.specs.declared.task.CertificateKind.TheVariants as certificates;
-ghost use Rattle.tsp_report.specs.declared.verdict.KnownBound.TheVariants as known_bounds;
 ghost use Rattle.tsp_report.specs.declared.verdict.Reason.TheVariants as reasons;
 ghost use Rattle.tsp_report.specs.declared.verdict.Verdict.TheVariants as verdicts;
 
@@ -211,6 +212,22 @@ pub fn examples_against_trees()
         (branching 4 [] (Branch 1 2 ∷ two_leaves)) (reasons.BranchTwice 1) }
     ensures past_the_nodes { AppliesToBranches (instance_with kinds.Tsp 4 [])
         (branching 4 [] (Leaf ((5, pos 1) ∷ []) ∷ [])) (reasons.BadLeaf 1) }
+    ensures memory { AppliesToBranches (instance_with kinds.Tsp 4 [])
+        (remembering ((3 ∷ 2 ∷ []) ∷ (4 ∷ []) ∷ []) []) (reasons.BadMemory 3) }
+    ensures one_memory { AppliesToBranches (instance_with kinds.Tsp 4 [])
+        (remembering ((3 ∷ 2 ∷ []) ∷ []) []) (reasons.BadMemory 3) }
+    ensures not_the_remembered { ¬ AppliesToBranches (instance_with kinds.Tsp 4 [])
+        (remembering ((3 ∷ 2 ∷ []) ∷ []) []) (reasons.BadMemory 2) }
+    ensures no_memory { ¬ AppliesToBranches
+        (instance_with kinds.Tsp 4 []) (remembering [] []) (reasons.BadMemory 3) }
+    ensures row { AppliesToBranches (instance_with kinds.Tsp 4 [])
+        (remembering [] (pair_row ∷ pair_row ∷ [])) (reasons.BadRow 1) }
+    ensures one_row { AppliesToBranches (instance_with kinds.Tsp 4 [])
+        (remembering [] (pair_row ∷ [])) (reasons.BadRow 1) }
+    ensures first_row { ¬ AppliesToBranches (instance_with kinds.Tsp 4 [])
+        (remembering [] (pair_row ∷ pair_row ∷ [])) (reasons.BadRow 2) }
+    ensures no_row { ¬ AppliesToBranches
+        (instance_with kinds.Tsp 4 []) (remembering [] []) (reasons.BadRow 1) }
     ensures given_once { given_in (instance_with kinds.Tsp 4 ((1, 2) ∷ (3, 4) ∷ (2, 1) ∷ []))
         ≡ with_pair 1 2 ∷ with_pair 3 4 ∷ [] }
 {}
@@ -261,8 +278,8 @@ pub fn examples_of_plans()
     ensures nothing { IsLeastRoutes (pos 0) (pos 8) 0 }
 {}
 
-/// What is known out of memory: no reason applies that is found without it. The last of those
-/// before the first one that needs memory is named, and one before it.
+/// What is known if memory runs out: no reason applies that is found without memory. Here are the
+/// last of these reasons, and one before it.
 pub fn examples_of_reasons_before_memory()
     ensures length { (inst sol : Fields)
         → AppliesToTour inst sol reasons.TourLength → ¬ NoneOfTourBeforeRepeats inst sol }
@@ -283,7 +300,7 @@ pub fn examples_of_reasons_before_memory()
         → ¬ NoneWithoutMemory certificates.Branches inst cert }
 {}
 
-/// When the number of nodes that routes state is another one than the instance has.
+/// When the DIMENSION of routes differs from the instance's.
 pub fn examples_of_dimensions_of_routes()
     ensures below { AppliesToRoutes (carrying (pos 8)) (sized 3 []) reasons.Dimension }
     ensures above { AppliesToRoutes (carrying (pos 8)) (sized 5 []) reasons.Dimension }
@@ -333,7 +350,7 @@ pub fn examples_of_accepted()
         → least ≡ 2 }
 {}
 
-/// When the reasons against routes apply whose depot is node 2.
+/// When the reasons against routes apply if the depot is node 2.
 pub fn examples_of_depots()
     ensures demand { AppliesToRoutes (vehicles (2 ∷ []) (pos 0) (pos 4) (pos 8))
         (solution []) reasons.DepotDemand }
@@ -347,7 +364,7 @@ pub fn examples_of_depots()
         (lone (two 3 4)) (reasons.Unserved 1) }
 {}
 
-/// When the reasons against an instance of routes apply, whatever the routes.
+/// When the reasons against a CVRP apply, whatever the routes.
 pub fn examples_against_routing()
     ensures one_node { AppliesToRouting (instance_with kinds.Cvrp 1 []) reasons.TooFewNodes }
     ensures two_nodes { ¬ AppliesToRouting (instance_with kinds.Cvrp 2 []) reasons.TooFewNodes }
@@ -363,7 +380,7 @@ pub fn examples_against_routing()
     ensures not_fixed { ¬ AppliesToRouting (instance_with kinds.Cvrp 4 []) reasons.FixedEdgesInRoutes }
     ensures no_solution { ¬ AppliesToRouting (instance_with kinds.Cvrp 4 []) reasons.NotASolution }
     ensures least { (inst : Fields) (least : ℕ) → total_of inst ≡ pos 12 → capacity_of inst ≡ pos 8
-        → IsKnownBoundOfRoutes inst (known_bounds.Routes least None) → least ≡ 2 }
+        → IsLeastKnownBy (Some kinds.Cvrp) inst (Some least) → least ≡ 2 }
 {}
 
 /// Which of two nodes a reason names first: the smaller one of a pair with two costs, and the row
@@ -397,10 +414,19 @@ pub fn examples_of_bounds()
 pub fn examples_of_load_units()
     ensures fives { unit_in by_fives ≡ 5 }
     ensures missing { unit_in (branching 4 [] (Leaf [] ∷ [])) ≡ 1 }
+    ensures beside_a_scale { unit_in halves_of_leaf ≡ 1 }
     ensures too_many { AppliesToQRoutes (carrying (pos 8)) by_fives reasons.TooManyLoads
         → HasTooManyLoads (routing_of (carrying (pos 8))) 5 }
     ensures bound { (found : Option ℤ) → HasBoundByQRoutes (carrying (pos 8)) by_fives found
         → IsBoundFound (routing_of (carrying (pos 8))) (pos 1) 5 [] (Leaf [] ∷ []) found }
+{}
+
+/// Whether a certificate for routes has its leaves bounded by runs: if it has a memory or a row.
+pub fn examples_of_runs()
+    ensures neither { by_runs_in (branching 4 [] (Leaf [] ∷ [])) ≡ false }
+    ensures empty { by_runs_in (remembering [] []) ≡ false }
+    ensures memory { by_runs_in (remembering ((3 ∷ 2 ∷ []) ∷ []) []) ≡ true }
+    ensures row { by_runs_in (remembering [] (pair_row ∷ [])) ≡ true }
 {}
 
 /// The first of two customers that no route serves, and the first of two bad leaves.

@@ -1,20 +1,19 @@
-//! What holds for all solutions of an instance: a bound, or the reason against all of them. It is
-//! known before any solution is read (`judge_known_bound`), and is all that `tsp bound` asks for
-//! (`judge_bound`).
+//! What holds for all solutions of an instance: a bound, or a reason against all of them. tsp_judge
+//! calls `judge_bound` for `tsp bound`, and `judge_known_bound` before it reads the solutions of a
+//! comparison. The order of the tests decides the reason, so keep it (`IsBoundVerdict` in
+//! `specs/Certified.antt`).
 
 ghost use Rattle.tsp_verdict.specs.Prelude.{IsTrue, None, Some, MatchResult, option_map, Fields, nodes_of, capacity_of, IsLeastRoutes, CertificateKind};
 ghost use Rattle.std.specs.Prelude.{◌≡◌, ◌⊎◌, ◌≤◌};
 ghost use Rattle.tsp_format.specs.declared.kinds.Kind.TheVariants as kinds;
-ghost use Rattle.tsp_verdict.specs.SolutionVerdict.{IsKnownBound, IsKnownBoundBy, IsKnownBoundOfToursBy, IsKnownBoundOfRoutesBy, IsKnownBoundOfRoutes, NoneOfKnownBoundWithoutMemory, is_judged};
+ghost use Rattle.tsp_verdict.specs.SolutionVerdict.{IsKnownBound, IsKnownBoundWith, IsFoundWith, IsLeastKnownBy, NoneOfKnownBoundWithoutMemory, is_judged};
 ghost use Rattle.tsp_verdict.specs.Certified.{IsBoundVerdict, AppliesToTouring, NoneAgainstTouring, NoneAgainstInstance, is_bounded, NoneWithoutMemory};
 ghost use Rattle.tsp_verdict.specs.Solutions.{total_of, IsFirstReason};
 ghost use Rattle.tsp_verdict.specs.states.TourKnownBounds.{against_instance, AreTourCosts};
 ghost use Rattle.tsp_report.specs.declared.task.CertificateKind.TheVariants as certificates;
 
 use crate::certificate::bound_by;
-use crate::routes::{
-    FEWEST_NODES_OF_ROUTES, depot_of_routes, least_routes, plan_tree_bound, the_depot,
-};
+use crate::routes::{depot_of_routes, least_routes, plan_tree_bound};
 use crate::tour::{FEWEST_NODES_OF_TOURS, TourCosts, routing, tour_costs};
 use std::alloc::Global;
 use tsp_cost::{Costs, Instance};
@@ -25,18 +24,18 @@ use tsp_report::{BoundVerdict, CertificateKind, KnownBound, Reason};
 
 /// The bound of all solutions of an instance, or the reason against all of them.
 ///
-/// The reason is the first that applies whatever the solution: `TooFewNodes` and `NotSymmetric` for
-/// tours, or `TooFewNodes`, `DepotCount`, `DepotDemand` and `FixedEdgesInRoutes` for routes, or one
-/// against the certificate. If none applies, the bound is that of the certificate, as
-/// [`judge_bound`] finds it, along with the least number of routes for TYPE CVRP.
+/// The reason is the first one that applies to every solution: `TooFewNodes` and `NotSymmetric` for
+/// tours; `TooFewNodes`, `DepotCount`, `DepotDemand` and `FixedEdgesInRoutes` for routes; then
+/// those against the certificate. If none applies, the bound is the certificate's, as
+/// [`judge_bound`] finds it. For a CVRP, the least number of routes comes with it.
 ///
 /// # Requires
 ///
-/// A TYPE whose solutions are judged so: with a certificate one that [`crate::is_bounded`] accepts.
+/// An instance whose TYPE the certificate, if there is one, can bound ([`crate::is_bounded`]).
 ///
 /// # Errors
 ///
-/// Out of memory, as of [`judge_bound`]. Without a certificate no memory is taken.
+/// Out of memory, as in [`judge_bound`]. Without a certificate, no memory is taken.
 pub fn judge_known_bound(
     alloc: Global,
     instance: &Instance,
@@ -54,82 +53,59 @@ pub fn judge_known_bound(
     }
 }
 
-/// What [`judge_known_bound`] finds of an instance without a certificate. No memory is taken.
+/// What [`judge_known_bound`] finds without a certificate. No memory is taken.
 pub fn known_bound_alone(instance: &Instance) -> KnownBound
     ensures { IsKnownBound None instance.now result }
 {
-    match instance.kind() {
-        Kind::Cvrp => known_bound_of_routes(instance),
-        _ => match costs_of_tours(instance) {
-            Ok(_) => KnownBound::Tours { bound: None },
-            Err(reason) => KnownBound::No(reason),
-        },
+    KnownBound {
+        least: least_of(instance),
+        found: found_alone(instance),
     }
 }
 
-/// What is known of all routes.
-fn known_bound_of_routes(instance: &Instance) -> KnownBound
-    requires { instance.now.kind ≡ Some kinds.Cvrp }
-    ensures { IsKnownBoundOfRoutes instance.now result }
+/// The first reason that applies to every solution of an instance.
+fn found_alone(instance: &Instance) -> Option<BoundVerdict>
+    ensures judged { IsTrue (is_judged None instance.now.kind) }
+    ensures found { IsFoundWith None instance.now result }
 {
-    if instance.count() < FEWEST_NODES_OF_ROUTES {
-        return KnownBound::No(Reason::TooFewNodes);
-    }
-    let routing = routing(instance);
-    match the_depot(instance, &routing) {
-        Ok(_) => KnownBound::Routes {
-            least: least_routes(routing.demands, routing.capacity),
-            bound: None,
+    match instance.kind() {
+        Kind::Cvrp => match depot_of_routes(instance) {
+            Ok(_) => None,
+            Err(reason) => Some(BoundVerdict::No(reason)),
         },
-        Err(reason) => KnownBound::No(reason),
+        _ => match costs_of_tours(instance) {
+            Ok(_) => None,
+            Err(reason) => Some(BoundVerdict::No(reason)),
+        },
     }
 }
 
-/// What [`judge_known_bound`] finds of an instance with a certificate, by what [`judge_bound`] has
-/// found of the two.
+/// What [`judge_known_bound`] finds with a certificate, given what [`judge_bound`] has found.
 pub fn known_bound_of(instance: &Instance, found: BoundVerdict) -> KnownBound
     ensures { (by : CertificateKind) (certificate : Fields)
         → IsBoundVerdict by instance.now certificate found
-        → IsKnownBoundBy instance.now.kind by instance.now certificate result }
+        → IsKnownBoundWith (Some (by, certificate)) instance.now result }
+{
+    let least = least_of(instance);
+    KnownBound {
+        least,
+        found: Some(found),
+    }
+}
+
+/// The least number of routes that carry all demands of an instance; `None` if its solutions are
+/// tours.
+fn least_of(instance: &Instance) -> Option<u64>
+    ensures { IsLeastKnownBy instance.now.kind instance.now result }
 {
     match instance.kind() {
-        Kind::Cvrp => routes_known_bound_of(instance, found),
-        _ => tours_known_bound_of(found),
-    }
-}
-
-/// What [`known_bound_of`] finds of tours.
-fn tours_known_bound_of(found: BoundVerdict) -> KnownBound
-    ensures { (by : CertificateKind) (instance certificate : Fields)
-        → IsBoundVerdict by instance certificate found
-        → IsKnownBoundOfToursBy by instance certificate result }
-{
-    match found {
-        BoundVerdict::Bound(bound) => KnownBound::Tours { bound: Some(bound) },
-        BoundVerdict::NoSolution => KnownBound::NoSolution,
-        BoundVerdict::No(reason) => KnownBound::No(reason),
-    }
-}
-
-/// What [`known_bound_of`] finds of routes.
-fn routes_known_bound_of(instance: &Instance, found: BoundVerdict) -> KnownBound
-    requires { instance.now.kind ≡ Some kinds.Cvrp }
-    ensures { (by : CertificateKind) (certificate : Fields)
-        → IsBoundVerdict by instance.now certificate found
-        → IsKnownBoundOfRoutesBy by instance.now certificate result }
-{
-    match found {
-        BoundVerdict::Bound(bound) => KnownBound::Routes {
-            least: least_of(instance),
-            bound: Some(bound),
-        },
-        BoundVerdict::NoSolution => KnownBound::NoSolution,
-        BoundVerdict::No(reason) => KnownBound::No(reason),
+        Kind::Cvrp => Some(least_routes_of(instance)),
+        _ => None,
     }
 }
 
 /// The least number of routes that carry all demands of an instance.
-fn least_of(instance: &Instance) -> u64
+fn least_routes_of(instance: &Instance) -> u64
     requires { instance.now.kind ≡ Some kinds.Cvrp }
     ensures { IsLeastRoutes (total_of instance.now) (capacity_of instance.now) result }
 {
@@ -139,35 +115,38 @@ fn least_of(instance: &Instance) -> u64
     least_routes(routing.demands, routing.capacity)
 }
 
-/// The reason of a known bound that applies to the instance, whatever the tour and the certificate.
-pub(crate) fn against_instance(known_bound: KnownBound) -> Option<Reason>
-    ensures { result ≡ against_instance known_bound }
+/// The reason that was found against all tours, if it is against the instance and not the
+/// certificate.
+pub(crate) fn against_instance(found: Option<BoundVerdict>) -> Option<Reason>
+    ensures { result ≡ against_instance found }
 {
-    match known_bound {
-        KnownBound::No(Reason::TooFewNodes) => Some(Reason::TooFewNodes),
-        KnownBound::No(Reason::NotSymmetric { i, j }) => Some(Reason::NotSymmetric { i, j }),
+    match found {
+        Some(BoundVerdict::No(Reason::TooFewNodes)) => Some(Reason::TooFewNodes),
+        Some(BoundVerdict::No(Reason::NotSymmetric { i, j })) => {
+            Some(Reason::NotSymmetric { i, j })
+        }
         _ => None,
     }
 }
 
-// ---- the verdict on an instance with a certificate of a bound, without a solution
+// ---- the verdict on an instance and a certificate, without a solution
 
-/// The bound that a certificate gives the tours or the routes of an instance, or the first reason
-/// against either. No tour of the instance is shorter than the bound, or no plan whose routes each
-/// have a customer.
+/// The bound that a certificate gives for the tours or the routes of an instance, or the first
+/// reason against the instance or the certificate. No tour, or no plan without empty routes, is
+/// shorter than the bound.
 ///
-/// The reasons are `TooFewNodes` and `NotSymmetric` of tours, or `TooFewNodes`, `DepotCount`,
-/// `DepotDemand` and `FixedEdgesInRoutes` of routes, and then those of the certificate. That the
-/// instance has no solution is shown by a tree whose leaves all count for nothing.
+/// The reasons are `TooFewNodes` and `NotSymmetric` for tours, or `TooFewNodes`, `DepotCount`,
+/// `DepotDemand` and `FixedEdgesInRoutes` for routes, and then those against the certificate. A
+/// tree in which no leaf has a bound shows that the instance has no solution.
 ///
 /// # Requires
 ///
-/// A TYPE whose solutions have a bound by the certificate, which [`crate::is_bounded`] tests.
+/// An instance whose TYPE the certificate can bound ([`crate::is_bounded`]).
 ///
 /// # Errors
 ///
-/// Out of memory, and then no reason applies to the instance, and none to the certificate that is
-/// found without memory: `NotPotentials` to `PotentialsKind`, or `NotBranches` and
+/// Out of memory. Then no reason applies to the instance, and none that is found without memory
+/// applies to the certificate: `NotPotentials` to `PotentialsKind`, or `NotBranches` and
 /// `BranchesDimension`.
 pub fn judge_bound(
     alloc: Global,
@@ -187,11 +166,12 @@ pub fn judge_bound(
     }
 }
 
-/// The bound that a certificate gives the tours of an instance, or the first reason against either.
+/// The bound that a certificate gives for tours, or the first reason against the instance or the
+/// certificate.
 ///
 /// # Errors
 ///
-/// Out of memory, as of [`judge_bound`].
+/// Out of memory, as in [`judge_bound`].
 fn tours_bound(
     alloc: Global,
     by: CertificateKind,
@@ -210,12 +190,12 @@ fn tours_bound(
     }
 }
 
-/// The bound that a certificate by branching gives the routes of an instance, or the first reason
-/// against either.
+/// The bound that a branches file gives for routes, or the first reason against the instance or the
+/// file.
 ///
 /// # Errors
 ///
-/// Out of memory, as of [`judge_bound`].
+/// Out of memory, as in [`judge_bound`].
 fn routes_bound(
     alloc: Global,
     instance: &Instance,
@@ -237,7 +217,7 @@ fn routes_bound(
 ///
 /// # Errors
 ///
-/// `TooFewNodes` or `NotSymmetric`, which apply whatever the tour.
+/// `TooFewNodes` or `NotSymmetric`, which apply to every tour.
 pub(crate) fn costs_of_tours(instance: &Instance) -> Result<TourCosts<'_>, Reason>
     requires { (instance.now.kind ≡ Some kinds.Tsp) ⊎ (instance.now.kind ≡ Some kinds.Atsp) }
     ensures { MatchResult result

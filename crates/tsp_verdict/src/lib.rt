@@ -1,7 +1,7 @@
 //! The verdict on a solution of an instance: the first reason against it, or its length and bound.
 //! Or the bound of an instance without a solution.
 //!
-//! It judges files in memory. It reads and writes nothing: that is tsp_judge's.
+//! It judges files in memory. Reading and writing is up to tsp_judge.
 //!
 //! As example_check does it, with an instance of TYPE TSP or ATSP:
 //!
@@ -10,7 +10,7 @@
 //! Ok(judge_tour(alloc, &instance, &solution)?)
 //! ```
 //!
-//! Routes with a certificate have no call of their own: [`judge`] takes every TYPE and certificate.
+//! For routes with a certificate, call [`judge`], which takes every TYPE and certificate.
 #![tactic(auto)]
 
 mod api;
@@ -33,7 +33,7 @@ pub use examples::{
     examples_of_dimensions_of_routes, examples_of_first_reasons, examples_of_fixed_arcs,
     examples_of_load_units, examples_of_multipliers, examples_of_order,
     examples_of_order_of_routes, examples_of_other_claims, examples_of_pairs, examples_of_plans,
-    examples_of_reasons_before_memory,
+    examples_of_reasons_before_memory, examples_of_runs,
 };
 pub use known_bound::{judge_bound, judge_known_bound, known_bound_alone, known_bound_of};
 pub use one_verdict::files_have_one_verdict;

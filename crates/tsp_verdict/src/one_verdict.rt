@@ -1,4 +1,5 @@
-//! A law: files have one verdict, and an instance with a certificate one bound. No code calls it.
+//! A law: files have one verdict, and an instance with a certificate one bound. No code calls it:
+//! it shows a reader that a report depends on the files alone, whoever makes it.
 
 ghost use Rattle.tsp_verdict.specs.SolutionVerdict.{FilesHaveOneVerdict, FilesHaveOneBound, FilesHaveOneKnownBound, SolutionsHaveOneVerdict};
 

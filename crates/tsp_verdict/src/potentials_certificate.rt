@@ -1,4 +1,6 @@
-//! The bound that a file of potentials gives tours, or the first reason against it.
+//! The bound that a potentials file gives for tours, or the first reason against the file.
+//! `certificate.rt` calls it. The order of the tests decides the reason, so keep it
+//! (`specs/Certificates.antt`).
 
 ghost use Rattle.tsp_verdict.specs.Prelude.{All, AllPairs, false, true, length, Some, IfOk, IsErr, MatchOption, MatchResult, ℕ, List, most_triples, IsNode, cost, fixed_of, multipliers_in, HoldsNodeNumbers, HoldsDuals, nodes_of, is_potentials_file, AreOnPairs, pair_of, is_same_pair, IsSymmetric};
 ghost use Rattle.std.specs.Prelude.{◌≡◌, ◌≤◌, ◌^◌, ◌<◌};
@@ -8,7 +10,8 @@ ghost use Rattle.tsp_bound.specs.states.Duals.{dual_scale as scale_of_duals, row
 ghost use Rattle.tsp_bound.specs.states.Potentials.{triples_of, scale_of, numbers_of};
 ghost use Rattle.tsp_verdict.specs.Certified.{IsCertified, FindsBound, NoneWithoutMemory};
 ghost use Rattle.tsp_verdict.specs.Certificates.{AreListed, IsUnlisted, IsPairRepeated, has_wanted, BreaksDuals, AppliesToPotentials};
-ghost use Rattle.tsp_verdict.specs.Solutions.{IsFirstPlace, IsFirstReason};
+ghost use Rattle.tsp_theory.specs.First.{IsFirstPlace};
+ghost use Rattle.tsp_verdict.specs.Solutions.{IsFirstReason};
 ghost use Rattle.tsp_verdict.specs.states.PairSets.{HasPairs};
 ghost use Rattle.tsp_report.specs.declared.task.CertificateKind.TheVariants as certificates;
 
@@ -23,7 +26,7 @@ use tsp_io::{Refused, insert};
 use tsp_report::{BoundVerdict, Reason};
 use tsp_theory::{adjusted_bounds_bound_cycles, duals_bound_cycles};
 
-/// The potentials of nodes that a certificate holds, and its multipliers of fixed pairs.
+/// A certificate's potentials of nodes, and its multipliers of fixed pairs.
 #[derive(Clone, Copy)]
 struct NodeNumbers<'a> {
     potentials: Potentials<'a>,
@@ -32,11 +35,11 @@ struct NodeNumbers<'a> {
     triples: &'a [(u32, u32, i64)],
 }
 
-/// The bound of a TSP by potentials of nodes, or the first reason against them.
+/// The bound that potentials of nodes give for a TSP, or the first reason against them.
 ///
 /// # Errors
 ///
-/// Out of memory, and then no reason up to `PotentialsKind` applies to the certificate.
+/// Out of memory. Then no reason up to `PotentialsKind` applies to the certificate.
 pub(crate) fn bound_by_nodes(
     alloc: Global,
     inst: &Instance,
@@ -64,8 +67,8 @@ pub(crate) fn bound_by_nodes(
     Ok(BoundVerdict::Bound(bound))
 }
 
-/// The bound that the potentials of rows and columns give an instance of TYPE ATSP, or the first
-/// reason against the certificate.
+/// The bound that potentials of rows and columns give for an ATSP, or the first reason against the
+/// certificate.
 pub(crate) fn bound_by_duals(inst: &Instance, view: View<'_>, pot: &File) -> BoundVerdict
     requires kind { inst.now.kind ≡ Some kinds.Atsp }
     requires some { 3 ≤ nodes_of inst.now }
@@ -87,7 +90,7 @@ pub(crate) fn bound_by_duals(inst: &Instance, view: View<'_>, pot: &File) -> Bou
     }
 }
 
-/// The first reason against a certificate that needs no look at its potentials.
+/// The first reason against a certificate that shows before its potentials are read.
 fn first_against_file(inst: &Instance, pot: &File) -> Option<Reason>
     ensures { MatchOption result
         ((is_potentials_file pot.now.kind ≡ true) × (pot.now.kind ≡ Some kinds.Potentials)
@@ -103,7 +106,7 @@ fn first_against_file(inst: &Instance, pot: &File) -> Option<Reason>
     None
 }
 
-/// The duals that a certificate holds; none if it holds none.
+/// The duals in a certificate, if there are any.
 fn duals_of(pot: &File) -> Option<Duals<'_>>
     requires { pot.now.kind ≡ Some kinds.Potentials }
     ensures { MatchOption result
@@ -115,7 +118,7 @@ fn duals_of(pot: &File) -> Option<Duals<'_>>
     Duals::new(held.scale, held.rows, held.columns)
 }
 
-/// The potentials of nodes that a certificate holds; none if it holds none.
+/// The potentials of nodes in a certificate, if there are any.
 fn node_numbers(pot: &File) -> Option<NodeNumbers<'_>>
     requires { pot.now.kind ≡ Some kinds.Potentials }
     ensures { MatchOption result
@@ -132,8 +135,8 @@ fn node_numbers(pot: &File) -> Option<NodeNumbers<'_>>
     })
 }
 
-/// The first reason against the multipliers of a certificate of an instance of TYPE TSP. If no
-/// reason applies to them, they are on different pairs, each of which is fixed.
+/// The first reason against the multipliers of a certificate for a TSP. If none applies, they are
+/// on different pairs, each of which is fixed.
 ///
 /// # Errors
 ///
@@ -170,8 +173,8 @@ fn first_against_multipliers(
     Ok(None)
 }
 
-/// The bound that the duals of a certificate give an instance of TYPE ATSP, or the first pair that
-/// breaks them.
+/// The bound that the duals of a certificate give for an ATSP, or the first pair whose cost is too
+/// low for them.
 fn bound_of_duals(
     inst: &Instance,
     view: View<'_>,
@@ -188,7 +191,7 @@ fn bound_of_duals(
         (λ bound. IsCertified certificates.Potentials inst.now pot.now bound)
         (λ pair. BreaksDuals inst.now pot.now pair.i pair.j) }
 {
-    // A view has found once and for all where the costs are.
+    // Each view is its own type, so that no lookup of a cost has to find out where the costs are.
     match view {
         View::Plane(points) => assignment_bound(inst, &points, pot, duals),
         View::Space(points) => assignment_bound(inst, &points, pot, duals),
@@ -197,7 +200,7 @@ fn bound_of_duals(
     }
 }
 
-/// The bound that duals give over these costs, or the first pair that breaks them.
+/// The bound that duals give over these costs, or the first pair whose cost is too low for them.
 fn assignment_bound<C: Costs>(
     inst: &Instance,
     c: &C,
@@ -221,7 +224,7 @@ fn assignment_bound<C: Costs>(
     }
 }
 
-/// The bound that the potentials of a certificate give an instance of TYPE TSP.
+/// The bound that the potentials of a certificate give for a TSP.
 fn bound_of_potentials(
     alloc: Global,
     inst: &Instance,
@@ -298,7 +301,7 @@ fn first_unlisted(
     Ok(first_outside(&listed, triples))
 }
 
-/// The first triple, counted from 1, whose pair an earlier one has, in either direction.
+/// The first triple, counted from 1, with the same pair as an earlier one, in either direction.
 ///
 /// # Errors
 ///

@@ -1,5 +1,7 @@
-//! The verdict on the routes of a CVRP: the first reason against the instance or the plan, or how
-//! many routes there are and how long they are. Also the bound that a tree of cases gives routes.
+//! The verdict on routes: the first reason against the instance or the plan, or the number of
+//! routes and their length. Also the bound that a branches file gives for routes.
+//! `solution_verdict.rt` and `known_bound.rt` call it. The order of the tests decides the reason,
+//! so keep it (`specs/Solutions.antt`).
 
 ghost use Rattle.tsp_verdict.specs.Prelude.{All, length, pos, Some, MatchOption, MatchResult, ℕ, true, false, vec_len, slice_index_or, map, IfOk, IsErr, most_nodes, most_tour_nodes, most_capacity, IsNode, nodes_to, cost, HoldsCases, HoldsMemory, nodes_of, is_branches_file, IsFromTo, length_of, demand_of, load_of, IsLeastRoutes, plan_length, demands_of, depots_of, depot_of};
 ghost use Rattle.std.specs.Prelude.{◌≡◌, ◌≤◌, ◌≢◌, ◌+◌, ◌^◌, ◌<◌, ◌≤ℤ◌, ◌∷◌};
@@ -8,7 +10,8 @@ ghost use Rattle.tsp_format.specs.states.TreeSteps.{steps_of, subset_rows_of};
 ghost use Rattle.tsp_file.specs.Valid.{IsDemand};
 ghost use Rattle.tsp_file.specs.states.Drafts.{families_of};
 ghost use Rattle.tsp_verdict.specs.Certified.{AppliesToRouting, NoneAgainstRouting, FindsBound, NoneWithoutMemory};
-ghost use Rattle.tsp_verdict.specs.Solutions.{IsFirstPlace, IsLarger, IsAt, IsAtEarlierPlace, AreCustomers, IsFirstReason, NoneOfRoutesBeforePlaces, IsFirstAgainstRoutes, IsRoutesVerdict, NoneOfRoutesBeforeRepeats, IsOverloaded};
+ghost use Rattle.tsp_theory.specs.First.{IsFirstPlace};
+ghost use Rattle.tsp_verdict.specs.Solutions.{IsLarger, IsAt, IsAtEarlierPlace, AreCustomers, IsFirstReason, NoneOfRoutesBeforePlaces, IsFirstAgainstRoutes, IsRoutesVerdict, NoneOfRoutesBeforeRepeats, IsOverloaded};
 ghost use Rattle.tsp_verdict.specs.states.Marks.{Marked, AreToursOf, nodes_in, IsSumOf};
 ghost use Rattle.tsp_report.specs.declared.task.CertificateKind.TheVariants as certificates;
 
@@ -31,7 +34,8 @@ pub(crate) const FEWEST_NODES_OF_ROUTES: u32 = 2;
 ///
 /// # Errors
 ///
-/// Out of memory for a mark for each node, and then no reason up to `NodeOutOfRange` applies.
+/// Out of memory. It allocates a mark for each node, after the reasons up to `NodeOutOfRange`, none
+/// of which applies then.
 pub(crate) fn verdict_on_routes(
     alloc: Global,
     inst: &Instance,
@@ -80,7 +84,7 @@ pub(crate) fn verdict_on_routes(
     })
 }
 
-/// The only depot of an instance, or the first reason against it, whatever the routes.
+/// The only depot of an instance, or the first reason against the instance, whatever the routes.
 pub(crate) fn depot_of_routes(inst: &Instance) -> Result<u32, Reason>
     requires { inst.now.kind ≡ Some kinds.Cvrp }
     ensures { MatchResult result (λ depot. (2 ≤ nodes_of inst.now) × (depot ≡ depot_of inst.now)
@@ -96,8 +100,8 @@ pub(crate) fn depot_of_routes(inst: &Instance) -> Result<u32, Reason>
     }
 }
 
-/// The only depot of an instance of enough nodes, or the first reason against it, whatever the
-/// routes.
+/// The only depot of an instance with enough nodes, or the first reason against the instance,
+/// whatever the routes.
 pub(crate) fn the_depot(inst: &Instance, routing: &RoutingData<'_>) -> Result<u32, Reason>
     requires some { 2 ≤ nodes_of inst.now }
     requires demands { routing.now.demands.now ≡ demands_of inst.now }
@@ -121,7 +125,8 @@ pub(crate) fn the_depot(inst: &Instance, routing: &RoutingData<'_>) -> Result<u3
     Ok(*depot)
 }
 
-/// The first reason that one node alone shows: the depot, or a node that is too large.
+/// The first reason that a single node shows: the depot in a route, or else a node that is too
+/// large.
 fn first_against_places(
     inst: &Instance,
     sol: &File,
@@ -324,14 +329,16 @@ fn route_length(inst: &Instance, depot: u32, route: &[u32]) -> i64
 
 // ---- the bound that a tree of cases gives routes, or the first reason against it
 
-/// The bound of the routes by a tree of cases, or the first reason against it.
+/// The bound that a branches file gives for routes, or that the instance has no plan without empty
+/// routes, or the first reason against the file.
 ///
-/// Or that the instance, of TYPE CVRP, has no plan whose routes each have a customer.
+/// # Requires
+///
+/// A CVRP with two or more nodes, and its only depot.
 ///
 /// # Errors
 ///
-/// Out of memory, and then neither `NotBranches` nor `BranchesDimension` applies to the
-/// certificate.
+/// Out of memory. Then neither `NotBranches` nor `BranchesDimension` applies to the certificate.
 pub(crate) fn plan_tree_bound(
     alloc: Global,
     instance: &Instance,
@@ -354,7 +361,7 @@ pub(crate) fn plan_tree_bound(
 }
 
 /// The bound of a tree of cases, or the first reason against its families, memories, subset rows,
-/// branches, leaves, loads or kept states.
+/// branches or leaves, or because of too many loads or kept states.
 ///
 /// # Errors
 ///

@@ -1,18 +1,19 @@
-//! The verdict on a solution, with a certificate or with a bound that is known already, and with a
-//! claimed length, if any. `strict.rt` then adds the reasons of `--strict`.
+//! The verdict on a solution, with or without a certificate and a claimed length. tsp_judge calls
+//! `judge` for a check, and `judge_next` for each solution of a comparison. `IsVerdictWith` in
+//! `specs/SolutionVerdict.antt` pins the verdict.
 
-ghost use Rattle.tsp_verdict.specs.Prelude.{IsTrue, MatchResult, Option, option_map, true, false, None, Some, MatchOption, Fields, CertificateKind, Verdict};
-ghost use Rattle.std.specs.Prelude.{◌≡◌};
+ghost use Rattle.tsp_verdict.specs.Prelude.{IsTrue, MatchResult, Option, option_map, true, false, None, Some, MatchOption, Fields, CertificateKind};
+ghost use Rattle.std.specs.Prelude.{◌≡◌, ◌⊎◌};
 ghost use Rattle.tsp_format.specs.declared.kinds.Kind.TheVariants as kinds;
-ghost use Rattle.tsp_verdict.specs.SolutionVerdict.{IsKnownBound, IsVerdictFrom, is_judged, NoneBeforeRepeatsOn, IsVerdictWith, HasLength, HasNoLength, IsAsClaimed, IsOtherClaimed};
-ghost use Rattle.tsp_verdict.specs.states.TourKnownBounds.{tour_verdict, plan_verdict};
+ghost use Rattle.tsp_verdict.specs.Certified.{AppliesToTouring, NoneAgainstTouring};
+ghost use Rattle.tsp_verdict.specs.SolutionVerdict.{IsKnownBound, IsFoundWith, IsVerdictFrom, IsVerdictOn, is_judged, NoneBeforeRepeatsOn, IsVerdictWith, HasLength, HasNoLength, IsAsClaimed, IsOtherClaimed};
+ghost use Rattle.tsp_verdict.specs.Solutions.{IsFirstReason, IsTourVerdict, NoneOfTourBeforeRepeats, NoneOfRoutesBeforeRepeats};
+ghost use Rattle.tsp_verdict.specs.states.TourKnownBounds.{KnowsInstance, with_found};
 
 use crate::certificate::bound_by;
-use crate::known_bound::{against_instance, costs_of_tours, judge_known_bound, known_bound_of};
+use crate::known_bound::{against_instance, costs_of_tours, judge_bound};
 use crate::routes::verdict_on_routes;
-use crate::tour::{
-    TourCosts, first_against_nodes, first_unused_by, is_directed, solution_tours, the_tour,
-};
+use crate::tour::{first_against_nodes, first_unused_by, is_directed, solution_tours, the_tour};
 use std::alloc::Global;
 use tsp_cost::{Costs, Instance, tour_length};
 use tsp_file::File;
@@ -20,19 +21,19 @@ use tsp_format::Kind;
 use tsp_io::Refused;
 use tsp_report::{BoundVerdict, CertificateKind, KnownBound, Reason, Verdict};
 
-/// The verdict on a solution of an instance: on a tour, or for TYPE CVRP on routes.
+/// The verdict on a solution of an instance: a tour or, for a CVRP, routes.
 ///
-/// The reasons of [`crate::judge_tour`] or of [`crate::judge_routes`] are judged first. Then a
-/// length that is claimed has to be that of the solution, and is refused with `LengthClaimed` if
-/// it isn't. The reasons against a certificate are judged last.
+/// The reasons of [`crate::judge_tour`] or of [`crate::judge_routes`] come first. Then a solution
+/// whose length isn't the claimed one is rejected with `LengthClaimed`. The reasons against the
+/// certificate come last.
 ///
 /// # Requires
 ///
-/// A TYPE whose solutions are judged so: with a certificate one that [`crate::is_bounded`] accepts.
+/// An instance whose TYPE the certificate, if there is one, can bound ([`crate::is_bounded`]).
 ///
 /// # Errors
 ///
-/// Out of memory, and then no reason up to `NodeOutOfRange`, in the order of the TYPE, applies.
+/// Out of memory. Then no reason up to `NodeOutOfRange`, in the order for the TYPE, applies.
 pub fn judge(
     alloc: Global,
     instance: &Instance,
@@ -46,24 +47,22 @@ pub fn judge(
         (option_map (λ given. (given.0, given.1.now)) certificate.entry) claimed instance.now
         solution.now verdict) (λ refused. NoneBeforeRepeatsOn instance.now solution.now) }
 {
-    let judge_input = JudgeInput {
-        instance,
-        given: BoundOrigin::Certificate(certificate),
-    };
-    judge_input.verdict(alloc, solution, claimed)
+    match instance.kind() {
+        Kind::Cvrp => judge_plan(alloc, instance, solution, certificate, claimed),
+        _ => judge_cycle(alloc, instance, solution, certificate, claimed),
+    }
 }
 
-/// The verdict on a solution of an instance, by what [`crate::judge_known_bound`] found: the same
-/// as that of [`judge`] with the certificate that was judged there. Neither the costs of the
-/// instance nor the certificate are judged again.
+/// The verdict of [`judge`] with the certificate that [`crate::judge_known_bound`] has judged,
+/// given what it found. Neither the instance's costs nor the certificate are judged again.
 ///
 /// # Requires
 ///
-/// The known bound of the instance, with any certificate or without one.
+/// The known bound of this instance, with any certificate or without one.
 ///
 /// # Errors
 ///
-/// Out of memory, and then no reason up to `NodeOutOfRange`, in the order of the TYPE, applies.
+/// Out of memory. Then no reason up to `NodeOutOfRange`, in the order for the TYPE, applies.
 pub fn judge_next(
     alloc: Global,
     instance: &Instance,
@@ -76,258 +75,201 @@ pub fn judge_next(
         (λ verdict. IsVerdictFrom known_bound claimed instance.now solution.now verdict)
         (λ refused. NoneBeforeRepeatsOn instance.now solution.now) }
 {
-    let judge_input = JudgeInput {
-        instance,
-        given: BoundOrigin::KnownBound(known_bound),
-    };
-    judge_input.verdict(alloc, solution, claimed)
+    let verdict = verdict_alone(alloc, instance, known_bound.found, solution)?;
+    Ok(with_found(as_claimed(claimed, verdict), known_bound.found))
 }
 
-// ---- what a solution is judged by: an instance with a certificate, or with a known bound
-
-/// What solutions are judged by: an instance, and a certificate of a bound, if one is given, or
-/// what is known of all solutions by the two.
-///
-/// The verdict is the same either way. If it is known, neither the costs of the instance nor the
-/// certificate are judged again. If it isn't, the certificate is judged after the solution.
-#[derive(Clone, Copy)]
-pub(crate) struct JudgeInput<'a> {
-    pub(crate) instance: &'a Instance,
-    pub(crate) given: BoundOrigin<'a>,
-}
-
-impl<'a> JudgeInput<'a> {
-    ghost use Rattle.std.specs.Prelude.{◌≡◌, ◌⊎◌, Some, IfOk, MatchResult};
-    ghost use Rattle.tsp_format.specs.declared.kinds.Kind.TheVariants as kinds;
-    ghost use Rattle.tsp_verdict.specs.Certified.{AppliesToTouring, NoneAgainstTouring};
-    ghost use Rattle.tsp_verdict.specs.SolutionVerdict.{NoneBeforeRepeatsOn};
-    ghost use Rattle.tsp_verdict.specs.Solutions.{IsFirstReason};
-    ghost use Rattle.tsp_verdict.specs.Solutions.{NoneOfRoutesBeforeRepeats};
-    ghost use Rattle.tsp_verdict.specs.Solutions.{NoneOfTourBeforeRepeats};
-    ghost use Rattle.tsp_verdict.specs.states.TourKnownBounds.{IsJudgeInput, IsVerdictGiven, IsKnownBoundGiven, IsTourKnownBound};
-
-    /// The verdict on a solution: on a tour, or for TYPE CVRP on routes. If a length is claimed,
-    /// a solution of another length is rejected with `LengthClaimed`: after all other reasons
-    /// against the solution, and before those against the certificate.
-    ///
-    /// # Errors
-    ///
-    /// Out of memory, and then no reason up to `NodeOutOfRange`, in the order of the TYPE, applies.
-    pub(crate) fn verdict(
-        &self,
-        alloc: Global,
-        solution: &File,
-        claimed: Option<i64>,
-    ) -> Result<Verdict, Refused>
-        requires { IsJudgeInput self.now.instance.now self.now.given }
-        ensures { MatchResult result
-            (λ verdict. IsVerdictGiven self.now.given claimed self.now.instance.now solution.now verdict)
-            (λ refused. NoneBeforeRepeatsOn self.now.instance.now solution.now) }
-    {
-        match self.instance.kind() {
-            Kind::Cvrp => self.verdict_on_plan(alloc, solution, claimed),
-            _ => self.verdict_on_tour(alloc, solution, claimed),
-        }
-    }
-
-    /// The verdict on a solution that should be routes.
-    fn verdict_on_plan(
-        &self,
-        alloc: Global,
-        solution: &File,
-        claimed: Option<i64>,
-    ) -> Result<Verdict, Refused>
-        requires sound { IsJudgeInput self.now.instance.now self.now.given }
-        requires kind { self.now.instance.now.kind ≡ Some kinds.Cvrp }
-        ensures { MatchResult result
-            (λ verdict. IsVerdictGiven self.now.given claimed self.now.instance.now solution.now verdict)
-            (λ refused. NoneOfRoutesBeforeRepeats self.now.instance.now solution.now) }
-    {
-        let verdict = verdict_on_routes(alloc, self.instance, solution)?;
-        let Some(measured) = length_in(verdict) else {
-            return Ok(verdict);
-        };
-        if is_other(claimed, measured) {
-            return Ok(Verdict::No(Reason::LengthClaimed { length: measured }));
-        }
-        let known_bound = self.known_bound_of_all(alloc)?;
-        Ok(plan_verdict(known_bound, verdict))
-    }
-
-    /// What is known of all solutions, or is now found.
-    fn known_bound_of_all(&self, alloc: Global) -> Result<KnownBound, Refused>
-        requires sound { IsJudgeInput self.now.instance.now self.now.given }
-        ensures { IfOk result (λ known_bound. IsKnownBoundGiven self.now.given self.now.instance.now known_bound) }
-    {
-        match self.given {
-            BoundOrigin::Certificate(certificate) => judge_known_bound(
-                alloc,
-                self.instance,
-                certificate,
-            ),
-            BoundOrigin::KnownBound(known_bound) => Ok(known_bound),
-        }
-    }
-
-    /// The verdict on a solution that should be a tour. The reasons are judged in the order of
-    /// [`Reason`].
-    fn verdict_on_tour(
-        &self,
-        alloc: Global,
-        solution: &File,
-        claimed: Option<i64>,
-    ) -> Result<Verdict, Refused>
-        requires sound { IsJudgeInput self.now.instance.now self.now.given }
-        requires kind { (self.now.instance.now.kind ≡ Some kinds.Tsp)
-            ⊎ (self.now.instance.now.kind ≡ Some kinds.Atsp) }
-        ensures { MatchResult result
-            (λ verdict. IsVerdictGiven self.now.given claimed self.now.instance.now solution.now verdict)
-            (λ refused. NoneOfTourBeforeRepeats self.now.instance.now solution.now) }
-    {
-        let instance = self.instance;
-        let Some(tours) = solution_tours(solution) else {
-            return Ok(Verdict::No(Reason::NotASolution));
-        };
-        // `TooFewNodes`, `NotSymmetric`
-        let tour_known_bound = match self.tour_known_bound() {
-            Ok(tour_known_bound) => tour_known_bound,
-            Err(reason) => return Ok(Verdict::No(reason)),
-        };
-        let nodes = instance.count();
-        if solution.dimension().is_some_and(|stated| stated != nodes) {
-            return Ok(Verdict::No(Reason::Dimension));
-        }
-        // `TourCount`, `TourLength`
-        let tour = match the_tour(instance, solution, tours) {
-            Ok(tour) => tour,
-            Err(reason) => return Ok(Verdict::No(reason)),
-        };
-        // `NodeOutOfRange`, `RepeatedNode`
-        if let Some(reason) = first_against_nodes(alloc, instance, solution, tour)? {
-            return Ok(Verdict::No(reason));
-        }
-        let directed = is_directed(instance.kind());
-        if let Some(index) = first_unused_by(alloc, tour, nodes, instance.fixed(), directed)? {
-            return Ok(Verdict::No(Reason::FixedEdgeUnused { index }));
-        }
-        let length = tour_length(instance, tour);
-        if is_other(claimed, length) {
-            return Ok(Verdict::No(Reason::LengthClaimed { length }));
-        }
-        // those against the certificate
-        let known_bound = self.known_bound_on(alloc, tour_known_bound)?;
-        Ok(tour_verdict(known_bound, length))
-    }
-
-    /// What the instance is judged by, or the first reason against it, whatever the tour.
-    fn tour_known_bound(&self) -> Result<TourKnownBound<'a>, Reason>
-        requires sound { IsJudgeInput self.now.instance.now self.now.given }
-        requires kind { (self.now.instance.now.kind ≡ Some kinds.Tsp)
-            ⊎ (self.now.instance.now.kind ≡ Some kinds.Atsp) }
-        ensures { MatchResult result
-            (λ tour_known_bound. NoneAgainstTouring self.now.instance.now
-            × IsTourKnownBound self.now.instance.now self.now.given tour_known_bound)
-            (λ reason. IsFirstReason (AppliesToTouring self.now.instance.now) reason) }
-    {
-        match self.given {
-            BoundOrigin::Certificate(certificate) => match costs_of_tours(self.instance) {
-                Ok(costs) => Ok(TourKnownBound::Costs(costs, certificate)),
-                Err(reason) => Err(reason),
-            },
-            BoundOrigin::KnownBound(known_bound) => match against_instance(known_bound) {
-                None => Ok(TourKnownBound::KnownBound(known_bound)),
-                Some(reason) => Err(reason),
-            },
-        }
-    }
-
-    /// What is known of all solutions, or is now found: a certificate that wasn't judged before is
-    /// judged here.
-    fn known_bound_on(
-        &self,
-        alloc: Global,
-        tour_known_bound: TourKnownBound<'_>,
-    ) -> Result<KnownBound, Refused>
-        requires sound { IsJudgeInput self.now.instance.now self.now.given }
-        requires kind { (self.now.instance.now.kind ≡ Some kinds.Tsp)
-            ⊎ (self.now.instance.now.kind ≡ Some kinds.Atsp) }
-        requires none { NoneAgainstTouring self.now.instance.now }
-        requires tour_known_bound { IsTourKnownBound self.now.instance.now self.now.given tour_known_bound }
-        ensures { IfOk result (λ known_bound. IsKnownBoundGiven self.now.given self.now.instance.now known_bound) }
-    {
-        let (costs, certificate) = match tour_known_bound {
-            TourKnownBound::Costs(costs, certificate) => (costs, certificate),
-            TourKnownBound::KnownBound(known_bound) => return Ok(known_bound),
-        };
-        let Some((by, file)) = certificate else {
-            return Ok(KnownBound::Tours { bound: None });
-        };
-        let found = bound_by(alloc, by, self.instance, costs, file)?;
-        Ok(known_bound_of(self.instance, found))
-    }
-}
-
-// ---- whether the bound of a verdict comes from a certificate or was known before
-
-/// The origin of the bound of a verdict.
-#[derive(Clone, Copy)]
-pub(crate) enum BoundOrigin<'a> {
-    /// A certificate, if there is one. It is judged after the solution.
-    Certificate(Option<(CertificateKind, &'a File)>),
-    /// What is known of all solutions, which was found before.
-    KnownBound(KnownBound),
-}
-
-/// What shows that no reason applies to an instance of tours.
-#[derive(Clone, Copy)]
-pub(crate) enum TourKnownBound<'a> {
-    /// The costs, which were found for this solution; and the certificate, which is to be judged.
-    Costs(TourCosts<'a>, Option<(CertificateKind, &'a File)>),
-    /// What is known of all solutions.
-    KnownBound(KnownBound),
-}
-
-/// The verdict on routes that are accepted on their own, by what is known of all solutions.
-fn plan_verdict(known_bound: KnownBound, verdict: Verdict) -> Verdict
-    ensures { result ≡ plan_verdict known_bound verdict }
+/// The verdict on a tour. The certificate is judged last, and only if the tour is accepted without
+/// it.
+fn judge_cycle(
+    alloc: Global,
+    instance: &Instance,
+    solution: &File,
+    certificate: Option<(CertificateKind, &File)>,
+    claimed: Option<i64>,
+) -> Result<Verdict, Refused>
+    requires { (instance.now.kind ≡ Some kinds.Tsp) ⊎ (instance.now.kind ≡ Some kinds.Atsp) }
+    ensures { MatchResult result (λ verdict. IsVerdictWith
+        (option_map (λ given. (given.0, given.1.now)) certificate.entry) claimed instance.now
+        solution.now verdict) (λ refused. NoneOfTourBeforeRepeats instance.now solution.now) }
 {
-    match (known_bound, verdict) {
+    let costs = match costs_of_tours(instance) {
+        Ok(costs) => costs,
+        Err(reason) => return Ok(verdict_against(reason, solution)),
+    };
+    let verdict = as_claimed(claimed, verdict_on_tour(alloc, instance, solution)?);
+    let Some((by, file)) = certificate else {
+        return Ok(verdict);
+    };
+    if !verdict.is_yes() {
+        return Ok(verdict);
+    }
+    match bound_by(alloc, by, instance, costs, file) {
+        Ok(found) => Ok(with_found(verdict, Some(found))),
+        Err(refused) => Err(refused),
+    }
+}
+
+/// The verdict on routes. The certificate is judged last, and only if the routes are accepted
+/// without it.
+fn judge_plan(
+    alloc: Global,
+    instance: &Instance,
+    solution: &File,
+    certificate: Option<(CertificateKind, &File)>,
+    claimed: Option<i64>,
+) -> Result<Verdict, Refused>
+    requires kind { instance.now.kind ≡ Some kinds.Cvrp }
+    requires judged { IsTrue
+        (is_judged (option_map (λ given. (given.0, given.1.now)) certificate) instance.now.kind) }
+    ensures { MatchResult result (λ verdict. IsVerdictWith
+        (option_map (λ given. (given.0, given.1.now)) certificate.entry) claimed instance.now
+        solution.now verdict) (λ refused. NoneOfRoutesBeforeRepeats instance.now solution.now) }
+{
+    let verdict = as_claimed(claimed, verdict_on_routes(alloc, instance, solution)?);
+    let Some((by, file)) = certificate else {
+        return Ok(verdict);
+    };
+    if !verdict.is_yes() {
+        return Ok(verdict);
+    }
+    match judge_bound(alloc, by, instance, file) {
+        Ok(found) => Ok(with_found(verdict, Some(found))),
+        Err(refused) => Err(refused),
+    }
+}
+
+// ---- the verdict on a solution without a certificate
+
+/// The verdict on a solution without a certificate, given what was found for its instance, whose
+/// costs aren't judged again.
+///
+/// # Errors
+///
+/// Out of memory. Then no reason up to `NodeOutOfRange`, in the order for the TYPE, applies.
+fn verdict_alone(
+    alloc: Global,
+    instance: &Instance,
+    found: Option<BoundVerdict>,
+    solution: &File,
+) -> Result<Verdict, Refused>
+    requires { (given : Option (CertificateKind × Fields))
+        × IsTrue (is_judged given instance.now.kind) × IsFoundWith given instance.now found }
+    ensures { MatchResult result (λ verdict. IsVerdictOn instance.now solution.now verdict)
+        (λ refused. NoneBeforeRepeatsOn instance.now solution.now) }
+{
+    match instance.kind() {
+        Kind::Cvrp => verdict_on_routes(alloc, instance, solution),
+        _ => match against_instance(found) {
+            Some(reason) => Ok(verdict_against(reason, solution)),
+            None => verdict_on_tour(alloc, instance, solution),
+        },
+    }
+}
+
+/// The verdict on a tour if this reason applies to its instance. Only `NotASolution` comes before
+/// such a reason.
+fn verdict_against(reason: Reason, solution: &File) -> Verdict
+    ensures refused { HasNoLength result }
+    ensures first { (instance : Fields) → IsFirstReason (AppliesToTouring instance) reason
+        → IsTourVerdict instance solution.now result }
+{
+    match solution_tours(solution) {
+        Some(_) => Verdict::No(reason),
+        None => Verdict::No(Reason::NotASolution),
+    }
+}
+
+/// The verdict on a tour if neither `TooFewNodes` nor `NotSymmetric` applies to its instance. The
+/// other reasons are judged in the order of [`Reason`].
+///
+/// # Errors
+///
+/// Out of memory. Then no reason up to `NodeOutOfRange` applies.
+fn verdict_on_tour(alloc: Global, instance: &Instance, solution: &File) -> Result<Verdict, Refused>
+    requires kind { (instance.now.kind ≡ Some kinds.Tsp) ⊎ (instance.now.kind ≡ Some kinds.Atsp) }
+    requires none { NoneAgainstTouring instance.now }
+    ensures { MatchResult result (λ verdict. IsTourVerdict instance.now solution.now verdict)
+        (λ refused. NoneOfTourBeforeRepeats instance.now solution.now) }
+{
+    let Some(tours) = solution_tours(solution) else {
+        return Ok(Verdict::No(Reason::NotASolution));
+    };
+    let nodes = instance.count();
+    if solution.dimension().is_some_and(|stated| stated != nodes) {
+        return Ok(Verdict::No(Reason::Dimension));
+    }
+    // `TourCount`, `TourLength`
+    let tour = match the_tour(instance, solution, tours) {
+        Ok(tour) => tour,
+        Err(reason) => return Ok(Verdict::No(reason)),
+    };
+    // `NodeOutOfRange`, `RepeatedNode`
+    if let Some(reason) = first_against_nodes(alloc, instance, solution, tour)? {
+        return Ok(Verdict::No(reason));
+    }
+    let directed = is_directed(instance.kind());
+    if let Some(index) = first_unused_by(alloc, tour, nodes, instance.fixed(), directed)? {
+        return Ok(Verdict::No(Reason::FixedEdgeUnused { index }));
+    }
+    let length = tour_length(instance, tour);
+    Ok(Verdict::Tour {
+        length,
+        bound: None,
+    })
+}
+
+// ---- a verdict by a certificate, and by a claimed length
+
+/// Adds to the verdict on a solution what was found for all solutions of the instance: an accepted
+/// solution gets the bound, or is rejected with the reason against the certificate.
+fn with_found(verdict: Verdict, found: Option<BoundVerdict>) -> Verdict
+    ensures { result ≡ with_found verdict found }
+{
+    match (verdict, found) {
+        (Verdict::Tour { length, .. }, Some(BoundVerdict::Bound(bound))) => Verdict::Tour {
+            length,
+            bound: Some(bound),
+        },
         (
-            KnownBound::Routes { least, bound },
             Verdict::Routes {
                 length,
                 routes,
-                least: _,
-                bound: _,
+                least,
+                ..
             },
+            Some(BoundVerdict::Bound(bound)),
         ) => Verdict::Routes {
             length,
             routes,
             least,
-            bound,
+            bound: Some(bound),
         },
-        (KnownBound::No(reason), _) => Verdict::No(reason),
-        // A known bound of an instance that has routes is none of the others.
-        (_, verdict) => verdict,
+        (Verdict::Tour { .. } | Verdict::Routes { .. }, Some(BoundVerdict::No(reason))) => {
+            Verdict::No(reason)
+        }
+        // An accepted solution can't meet `NoSolution`: by `FindsBound`, the instance would have
+        // none.
+        (verdict, _) => verdict,
     }
 }
 
-/// The verdict on a tour of this length, by what is known of all solutions.
-fn tour_verdict(known_bound: KnownBound, length: i64) -> Verdict
-    ensures { result ≡ tour_verdict known_bound length }
+/// The verdict with a claimed length: an accepted solution of another length is rejected with
+/// `LengthClaimed`.
+fn as_claimed(claimed: Option<i64>, verdict: Verdict) -> Verdict
+    ensures { (instance solution : Fields) → IsVerdictOn instance solution verdict
+        → IsVerdictWith None claimed instance solution result }
 {
-    match known_bound {
-        KnownBound::Tours { bound } => Verdict::Tour { length, bound },
-        KnownBound::No(reason) => Verdict::No(reason),
-        // A known bound of an instance that has a tour is neither of these.
-        KnownBound::NoSolution | KnownBound::Routes { .. } => Verdict::Tour {
-            length,
-            bound: None,
-        },
+    let Some(length) = length_in(verdict) else {
+        return verdict;
+    };
+    if is_other(claimed, length) {
+        return Verdict::No(Reason::LengthClaimed { length });
     }
+    verdict
 }
 
-// ---- whether the claimed length of a solution is another one than its own
+// ---- whether the claimed length of a solution differs from its own
 
 /// The length of an accepted solution, or `None` if it is rejected.
 fn length_in(verdict: Verdict) -> Option<i64>
@@ -339,7 +281,7 @@ fn length_in(verdict: Verdict) -> Option<i64>
     }
 }
 
-/// Whether another length is claimed than this one.
+/// Whether a length other than this one is claimed.
 fn is_other(claimed: Option<i64>, length: i64) -> bool
     ensures other { result ≡ true → IsOtherClaimed claimed length }
     ensures same { result ≡ false → IsAsClaimed claimed length }

@@ -1,5 +1,7 @@
-//! `--strict`: what becomes of a verdict or a bound if the instance has a line that isn't judged, as
-//! one with an unknown keyword, or with a field that the TYPE or the weight type doesn't use.
+//! Applies `--strict` to a verdict or a bound that tsp_judge or tsp_c got without it: rejects an
+//! instance with a line that the verdict ignores, because of an unknown keyword or a field that the
+//! TYPE or the weight type doesn't use. `specs/Strict.antt` (circle 2) pins which fields an
+//! instance uses.
 
 ghost use Rattle.tsp_verdict.specs.Prelude.{All, Option, map, None, Some, true, false, [], pos, Fields, is_yes, is_bound_yes, is_clear, Verdict};
 ghost use Rattle.std.specs.Prelude.{◌≡◌, ◌∷◌};
@@ -11,10 +13,9 @@ ghost use Rattle.tsp_format.specs.declared.kinds.WeightKind.TheVariants as weigh
 ghost use Rattle.tsp_format.specs.declared.layout.Layout.TheVariants as layouts;
 ghost use Rattle.tsp_file.specs.Rules.{is_explicit};
 ghost use Rattle.tsp_file.specs.states.Drafts.{fields_of};
-ghost use Rattle.tsp_verdict.specs.Strict.{IsJudgedWhole, leaves_unused, stands_unused, first_unused, reason_by, strict_reason, strict_verdict, strict_bound, strict_known_bound};
+ghost use Rattle.tsp_verdict.specs.Strict.{IsJudgedWhole, leaves_unused, stands_unused, first_unused, reason_by, strict_reason, strict_verdict, strict_bound, strict_found, strict_known_bound};
 ghost use Rattle.tsp_verdict.specs.Examples.{carrying, instance_with, weighing, with_capacity, with_unknown};
 ghost use Rattle.tsp_report.specs.declared.verdict.KnownBound.{KnownBound};
-ghost use Rattle.tsp_report.specs.declared.verdict.KnownBound.TheVariants as known_bounds;
 ghost use Rattle.tsp_report.specs.declared.verdict.BoundVerdict.{BoundVerdict};
 ghost use Rattle.tsp_report.specs.declared.verdict.BoundVerdict.TheVariants as bounds;
 ghost use Rattle.tsp_report.specs.declared.verdict.Reason.TheVariants as reasons;
@@ -25,9 +26,9 @@ use tsp_file::Draft;
 use tsp_format::{Field, Kind, WeightFormat, WeightKind};
 use tsp_report::{BoundVerdict, KnownBound, Reason, Verdict};
 
-/// The verdict on a solution of an instance, which is this one, unless `strict` asks that lines
-/// that aren't judged be a reason: then an accepted solution of an instance with one is rejected,
-/// with `NotJudged` or `NotUsed`. So these two are judged after all other reasons.
+/// Applies `--strict`: if `strict` is set and the instance has a line that the verdict ignores, an
+/// accepted solution is rejected with `NotJudged` or `NotUsed`. Every other verdict is returned
+/// unchanged.
 pub fn strict_verdict(strict: bool, instance: &Instance, verdict: Verdict) -> Verdict
     ensures { result ≡ strict_verdict (strict_reason strict instance.now) verdict }
 {
@@ -37,7 +38,7 @@ pub fn strict_verdict(strict: bool, instance: &Instance, verdict: Verdict) -> Ve
     }
 }
 
-/// The bound of an instance, or the reason against it, with `strict` as in [`strict_verdict`].
+/// Applies `--strict` to a bound, as [`strict_verdict`] does to a verdict.
 pub fn strict_bound(strict: bool, instance: &Instance, found: BoundVerdict) -> BoundVerdict
     ensures { result ≡ strict_bound (strict_reason strict instance.now) found }
 {
@@ -49,22 +50,32 @@ pub fn strict_bound(strict: bool, instance: &Instance, found: BoundVerdict) -> B
     }
 }
 
-/// What is known of all solutions of an instance, with `strict` as in [`strict_verdict`].
+/// Applies `--strict` to what is known about all solutions, as [`strict_verdict`] does to a
+/// verdict.
 pub fn strict_known_bound(strict: bool, instance: &Instance, known_bound: KnownBound) -> KnownBound
     ensures { result ≡ strict_known_bound (strict_reason strict instance.now) known_bound }
 {
-    match (strict_reason(strict, instance), known_bound) {
-        (
-            Some(reason),
-            KnownBound::Tours { .. } | KnownBound::NoSolution | KnownBound::Routes { .. },
-        ) => KnownBound::No(reason),
-        (_, known_bound) => known_bound,
+    KnownBound {
+        least: known_bound.least,
+        found: strict_found(strict_reason(strict, instance), known_bound.found),
     }
 }
 
-// ---- the first line that isn't judged
+/// What was found for all solutions, after this reason, if there is one.
+fn strict_found(strict: Option<Reason>, found: Option<BoundVerdict>) -> Option<BoundVerdict>
+    ensures { result ≡ strict_found strict found }
+{
+    match (strict, found) {
+        (Some(reason), None | Some(BoundVerdict::Bound(_) | BoundVerdict::NoSolution)) => {
+            Some(BoundVerdict::No(reason))
+        }
+        (_, found) => found,
+    }
+}
 
-/// The reason against an instance by a line that isn't judged, if `strict` asks for it: unknown
+// ---- the first line that the verdict ignores
+
+/// With `strict`, the reason against an instance with a line that the verdict ignores. Unknown
 /// keywords come first.
 fn strict_reason(strict: bool, instance: &Instance) -> Option<Reason>
     ensures { result ≡ strict_reason strict instance.now }
@@ -76,8 +87,7 @@ fn strict_reason(strict: bool, instance: &Instance) -> Option<Reason>
     reason_by(instance.file().others(), field)
 }
 
-/// The first reason by the lines of unknown keywords and by a field that isn't used, if there are
-/// any.
+/// The reason for these lines of unknown keywords and this unused field, if there are any.
 fn reason_by(others: &[(Vec<u8>, Vec<u8>)], field: Option<Field>) -> Option<Reason>
     ensures { result ≡ reason_by (map (λ line. (line.0.items, line.1.items)) others.now) field }
 {
@@ -146,9 +156,9 @@ fn is_explicit(instance: &Draft) -> bool
 
 // ---- laws
 
-/// With `strict`, every line of the instance is judged if a solution is accepted, if the
-/// instance has a bound, and if solutions are judged one by one; and what is said then is said
-/// without `strict` too.
+/// With `strict`, the verdict ignores no line of the instance if a solution is accepted, if the
+/// instance has a bound, or if solutions are judged one by one; and the answer is the same without
+/// `strict`.
 pub fn strict_yes_leaves_nothing_unjudged()
     ensures verdict { (instance : Fields) (plain : Verdict)
         → is_yes (strict_verdict (strict_reason true instance) plain) ≡ true
@@ -161,7 +171,7 @@ pub fn strict_yes_leaves_nothing_unjudged()
         → IsJudgedWhole instance × (strict_known_bound (strict_reason true instance) plain ≡ plain) }
 {}
 
-/// Which lines are a reason against which instances, and which of them comes first.
+/// Which ignored lines are a reason, and which of them comes first.
 ///
 /// No code calls it: it evaluates the definitions of `specs/Strict.antt` on examples.
 pub fn examples_of_strict_reasons()
@@ -179,6 +189,14 @@ pub fn examples_of_strict_reasons()
         ≡ Some (reasons.NotUsed fields.EdgeWeightFormatKey) }
     ensures first { strict_reason true (record (with_capacity kinds.Tsp) { scale = Some (pos 2) })
         ≡ Some (reasons.NotUsed fields.CapacityKey) }
+    ensures memory { strict_reason true (record (instance_with kinds.Cvrp 4 []) { memories = Some [] })
+        ≡ Some (reasons.NotUsed fields.MemoryPart) }
+    ensures rows { strict_reason true (record (instance_with kinds.Cvrp 4 []) { subset_rows = Some [] })
+        ≡ Some (reasons.NotUsed fields.SubsetRowPart) }
+    ensures load_unit { strict_reason true (record (instance_with kinds.Cvrp 4 []) { load_unit = Some (pos 5) })
+        ≡ Some (reasons.NotUsed fields.LoadUnitKey) }
+    ensures scale { strict_reason true (record (instance_with kinds.Cvrp 4 []) { scale = Some (pos 5) })
+        ≡ Some (reasons.NotUsed fields.ScaleKey) }
     ensures unknown_first { strict_reason true (record (with_unknown kinds.Tsp 4) { capacity = Some (pos 8) })
         ≡ Some reasons.NotJudged }
 {}
@@ -192,7 +210,7 @@ pub fn examples_of_fields_in_use()
         ∷ fields.DisplayDataTypeKey ∷ fields.NodeCoordPart ∷ fields.DisplayDataPart ∷ fields.FixedEdgesPart ∷ []) }
     ensures no_instance { All (λ field. leaves_unused (instance_with kinds.Cvrp 4 []) field ≡ true) (fields.ScaleKey ∷ fields.LoadUnitKey
         ∷ fields.TourPart ∷ fields.NodePotentialPart ∷ fields.RowPotentialPart ∷ fields.ColumnPotentialPart
-        ∷ fields.FixedEdgePotentialPart ∷ fields.FamilyPart ∷ fields.BranchPart ∷ []) }
+        ∷ fields.FixedEdgePotentialPart ∷ fields.FamilyPart ∷ fields.MemoryPart ∷ fields.SubsetRowPart ∷ fields.BranchPart ∷ []) }
     ensures routes { All (λ field. leaves_unused (instance_with kinds.Cvrp 4 []) field ≡ false) (fields.CapacityKey ∷ fields.DemandPart
         ∷ fields.DepotPart ∷ []) }
     ensures tours { All (λ field. leaves_unused (instance_with kinds.Tsp 4 []) field ≡ true) (fields.CapacityKey ∷ fields.DemandPart
@@ -206,8 +224,8 @@ pub fn examples_of_fields_in_use()
     ensures by_function { leaves_unused (weighing weight_kinds.Ceil2d (Some formats.ByFunction)) fields.EdgeWeightFormatKey ≡ false }
 {}
 
-/// What becomes of verdicts, bounds and known bounds if there is such a reason. A reason that was
-/// found before stays.
+/// What such a reason does to verdicts, bounds and known bounds. A reason that was found before
+/// stays.
 ///
 /// No code calls it: it evaluates the definitions of `specs/Strict.antt` on examples.
 pub fn examples_of_strictness()
@@ -221,11 +239,11 @@ pub fn examples_of_strictness()
         ≡ bounds.No (reasons.NotUsed fields.ScaleKey) }
     ensures other_of_bounds { strict_bound (Some reasons.NotJudged) (bounds.No reasons.NotPotentials) ≡ bounds.No reasons.NotPotentials }
     ensures kept_bound { strict_bound None bounds.NoSolution ≡ bounds.NoSolution }
-    ensures tours { strict_known_bound (Some reasons.NotJudged) (known_bounds.Tours None) ≡ known_bounds.No reasons.NotJudged }
-    ensures no_solution_of_all { strict_known_bound (Some reasons.NotJudged) known_bounds.NoSolution ≡ known_bounds.No reasons.NotJudged }
-    ensures plans { strict_known_bound (Some (reasons.NotUsed fields.ScaleKey)) (known_bounds.Routes 2 None)
-        ≡ known_bounds.No (reasons.NotUsed fields.ScaleKey) }
-    ensures other_of_all { strict_known_bound (Some reasons.NotJudged) (known_bounds.No reasons.DepotCount)
-        ≡ known_bounds.No reasons.DepotCount }
-    ensures kept_known_bound { strict_known_bound None (known_bounds.Tours None) ≡ known_bounds.Tours None }
+    ensures tours { strict_found (Some reasons.NotJudged) None ≡ Some (bounds.No reasons.NotJudged) }
+    ensures no_solution_of_all { strict_found (Some reasons.NotJudged) (Some bounds.NoSolution) ≡ Some (bounds.No reasons.NotJudged) }
+    ensures plans { strict_known_bound (Some (reasons.NotUsed fields.ScaleKey)) (record { least = Some 2; found = None })
+        ≡ record { least = Some 2; found = Some (bounds.No (reasons.NotUsed fields.ScaleKey)) } }
+    ensures other_of_all { strict_found (Some reasons.NotJudged) (Some (bounds.No reasons.DepotCount))
+        ≡ Some (bounds.No reasons.DepotCount) }
+    ensures kept_known_bound { strict_found None None ≡ None }
 {}

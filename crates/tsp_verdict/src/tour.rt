@@ -1,14 +1,15 @@
-//! The parts of a verdict on a tour: the one tour of a solution, the reasons against its nodes, the
-//! first fixed pair that it misses, and the costs of the instance. `routes.rt` shares the searches
-//! for a place in a list of nodes. `routing`, the depots, demands and capacity of a CVRP, is for
-//! `routes.rt` and `known_bound.rt` alone.
+//! The parts of a verdict on a tour: the only tour of a solution, the reasons against its nodes,
+//! the first fixed pair that it misses, and the costs of the instance. `solution_verdict.rt` puts
+//! them together; `routes.rt` uses the searches in lists of nodes, too. `specs/Solutions.antt` pins
+//! the reasons.
 
 ghost use Rattle.tsp_verdict.specs.Prelude.{All, [], length, Some, MatchOption, MatchResult, ℕ, List, vec_len, IfOk, slice_index_or, MatchBool, false, pos, most_capacity, IsNode, cost, nodes_of, is_tour_file, IsFromTo, IsFirstAsymmetric, IsCycle, Uses, is_directed, depots_of, demands_of, capacity_of, FixedEdgeUnused, TourCount};
 ghost use Rattle.std.specs.Bool.{OnTrue};
 ghost use Rattle.std.specs.Prelude.{◌≡◌, ◌⊎◌, ◌<◌, ◌≤◌, ◌∷◌, ◌≢◌, ◌+◌, ◌^◌, ◌-◌};
 ghost use Rattle.tsp_format.specs.declared.kinds.Kind.TheVariants as kinds;
 ghost use Rattle.tsp_file.specs.Valid.{IsPairOf, IsDemand};
-ghost use Rattle.tsp_verdict.specs.Solutions.{IsFirstPlace, IsLarger, IsAt, IsAtEarlierPlace, HoldsAtNone, IsUnused, tours_of, NoneOfTourBefore, NoneOfTourBeforeNodes, IsFirstAgainstTour, NoneOfTourBeforeRepeats};
+ghost use Rattle.tsp_theory.specs.First.{IsFirstPlace};
+ghost use Rattle.tsp_verdict.specs.Solutions.{IsLarger, IsAt, IsAtEarlierPlace, HoldsAtNone, IsUnused, tours_of, NoneOfTourBefore, NoneOfTourBeforeNodes, IsFirstAgainstTour, NoneOfTourBeforeRepeats};
 ghost use Rattle.tsp_verdict.specs.states.Marks.{Marked, StandsAfter, AreNext, AreToursOf};
 ghost use Rattle.tsp_verdict.specs.states.TourKnownBounds.{AreTourCosts};
 
@@ -22,7 +23,7 @@ use tsp_report::Reason;
 /// The fewest nodes of an instance whose tours are judged.
 pub(crate) const FEWEST_NODES_OF_TOURS: u32 = 3;
 
-/// What the costs of an instance are taken from, by its TYPE.
+/// The costs of an instance, by its TYPE.
 #[derive(Clone, Copy)]
 pub(crate) enum TourCosts<'a> {
     /// TYPE TSP, whose costs are the same in both directions.
@@ -31,8 +32,8 @@ pub(crate) enum TourCosts<'a> {
     Directed(View<'a>),
 }
 
-/// The one tour of a solution, with as many nodes as the instance, or the first reason against it
-/// that is judged before its nodes are looked at.
+/// The only tour of a solution, with as many nodes as the instance, or the first reason that comes
+/// before those against its nodes.
 pub(crate) fn the_tour<'a>(
     inst: &Instance,
     sol: &File,
@@ -58,7 +59,7 @@ pub(crate) fn the_tour<'a>(
 ///
 /// # Errors
 ///
-/// Out of memory for a mark for each node.
+/// Out of memory. It allocates a mark for each node.
 pub(crate) fn first_against_nodes(
     alloc: Global,
     inst: &Instance,
@@ -119,9 +120,10 @@ pub(crate) fn is_directed(kind: Kind) -> bool
     }
 }
 
-// ---- the first place of a list of nodes with a repeated, a too large or a sought node
+// ---- the first place in a list of nodes with a repeated node, one that is too large, or a given
+// one
 
-/// Whether each node is at most n and comes only once; `false` also if memory was refused.
+/// Whether each node is at most n and comes only once. Also `false` if memory was refused.
 ///
 /// This is the quick test, which almost every tour passes. If it fails, the caller looks for the
 /// place.
@@ -135,7 +137,7 @@ fn are_different(alloc: Global, nodes: &[u32], n: u32) -> bool
     }
 }
 
-/// Marks nodes, and says whether each is at most n and was not marked before.
+/// Marks nodes. Returns whether each is at most n and was not marked before.
 fn mark_different(taken: &mut [bool], nodes: &[u32], n: u32) -> bool
     requires size { length taken.old ≡ n + 1 }
     requires fresh { Marked nodes.now taken.old 0 }
@@ -189,7 +191,7 @@ pub(crate) fn first_of(nodes: &[u32], sought: u32) -> Option<u32>
 ///
 /// # Errors
 ///
-/// Out of memory for a mark for each node.
+/// Out of memory. It allocates a mark for each node.
 fn first_repeated(alloc: Global, nodes: &[u32], n: u32) -> Result<Option<u32>, Refused>
     requires size { length nodes.now < 2 ^ 32 }
     requires range { All (λ node. node ≤ n) nodes.now }
@@ -225,11 +227,11 @@ pub(crate) fn mark(seen: &mut Vec<bool>, nodes: &[u32]) -> Option<u32>
 // ---- the first fixed pair that a tour does not use
 
 /// The first fixed pair, counted from 1, that a cycle of n nodes doesn't use: as neighbours in
-/// either direction, or from its first to its second node alone.
+/// either direction or, if pairs have one, from the pair's first to its second node.
 ///
 /// # Errors
 ///
-/// Out of memory for a number for each node, if a pair is fixed.
+/// Out of memory. It allocates a number for each node if a pair is fixed.
 pub(crate) fn first_unused_by(
     alloc: Global,
     cycle: &[u32],
@@ -251,11 +253,11 @@ pub(crate) fn first_unused_by(
     Ok(first_unused(fixed, next.as_slice(), directed))
 }
 
-/// For each node of a cycle of n nodes the one that comes next, the first one after the last.
+/// For each node of a cycle of n nodes, the node that comes next; after the last comes the first.
 ///
 /// # Errors
 ///
-/// Out of memory for a number for each node.
+/// Out of memory. It allocates a number for each node.
 fn next_nodes(alloc: Global, cycle: &[u32], n: u32) -> Result<Vec<u32>, Refused>
     requires { IsCycle n cycle.now }
     ensures { IfOk result (λ next. (vec_len next ≡ n + 1) × AreNext cycle.now next.items) }
@@ -273,7 +275,7 @@ fn next_nodes(alloc: Global, cycle: &[u32], n: u32) -> Result<Vec<u32>, Refused>
     Ok(next)
 }
 
-/// The first fixed pair that a cycle does not use, by the node that comes next after each.
+/// The first fixed pair that a cycle does not use, given the next node after each node.
 fn first_unused(fixed: &[(u32, u32)], next: &[u32], directed: bool) -> Option<u32>
     requires size { length fixed.now < 2 ^ 32 }
     requires range { All (IsPairOf (length next.now - 1)) fixed.now }
@@ -308,7 +310,7 @@ fn is_used(pair: (u32, u32), next: &[u32], directed: bool) -> bool
 
 // ---- the tours of a solution file, and the depot, demands and capacity of a routing instance
 
-/// The tours of a solution; none of a file of another TYPE.
+/// The tours of a solution; `None` if the file has another TYPE.
 pub(crate) fn solution_tours(sol: &File) -> Option<&[Vec<u32>]>
     ensures { MatchOption result
         (is_tour_file sol.now.kind ≡ false)

@@ -24,11 +24,11 @@ up (suc height) v = up height v / 2
 abbrev pub node_of : List ℕ → ℕ → ℕ
 node_of order j = slice_index_or order j 0
 
--- the entry of a list for the box v, or `none` where the list has no such entry
+-- the entry of a list for the box v, or `none` if the list has no such entry
 abbrev pub box_at : {A : Type 0} → A → List A → ℕ → A
 box_at none boxes v = slice_index_or boxes v none
 
--- the area of the box v; None where no node is in it
+-- the area of the box v; None if no node is in it
 abbrev pub area_at : List (Option Area) → ℕ → Option Area
 area_at areas v = slice_index_or areas v None
 
@@ -50,7 +50,7 @@ pub record IsRefit {A : Type 0} (none : A) (In : A → ℕ → Type 0) (old new 
   pub left : (p : ℕ) → In (box_at none old (2 * v)) p → In box p
   pub right : (p : ℕ) → In (box_at none old (2 * v + 1)) p → In box p
 
--- no node of which IsOne and In hold weighs less than the bound
+-- no node for which IsOne and In hold weighs less than the bound
 abbrev pub IsBelowAll : (ℕ → Type 0) → (ℕ → Type 0) → (ℕ → ℤ) → ℤ → Type 0
 IsBelowAll IsOne In weight bound = (node : ℕ) → IsOne node → In node → bound ≤ℤ weight node
 
@@ -99,7 +99,7 @@ pub record IsNumberedSite (nodes : ℕ) (place : ℕ → Point) (number : ℕ �
   pub value : numbered.number ≡ number numbered.site.node
   pub size : IsFromTo (neg_ℤ (pos most_number)) (pos most_number) numbered.number
 
--- the same of this node
+-- the same for this node
 pub record IsNumberedSiteOf (nodes : ℕ) (place : ℕ → Point) (number : ℕ → ℤ) (node : ℕ) (numbered : NumberedSite) : Type 0 where
   pub here : numbered.site.node ≡ node
   pub known : IsNumberedSite nodes place number numbered

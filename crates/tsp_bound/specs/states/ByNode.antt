@@ -1,4 +1,5 @@
--- The multipliers of pairs listed at both nodes of each, and what such a list takes off a weight.
+-- The multipliers of pairs listed at both nodes of each, and what such a list takes off a weight. For src/by_node.rt,
+-- and for the weights that are lowered by it; `Multipliers` in src/potentials.rt has the triples.
 use Rattle.tsp_bound.specs.Prelude.{All, AllPairs, ℕ, List, slice_index_or, [], length, ℤ, pos, most_multiplier, IsNode, IsFromTo}
 use Rattle.std.specs.Global.{Vec}
 use Rattle.std.specs.Prelude.{◌≡◌, ◌≢◌, ◌+◌, ◌≤◌, ◌==◌, if◌then◌else◌, ◌∷◌, ◌++◌}
@@ -15,7 +16,7 @@ abbrev pub said_of : ℕ → ℕ × ℕ × ℤ → List (ℕ × ℤ)
 said_of node triple =
     if triple.0 == node then (triple.1, triple.2) ∷ [] else (if triple.1 == node then (triple.0, triple.2) ∷ [] else [])
 
--- the same of each triple, in order
+-- the same for each triple, in order
 abbrev pub all_said_of : ℕ → List (ℕ × ℕ × ℤ) → List (ℕ × ℤ)
 all_said_of node [] = []
 all_said_of node (triple ∷ triples) = said_of node triple ++ all_said_of node triples

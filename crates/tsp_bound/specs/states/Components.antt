@@ -33,7 +33,7 @@ IsTagOf tag label = tag ≢ mixed → tag ≡ label
 abbrev pub AreTags : List ℕ → List ℕ → Type 0
 AreTags labels tags = AreHeld IsTagOf labels (λ _. true) (box_at 0 tags)
 
--- the area of the box v in a search from the component `own`: none where all nodes of the box are in that component
+-- the area of the box v in a search from the component `own`: none if all nodes of the box are in that component
 abbrev pub seen_area : List ℕ → (ℕ → Option Area) → ℕ → ℕ → Option Area
 seen_area tags area own v = if box_at 0 tags v == own then None else area v
 
@@ -118,7 +118,7 @@ pub record IsWeighedForest (n : ℕ) (w : ℕ → ℕ → ℤ) (added : List (�
 abbrev pub weight_over : (ℕ → ℕ → ℤ) → List ℕ → ℕ → ℕ → ℤ
 weight_over w order i j = w (node_of order i) (node_of order j)
 
--- the entry where there is no link: its weight is the largest of 64 bits
+-- the entry if there is no link: its weight is the largest of 64 bits
 abbrev pub empty_link : Link
 empty_link = record { weight = pos 9223372036854775807; from = 0; to = 0 }
 
@@ -148,7 +148,7 @@ pub record IsPut (link : Link) (old_links : List Link) (old_bounds : List ℤ) (
   pub lower : bound ≤ℤ least_at old_bounds link.from
   pub below : bound ≤ℤ (kept_at old_links link.from slot).weight
 
--- the link is put so; or nothing changes, since it weighs no less than the number of its place
+-- the link is put in its place, or nothing changes, because it weighs no less than the number of its place
 abbrev pub IsTaken : Link → List Link → List ℤ → List Link → List ℤ → Type 0
 IsTaken link old_links old_bounds links bounds =
     ((links ≡ old_links) × (bounds ≡ old_bounds) × (least_at old_bounds link.from ≤ℤ link.weight))

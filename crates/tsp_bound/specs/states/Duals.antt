@@ -1,4 +1,5 @@
--- The fields of `Duals` (src/potentials.rt): a number for each row and each column of the costs, at a scale.
+-- The fields of `Duals` (src/potentials.rt): a number for each row and each column of the costs, at a scale. The
+-- contracts of src/assignment.rt and tsp_verdict are about them; the bound itself is in tsp_theory.
 use Rattle.std.specs.Prelude.{ℕ, List, ℤ, ◌+ℤ◌, ◌*ℤ◌}
 use Rattle.tsp_bound.specs.declared.potentials.Duals.{Duals}
 use Rattle.tsp_theory.specs.Bounds.{entry}

@@ -1,5 +1,5 @@
 -- The fields of `Potentials` and the triples of `Multipliers`, and the weights of pairs that they give, which are those
--- of Bounds.antt in tsp_theory.
+-- of Bounds.antt in tsp_theory. The contracts of this crate and of tsp_verdict are about them.
 use Rattle.std.specs.Prelude.{ℕ, ◌≢◌, ◌*◌, ◌^◌, ◌≤◌, List, ℤ, pos, nat_abs, []}
 use Rattle.tsp_theory.specs.Bounds.{weight_between, adjusted}
 use Rattle.tsp_bound.specs.declared.by_node.ByNode.{ByNode}

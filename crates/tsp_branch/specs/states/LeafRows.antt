@@ -1,5 +1,5 @@
--- Rows of a leaf's weights: which links its decisions close, what sets and decisions add between two nodes, and when the
--- numbers of its nodes fit 64 bits (`AreExact`).
+-- Rows of a leaf's weights: which links its decisions close, what sets and decisions add between two nodes, and when
+-- the numbers of its nodes fit 64 bits (`AreExact`). For src/leaf_rows.rt, src/case_leaf.rt and src/boxed.rt.
 use Rattle.tsp_branch.specs.Prelude.{list_any, filter, ℕ, List, ℤ, pos, Bool, true, false, map, reverse, slice_index_or, negsuc, neg_ℤ, IsNode, IsFromTo, entry, most_number, least_at, IsAllowed, changes, decided, bears_on, multipliers_at}
 use Rattle.std.specs.Prelude.{◌≡◌, ◌⊎◌, ◌==◌, ◌&&◌, if◌then◌else◌, ◌+ℤ◌, ◌*ℤ◌}
 use Rattle.tsp_theory.specs.Tour.{sum_int_by}
@@ -10,7 +10,7 @@ use Rattle.tsp_cases.specs.declared.sets.SetPlace.{SetPlace}
 abbrev pub no_link : ℤ
 no_link = pos 9223372036854775807
 
--- a value as it was, where the link is allowed; else closed
+-- the old value if the link is allowed, otherwise closed
 abbrev pub IsShut : Type 0 → ℤ → ℤ → Type 0
 IsShut Allowed old new = (Allowed × (new ≡ old)) ⊎ ((Allowed → ⊥) × (new ≡ no_link))
 
@@ -20,11 +20,11 @@ IsOpenRow n w decisions from row = (x : ℕ) → IsNode n x → IsShut (IsAllowe
 
 -- ---- the weight between two nodes of a leaf: what the sets that have both add
 
--- two places are of the same set of the same family
+-- two places belong to the same set of the same family
 abbrev pub is_same_place : SetPlace → SetPlace → Bool
 is_same_place place other = (other.family == place.family) && (other.set == place.set)
 
--- a list has the place
+-- a list contains the place
 abbrev pub has_place : List SetPlace → SetPlace → Bool
 has_place places place = list_any (λ other. is_same_place place other) places
 
@@ -46,17 +46,17 @@ AreExact n potentials multipliers families moved = (x : ℕ) → IsNode n x
 
 -- ---- decisions
 
--- the number, or 0 where it is negative
+-- the number, or 0 if it is negative
 abbrev pub upwards : ℤ → ℤ
 upwards (pos k) = pos k
 upwards (negsuc k) = pos 0
 
--- the weights of a leaf: undirected, as the decisions of its case change them; directed, as they are
+-- the weights of a leaf: undirected, as the decisions of its case change them; directed, unchanged
 abbrev pub decided_by : Bool → List Decision → (ℕ → ℕ → ℤ) → ℕ → ℕ → ℤ
 decided_by true case w = w
 decided_by false case w = decided case w
 
--- weights to which decisions add where they make them larger
+-- weights plus the decisions that raise them
 abbrev pub raised : List Decision → (ℕ → ℕ → ℤ) → ℕ → ℕ → ℤ
 raised case w i j = w i j +ℤ upwards (changes case i j)
 

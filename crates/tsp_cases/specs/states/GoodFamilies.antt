@@ -6,7 +6,7 @@ use Rattle.tsp_cases.specs.Crossings.{has}
 use Rattle.tsp_cases.specs.Families.{IsFamily, family_with, HasEachOnce, IsGoodFamily, IsTooth}
 use Rattle.tsp_cases.specs.declared.family.Crossings.{Crossings}
 
--- the numbers of these sets, which are a good family; none where they aren't one
+-- the numbers of these sets, which are a good family; none if they aren't one
 abbrev pub AreFamilyNumbers : ℕ → List (List ℕ) → Option Crossings → Type 0
 AreFamilyNumbers n sets None = IsGoodFamily n sets → ⊥
 AreFamilyNumbers n sets (Some own) = IsFamily n (family_with own sets) × All HasEachOnce sets

@@ -1,5 +1,5 @@
 -- Rows of weights that are kept from leaf to leaf, always those of the present leaf without its potentials, and the
--- memory that each leaf overwrites.
+-- memory that each leaf overwrites. For src/kept.rt; contracts in tsp_branch and tsp_routing use them, too.
 use Rattle.tsp_cases.specs.Prelude.{Vec, w64, int_wrap, All, ℕ, List, length, slice_index_or, ℤ, pos, neg_ℤ, IsNode, IsFromTo, entry, is_same_pair, least_at, IsMoved}
 use Rattle.std.specs.Prelude.{◌≡◌, ◌≢◌, ◌+◌, ◌<◌, ◌≤◌, if◌then◌else◌, ◌+ℤ◌, ◌*ℤ◌, ◌^◌}
 use Rattle.tsp_format.specs.Limits.{most_weight}
@@ -98,6 +98,6 @@ pub record IsScratch (n family_count : ℕ) (room : Scratch) : Type 0 where
   pub row : length room.row.items ≡ n + 1
   pub moved : length room.moved.items ≡ n + 1
 
--- numbers of a leaf of at most 2^64, to which src/pass.rt can add the differences of the next leaf
+-- numbers of a leaf of at most 2^64, to which src/tree.rt can add the differences of the next leaf
 abbrev pub AreSmall : List ℤ → Type 0
 AreSmall numbers = All (IsFromTo (neg_ℤ (pos (2 ^ 64))) (pos (2 ^ 64))) numbers

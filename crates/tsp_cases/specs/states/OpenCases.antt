@@ -1,5 +1,5 @@
 -- The decisions of the open case as the code has them, a stack and a list for each node, and what each decision does to
--- a row of weights.
+-- a row of weights. For src/open_case.rt; the judges of leaves in tsp_branch and tsp_routing use them, too.
 use Rattle.tsp_cases.specs.Prelude.{Vec, w64, int_wrap, All, filter, ℕ, Bool, true, false, List, [], reverse, Some, None, ℤ, pos, neg_ℤ, not, length, slice_index_or, IsNode, IsFromTo, is_same_pair, adjusted, sum_int_by}
 use Rattle.std.specs.Prelude.{◌≡◌, ◌≢◌, ◌<◌, if◌then◌else◌, ◌+ℤ◌, ◌⊎◌, ◌==◌, ◌||◌, ◌&&◌, ◌+◌, ◌≤◌, ◌∷◌, ◌++◌}
 use Rattle.tsp_cases.specs.Cases.{on_taken, on_avoided, decided_number, next_stack}
@@ -19,7 +19,7 @@ IsOnPlaces places decision = (decision.pair.0 < places) × (decision.pair.1 < pl
 abbrev pub decided : List Decision → (ℕ → ℕ → ℤ) → ℕ → ℕ → ℤ
 decided decisions w = adjusted (on_taken decided_number decisions) (on_avoided decided_number decisions) w
 
--- what a decision adds to the weight of its pair: less where the pair is taken, more where it is avoided
+-- what a decision adds to the weight of its pair: less if the pair is taken, more if it is avoided
 abbrev pub signed : Bool → ℤ
 signed taken = if taken then (neg_ℤ decided_number) else decided_number
 
@@ -31,7 +31,7 @@ change_of decision i j = if is_same_pair decision.pair (i, j) then signed decisi
 abbrev pub changes : List Decision → ℕ → ℕ → ℤ
 changes decisions i j = sum_int_by (λ decision. change_of decision i j) decisions
 
--- what the decisions of a case add to the rows of `KeptRows`: nothing where pairs have a direction
+-- what the decisions of a case add to the rows of `KeptRows`: nothing if pairs have a direction
 abbrev pub marks_in : Bool → List Decision → ℕ → ℕ → ℤ
 marks_in true decisions i j = pos 0
 marks_in false decisions i j = changes decisions i j
@@ -44,7 +44,7 @@ most_decided = 6000000000000000000
 abbrev pub AreFewChanges : List Decision → Type 0
 AreFewChanges case = (i j : ℕ) → IsFromTo (neg_ℤ decided_number) decided_number (changes case i j)
 
--- a value as it was, where the pair is another one; else what is left of the sum with the number in 64 bits
+-- a value as it was, if the pair is another one; otherwise what is left of the sum with the number in 64 bits
 abbrev pub IsChanged : Decision → ℕ → ℕ → ℤ → ℤ → Type 0
 IsChanged decision i j old new = ((new ≡ old) × (change_of decision i j ≡ pos 0))
     ⊎ (new ≡ int_wrap w64 (old +ℤ change_of decision i j))
@@ -53,7 +53,7 @@ IsChanged decision i j old new = ((new ≡ old) × (change_of decision i j ≡ p
 abbrev pub stack_of : List Decision → List Decision
 stack_of decisions = reverse decisions
 
--- the stack after a leaf, where a case is open still; else an empty one
+-- the stack after a leaf, if a case is open still; otherwise an empty one
 abbrev pub IsNextStack : List Decision → Bool → List Decision → Type 0
 IsNextStack old true new = next_stack (stack_of old) ≡ Some (stack_of new)
 IsNextStack old false new = (next_stack (stack_of old) ≡ None) × (new ≡ [])

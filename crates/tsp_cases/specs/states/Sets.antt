@@ -1,5 +1,5 @@
 -- For each node the sets that have it, the fields of `Families`, and what multipliers of sets add to a node's row of
--- weights.
+-- weights. For src/sets.rt and src/family.rt; definitions of leaves in tsp_branch and tsp_routing use them, too.
 use Rattle.tsp_cases.specs.Prelude.{Vec, All, ℕ, List, [], length, slice_index_or, suc, ℤ, pos, neg_ℤ, IsNode, IsFromTo, weight_between, most_between, adjusted, sum_int_by, crossing, IsMoved}
 use Rattle.std.specs.Prelude.{◌<◌, ◌≡◌, ◌==◌, ◌+◌, ◌++◌, ◌≤◌, if◌then◌else◌, ◌∷◌, ◌+ℤ◌, ◌-ℤ◌, ◌*ℤ◌}
 use Rattle.tsp_cases.specs.CaseTrees.{crossings_of, leaf_weight, multiplied}
@@ -7,7 +7,7 @@ use Rattle.tsp_cases.specs.Crossings.{families_in, has}
 use Rattle.tsp_cases.specs.Families.{families_with}
 use Rattle.tsp_cases.specs.Families as kinds
 use Rattle.tsp_cases.specs.ListedCases.{most_crossed}
-use Rattle.tsp_cases.specs.declared.families.Families.{Families}
+use Rattle.tsp_cases.specs.declared.family.Families.{Families}
 use Rattle.tsp_cases.specs.declared.family.Crossings.{Crossings}
 use Rattle.tsp_cases.specs.declared.sets.SetPlace.{SetPlace}
 
@@ -19,7 +19,7 @@ place_at family set = record { family = family; set = set }
 abbrev pub IsPlaceIn : List (List (List ℕ)) → SetPlace → Type 0
 IsPlaceIn families place = (place.family < length families) × (place.set < length (slice_index_or families place.family []))
 
--- ---- the fields of `Families` (src/families.rt)
+-- ---- the fields of `Families` (src/family.rt)
 
 -- the sets of each family, as lists of nodes
 abbrev pub lent_in : Families → List (List (List ℕ))
@@ -90,7 +90,7 @@ multipliers_at multipliers families x = summed_from 0 (λ multiplier set. added 
 abbrev pub set_in : List (List (List ℕ)) → SetPlace → List ℕ
 set_in families place = slice_index_or (slice_index_or families place.family []) place.set []
 
--- twice the multiplier of the set at a place, where the set has the node x; else 0
+-- twice the multiplier of the set at a place, if the set has the node x; otherwise 0
 abbrev pub twice_in : List ℤ → List (List (List ℕ)) → SetPlace → ℕ → ℤ
 twice_in multipliers families place x =
     added (pos 2 *ℤ slice_index_or multipliers place.family (pos 0)) (set_in families place) x

@@ -1,11 +1,12 @@
--- What customers demand, in units, and the entries of the table of walks while it is filled.
+-- What customers demand, in units (src/demands.rt), and the entries of the table of q-routes while it is filled
+-- (src/least_q_route.rt). Most files of src/ use the loads.
 use Rattle.tsp_routing.specs.Prelude.{Vec, All, ℕ, length, ℤ, pos, List, slice_index_or, neg_ℤ, most_nodes, most_demand, most_capacity, IsNode, IsFromTo, RoutingProblem, demand_of, IsCustomer}
 use Rattle.std.specs.Prelude.{◌≡◌, ◌≤◌, ◌==◌, if◌then◌else◌, ◌⊎◌, ◌+◌, ◌*◌, ◌<◌, ◌+ℤ◌, ◌≤ℤ◌}
 use Rattle.tsp_routing.specs.PlanLinks.{is_light, AreUnits, load_in, capacity_in_parts}
 use Rattle.tsp_routing.specs.QRoutes.{QRouteEntry, IsLow, IsMet}
-use Rattle.tsp_routing.specs.declared.units.Demands.{Demands}
+use Rattle.tsp_routing.specs.declared.demands.Demands.{Demands}
 use Rattle.tsp_routing.specs.declared.least_q_route.Onward.{Onward}
-use Rattle.tsp_routing.specs.declared.units.UnitLoads.{UnitLoads}
+use Rattle.tsp_routing.specs.declared.demands.UnitLoads.{UnitLoads}
 
 -- ---- the routing problem of a depot, demands and a capacity, with any costs
 

@@ -1,4 +1,5 @@
--- What is judged of a certificate for routes before its leaves, and the sizes of what a leaf needs.
+-- What is judged in a certificate for routes before its leaves, and how large a leaf's numbers are. For src/verdict.rt
+-- and src/plan_tree.rt. The verdict itself is `IsPlanVerdict` in ../RunVerdicts.antt.
 use Rattle.tsp_routing.specs.Prelude.{Vec, All, ℕ, Bool, true, List, length, Option, ℤ, Some, None, Step, RoutingProblem, LeafNumbers, families_in, Family, family_with, listed_steps, Decision}
 use Rattle.std.specs.Prelude.{◌≡◌, ◌+◌, ◌*◌, ◌≤◌, ◌<◌}
 use Rattle.tsp_cases.specs.declared.family.Crossings.{Crossings}
@@ -7,7 +8,7 @@ use Rattle.tsp_cases.specs.declared.judged.TreeVerdict.TheVariants as verdict
 use Rattle.tsp_routing.specs.PlanBounds.{IsFoundByQRoutes, IsPlanTreeBound}
 use Rattle.tsp_routing.specs.PlanLinks.{capacity_in_parts, IsCutFamily}
 use Rattle.tsp_routing.specs.PlanVerdicts.{AreGoodPlanLeaves, IsFirstBadPlanLeaf, most_entries, IsGoodSet, IsFirstBadSet, AreCapacityCuts}
-use Rattle.tsp_routing.specs.declared.units.Demands.{Demands}
+use Rattle.tsp_routing.specs.declared.demands.Demands.{Demands}
 use Rattle.tsp_routing.specs.declared.verdict.JudgedCuts.{JudgedCuts}
 use Rattle.tsp_routing.specs.declared.verdict.JudgedCuts.TheVariants as judged
 use Rattle.tsp_routing.specs.declared.verdict.PlanScratch.{PlanScratch}
@@ -19,7 +20,7 @@ pub record IsPlanScratch (n families : ℕ) (room : PlanScratch) : Type 0 where
   pub multipliers : length room.multipliers.items ≡ families
   pub row : length room.row.items ≡ n + 1
 
--- what is found of a leaf where there are few loads; where there are too many, a leaf is good or bad alone
+-- what is found for a leaf if there are few loads; if there are too many, a leaf is only good or bad
 abbrev pub IsFoundOfFew : Bool → RoutingProblem → ℤ → ℕ → ℕ → List Family → List Decision × LeafNumbers → Option ℤ → Type 0
 IsFoundOfFew few problem scale unit light families leaf found =
     few ≡ true → IsFoundByQRoutes problem scale unit light families leaf found
@@ -28,7 +29,7 @@ IsFoundOfFew few problem scale unit light families leaf found =
 abbrev pub entries_in : RoutingProblem → ℕ → ℕ → ℕ
 entries_in problem unit light = problem.nodes * (capacity_in_parts problem unit light + 1)
 
--- the verdict on the leaves, where families and branches are good
+-- the verdict on the leaves, if families and branches are good
 abbrev pub IsLeafVerdict : RoutingProblem → ℤ → ℕ → ℕ → ℕ → List Family → List Step → TreeVerdict → Type 0
 IsLeafVerdict problem scale unit light count families steps (verdict.BadLeaf leaf) =
     IsFirstBadPlanLeaf problem.nodes count steps leaf
@@ -45,7 +46,7 @@ IsLeafVerdict problem scale unit light count families steps other = ⊥
 abbrev pub IsFewCrossed : Crossings → Type 0
 IsFewCrossed own = own.least ≤ 200000
 
--- how often a plan crosses the set at least; None where the family isn't a set of customers
+-- the least number of times that a plan crosses the set; None if the family isn't a set of customers
 abbrev pub AreCutNumbers : Demands → List (List ℕ) → Option Crossings → Type 0
 AreCutNumbers demands sets None = IsGoodSet demands.nodes demands.depot sets → ⊥
 AreCutNumbers demands sets (Some own) = IsGoodSet demands.nodes demands.depot sets × IsFewCrossed own

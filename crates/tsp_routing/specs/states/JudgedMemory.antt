@@ -1,4 +1,5 @@
--- What is judged of the lists of customers and of rows, in code.
+-- What src/judged_memory.rt finds about the lists of customers and the subset rows, and what it has found so far.
+-- ../RunTrees.antt defines which of them are good.
 use Rattle.tsp_routing.specs.Prelude.{Vec, All, ℕ, Bool, true, List, [], map, take, length, slice_index_or, Option, Some, None, IsNode, IsCustomer, has}
 use Rattle.std.specs.Prelude.{◌≡◌, ◌+◌, ◌≤◌, ◌<◌, ◌++◌, if◌then◌else◌}
 use Rattle.tsp_format.specs.Steps.{SubsetRow}
@@ -8,7 +9,7 @@ use Rattle.tsp_routing.specs.declared.judged_memory.JudgedMemory.{JudgedMemory}
 use Rattle.tsp_routing.specs.declared.judged_memory.JudgedMemory.TheVariants as judged
 use Rattle.tsp_routing.specs.declared.judged_memory.JudgedRows.{JudgedRows}
 use Rattle.tsp_routing.specs.declared.judged_memory.JudgedRows.TheVariants as judged_rows
-use Rattle.tsp_routing.specs.states.GivenMemories.{near_in}
+use Rattle.tsp_routing.specs.states.MemoryTables.{near_in}
 use Rattle.tsp_format.specs.states.TreeSteps.{subset_row_of}
 use Rattle.tsp_routing.specs.states.RunTables.{item_lists}
 

@@ -1,16 +1,18 @@
--- The lists of kept states, by load and by last customer.
-use Rattle.tsp_routing.specs.Prelude.{Vec, All, AllPairs, Contains, ℕ, Option, Some, None, List, [], map, length, slice_index_or, ℤ, pos, neg_ℤ, IsFromTo, IsCustomer}
+-- The lists of kept states, by load and by last customer, whole and while they grow. Also how many kept states the
+-- lists have, what is found if there are few enough, and the least weight of a run in the lists so far. For
+-- src/run_steps.rt, src/kept_states.rt and src/run_bound.rt.
 use Rattle.std.specs.Prelude.{◌≡◌, ◌≢◌, ◌⊎◌, ◌+◌, ◌-◌, ◌*◌, ◌^◌, ◌≤◌, ◌<◌, ◌∷◌, ◌++◌, ◌+ℤ◌, ◌≤ℤ◌}
-use Rattle.tsp_routing.specs.Runs.{RunRules, RunState, first_state, next_state, MayServe, AreCharges}
 use Rattle.tsp_format.specs.Steps.{SubsetRow}
-use Rattle.tsp_routing.specs.KeptStates.{IsKeptState}
+use Rattle.tsp_routing.specs.KeptStates.{IsKeptState, HasTooManyStates}
 use Rattle.tsp_routing.specs.Memories.{Remembers}
+use Rattle.tsp_routing.specs.Prelude.{Vec, All, AllPairs, Contains, ℕ, Option, Some, None, List, [], map, length, slice_index_or, ℤ, pos, neg_ℤ, IsFromTo, IsCustomer, IsNode}
+use Rattle.tsp_routing.specs.RunBounds.{IsLeastRun}
+use Rattle.tsp_routing.specs.Runs.{RunRules, RunState, first_state, next_state, MayServe, AreCharges}
 use Rattle.tsp_routing.specs.Starts.{start_state, step_weight, start_weight, IsStart}
-use Rattle.tsp_routing.specs.declared.kept_state.KeptState.{KeptState}
+use Rattle.tsp_routing.specs.declared.kept_states.KeptState.{KeptState}
+use Rattle.tsp_routing.specs.declared.memories.StepKey.{StepKey}
 use Rattle.tsp_routing.specs.declared.run_leaf.RunLeaf.{RunLeaf}
-use Rattle.tsp_routing.specs.states.MemoryTables.{keys_in, key_places_in, AreMemoriesOf}
-use Rattle.tsp_routing.specs.declared.memory_key.StepKey.{StepKey}
-use Rattle.tsp_routing.specs.states.MemorySteps.{step_key_of}
+use Rattle.tsp_routing.specs.states.MemoryTables.{keys_in, key_places_in, AreMemoriesOf, step_key_of}
 use Rattle.tsp_routing.specs.states.RunTables.{item_lists, rules_by, AreHomeRows}
 
 -- the rules of a leaf with these memories and priced rows
@@ -33,7 +35,7 @@ steps_in leaf before last =
     map (step_key_of leaf.memories.now.nodes leaf.charges.now (key_places_in leaf.memories.now.places.items before) before)
     (keys_in leaf.memories.now.keys.items last)
 
--- what is made of an entry by going on to a customer: the entry of the next state; or nothing, where the run may not
+-- what is made of an entry by going on to a customer: the entry of the next state; or nothing, if the run may not
 -- serve that customer or isn't kept
 abbrev pub IsNextEntry : RunRules → ℤ → RunState → ℤ → ℕ → Option KeptState → Type 0
 IsNextEntry rules limit state weight next (Some entry) = MayServe rules state next
@@ -42,7 +44,7 @@ IsNextEntry rules limit state weight next (Some entry) = MayServe rules state ne
 IsNextEntry rules limit state weight next None = MayServe rules state next
     → IsKeptState rules limit (next_state rules state next) (weight +ℤ step_weight rules state next) → ⊥
 
--- the entry of a start of one customer; or nothing, where that isn't kept
+-- the entry of a start of one customer; or nothing, if that isn't kept
 abbrev pub IsFirstEntry : RunRules → ℤ → ℕ → Option KeptState → Type 0
 IsFirstEntry rules limit first (Some entry) = IsKeptState rules limit (first_state rules first) (rules.weight rules.depot first)
     × Remembers rules (first_state rules first) entry.word × (entry.weight ≡ rules.weight rules.depot first)
@@ -78,7 +80,7 @@ pub record IsKeptListTo (rules : RunRules) (limit : ℤ) (load last upto : ℕ) 
   pub later : (before : ℕ) (earlier : List ℕ) → before ≤ upto → IsStart rules limit last (before ∷ earlier)
       → (start_state rules last (before ∷ earlier)).load ≡ load → CoversStart rules entries last (before ∷ earlier)
 
--- an entry of a next state is put behind others, or none where there is none
+-- an entry of a next state is put behind others, or none if there is none
 abbrev pub AddsOne : RunRules → ℤ → RunState → ℤ → ℕ → List KeptState → List KeptState → Type 0
 AddsOne rules limit state weight next old new = ((new ≡ old) × IsNextEntry rules limit state weight next None)
     ⊎ ((entry : KeptState) × (new ≡ old ++ entry ∷ []) × IsNextEntry rules limit state weight next (Some entry))
@@ -144,3 +146,68 @@ pub record IsSizedRow (n load : ℕ) (lists : List (List KeptState)) : Type 0 wh
 
 abbrev pub AreSizedRows : ℕ → List (Vec (Vec KeptState)) → Type 0
 AreSizedRows n table = (load : ℕ) → load < length table → IsSizedRow n load (item_lists (slice_index_or (item_lists table) load []))
+
+-- ---- how many kept states there are
+
+-- how many entries the lists of a load have
+abbrev pub count_in_lists : List (List KeptState) → ℕ
+count_in_lists [] = 0
+count_in_lists (list ∷ lists) = length list + count_in_lists lists
+
+-- how many entries the lists of all loads have
+abbrev pub entry_count : List (Vec (Vec KeptState)) → ℕ
+entry_count [] = 0
+entry_count (row ∷ rows) = count_in_lists (item_lists row.items) + entry_count rows
+
+-- no list of a load has two entries with the same memory
+abbrev pub AreRisingLists : List (List KeptState) → Type 0
+AreRisingLists lists = (last : ℕ) → last < length lists → AreRising (slice_index_or lists last [])
+
+-- the same of all loads
+abbrev pub AreRisingRows : List (Vec (Vec KeptState)) → Type 0
+AreRisingRows table = (load : ℕ) → load < length table → AreRisingLists (item_lists (slice_index_or (item_lists table) load []))
+
+-- the lists of the next load are found, or there are too many kept states
+abbrev pub IsStateRowIfFew : RunRules → ℤ → (List (List KeptState) → Type 0) → Option (Vec (Vec KeptState)) → Type 0
+IsStateRowIfFew rules limit IsRow None = HasTooManyStates rules limit
+IsStateRowIfFew rules limit IsRow (Some row) = IsRow (item_lists row.items)
+
+-- the lists of all loads are found, or there are too many kept states
+abbrev pub AreStateRowsIfFew : RunRules → ℤ → Option (Vec (Vec (Vec KeptState))) → Type 0
+AreStateRowsIfFew rules limit None = HasTooManyStates rules limit
+AreStateRowsIfFew rules limit (Some table) = AreStateRows rules limit table.items
+
+-- what is so is found, or there are too many kept states
+abbrev pub IsFoundIfFew : {X : Type 0} → RunRules → ℤ → (X → Type 0) → Option X → Type 0
+IsFoundIfFew {X} rules limit Is None = HasTooManyStates rules limit
+IsFoundIfFew {X} rules limit Is (Some x) = (HasTooManyStates rules limit → ⊥) × Is x
+
+-- the least weight of a run is found, or there are too many kept states
+abbrev pub IsLeastRunIfFew : RunRules → ℤ → Option ℤ → Type 0
+IsLeastRunIfFew rules limit found = IsFoundIfFew rules limit (IsLeastRun rules limit) found
+
+-- ---- the least weight of a run
+
+-- no entry, with the link to the depot, weighs less
+abbrev pub IsBelowEntries : ℤ → ℤ → List KeptState → Type 0
+IsBelowEntries least link entries = All (λ (entry : KeptState). least ≤ℤ (entry.weight +ℤ link)) entries
+
+-- an entry, with the link to the depot, weighs as much
+abbrev pub IsMetBy : ℤ → ℤ → List KeptState → Type 0
+IsMetBy least link entries = (entry : KeptState) × Contains entries entry × (least ≡ entry.weight +ℤ link)
+
+-- the same of the lists of a load, of the customers up to `upto`, by the links of these
+abbrev pub IsBelowLoad : ℕ → (ℕ → ℕ → ℤ) → List (Vec (Vec KeptState)) → ℕ → ℕ → ℤ → Type 0
+IsBelowLoad depot weight table load upto least = (last : ℕ) → IsCustomer upto depot last
+    → IsBelowEntries least (weight last depot) (list_in table load last)
+
+abbrev pub IsMetAtLoad : ℕ → ℕ → (ℕ → ℕ → ℤ) → List (Vec (Vec KeptState)) → ℕ → ℤ → Type 0
+IsMetAtLoad n depot weight table load least = (last : ℕ) × IsCustomer n depot last
+    × IsMetBy least (weight last depot) (list_in table load last)
+
+-- the same of the loads below `upto`
+abbrev pub IsBelowTable : ℕ → ℕ → (ℕ → ℕ → ℤ) → List (Vec (Vec KeptState)) → ℕ → ℤ → Type 0
+IsBelowTable n depot weight table upto least = (load : ℕ) → load < upto → IsBelowLoad depot weight table load n least
+
+abbrev pub IsMetBelow : ℕ → ℕ → (ℕ → ℕ → ℤ) → List (Vec (Vec KeptState)) → ℕ → ℤ → Type 0
+IsMetBelow n depot weight table upto least = (load : ℕ) × (load < upto) × IsMetAtLoad n depot weight table load least

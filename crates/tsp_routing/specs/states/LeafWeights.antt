@@ -1,4 +1,5 @@
--- The weights of a leaf between customers: kept rows, the multipliers of sets, and what is given back.
+-- The weights of a leaf between customers: kept rows, the multipliers of sets, and what is given back. For the
+-- contracts of src/leaf_weights.rt, and for the ranges in src/plan_tree.rt.
 use Rattle.tsp_routing.specs.Prelude.{Vec, ℕ, List, length, slice_index_or, ℤ, pos, neg_ℤ, [], IsNode, IsFromTo, Step, Branch, Leaf, least_at, Decision, set_crossings}
 use Rattle.std.specs.Prelude.{◌≡◌, ◌+◌, ◌<◌, ◌≤◌, ◌∷◌, ◌+ℤ◌, ◌^◌}
 use Rattle.tsp_cases.specs.declared.family.Crossings.{Crossings}

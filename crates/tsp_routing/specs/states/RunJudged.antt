@@ -1,6 +1,6 @@
--- What is judged of the leaves of a certificate for routes that lists memories or subset rows, in code.
-use Rattle.tsp_routing.specs.Prelude.{Vec, ℕ, List, map, length, ℤ, Step, LeafNumbers, families_with, AreGoodLeavesBy, IsFirstBadLeafBy, listed_steps}
-use Rattle.std.specs.Prelude.{◌≡◌, ◌+◌, ◌≤◌, ◌<◌}
+-- What src/run_verdict.rt finds for the leaves of a certificate with memories or subset rows, and what src/run_bound.rt
+-- gives back for rows. The verdict itself is in ../RunVerdicts.antt.
+use Rattle.std.specs.Prelude.{◌≡◌, ◌+◌, ◌≤◌, ◌<◌, ◌*◌, ◌^◌, [], ◌∷◌, pos, ◌+ℤ◌, ◌*ℤ◌}
 use Rattle.tsp_format.specs.Steps.{SubsetRow}
 use Rattle.tsp_format.specs.declared.steps.RowSets.{RowSets}
 use Rattle.tsp_format.specs.states.TreeSteps.{subset_row_of}
@@ -8,12 +8,14 @@ use Rattle.tsp_cases.specs.declared.family.Crossings.{Crossings}
 use Rattle.tsp_cases.specs.declared.judged.TreeVerdict.{TreeVerdict}
 use Rattle.tsp_cases.specs.declared.judged.TreeVerdict.TheVariants as verdict
 use Rattle.tsp_routing.specs.PlanVerdicts.{most_entries}
+use Rattle.tsp_routing.specs.Prelude.{Vec, ℕ, List, map, length, ℤ, Step, LeafNumbers, families_with, AreGoodLeavesBy, IsFirstBadLeafBy, listed_steps}
 use Rattle.tsp_routing.specs.RunBounds.{leaf_rules}
 use Rattle.tsp_routing.specs.RunTrees.{near_of, placed_steps, AreGoodRunLeaves, IsFirstBadRunLeaf, RunTree, AreFewNumbers, IsRunTreeBound}
 use Rattle.tsp_routing.specs.RunVerdicts.{AreFewLeaves, IsFirstFullLeaf}
-use Rattle.tsp_routing.specs.declared.memory_key.MemoryKey.{MemoryKey}
-use Rattle.tsp_routing.specs.declared.run_judge.RunScratch.{RunScratch}
-use Rattle.tsp_routing.specs.declared.units.Demands.{Demands}
+use Rattle.tsp_routing.specs.Runs.{half, halves_total}
+use Rattle.tsp_routing.specs.declared.demands.Demands.{Demands}
+use Rattle.tsp_routing.specs.declared.memories.MemoryKey.{MemoryKey}
+use Rattle.tsp_routing.specs.declared.run_verdict.RunScratch.{RunScratch}
 use Rattle.tsp_routing.specs.states.Demands.{loads_problem}
 use Rattle.tsp_routing.specs.states.Judged.{entries_in}
 use Rattle.tsp_routing.specs.states.MemoryTables.{AreMemoriesOf}
@@ -45,8 +47,8 @@ AreTablesFor tree count keys places = (numbers : LeafNumbers) (rows : List (Subs
     → AreMemoriesOf (leaf_rules tree.problem tree.scale tree.unit tree.light tree.families numbers (near_of tree.lists) rows)
     count keys places
 
--- where no leaf has more kept states than are allowed, the least bound of a leaf; else the first leaf that has. These
--- steps have places of numbers.
+-- If no leaf has more kept states than are allowed: the least bound of a leaf. Otherwise: the first leaf that has.
+-- These steps have places of numbers.
 abbrev pub AreRunsJudged : RunTree → List Step → TreeVerdict → Type 0
 AreRunsJudged tree steps (verdict.TooManyStates leaf) =
     IsFirstBadLeafBy (AreFewNumbers tree) tree.problem.nodes (tree.family_count + tree.row_count) steps leaf
@@ -55,7 +57,7 @@ AreRunsJudged tree steps (verdict.Bound found) =
     × IsRunTreeBound tree (listed_steps tree.problem.nodes (tree.family_count + tree.row_count) steps) found
 AreRunsJudged tree steps other = ⊥
 
--- the verdict on the leaves, where families, memories and branches are good
+-- the verdict on the leaves, if families, memories and branches are good
 abbrev pub IsRunLeafVerdict : RunTree → List Step → TreeVerdict → Type 0
 IsRunLeafVerdict tree steps (verdict.BadLeaf leaf) =
     IsFirstBadRunLeaf tree.problem.nodes tree.family_count tree.row_count steps leaf
@@ -71,3 +73,20 @@ IsRunLeafVerdict tree steps (verdict.Bound found) =
     × IsRunTreeBound tree (listed_steps tree.problem.nodes (tree.family_count + tree.row_count)
     (placed_steps tree.problem.nodes tree.family_count steps)) found
 IsRunLeafVerdict tree steps other = ⊥
+
+-- ---- what rows give back
+
+-- half of each set as often as its row charges
+abbrev pub halves_with : List SubsetRow → List ℤ → ℤ
+halves_with [] charges = pos 0
+halves_with (row ∷ rows) [] = pos 0
+halves_with (row ∷ rows) (charge ∷ charges) = (pos (half row) *ℤ charge) +ℤ halves_with rows charges
+
+-- a set whose customers can be counted
+abbrev pub IsSmallRow : RowSets → Type 0
+IsSmallRow row = length row.set.items ≤ 2 ^ 33
+
+-- That is what rows give back.
+abbrev pub HalvesAreTotal : Type 0
+HalvesAreTotal = (rows : List (SubsetRow × ℤ))
+    → halves_with (map (λ (row : SubsetRow × ℤ). row.0) rows) (map (λ (row : SubsetRow × ℤ). row.1) rows) ≡ halves_total rows

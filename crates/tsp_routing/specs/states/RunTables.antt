@@ -1,4 +1,5 @@
--- The tables of the programme over kept states, in memory: weights by node, and ways home by what a route can still carry.
+-- The tables of label setting, in memory: weights by node, and ways home by what a route can still carry. The structs
+-- `RunNodes` and `RunLeaf` (src/run_leaf.rt) promise them.
 use Rattle.tsp_routing.specs.Prelude.{Vec, ℕ, List, [], map, length, slice_index_or, ℤ, pos, neg_ℤ, IsNode, IsFromTo, IsCustomer, least_at}
 use Rattle.std.specs.Prelude.{◌≡◌, ◌+◌, ◌-◌, ◌*◌, ◌^◌, ◌≤◌, ◌<◌, ◌+ℤ◌, ◌≤ℤ◌, ◌⊎◌, ◌≢◌}
 use Rattle.tsp_routing.specs.PlanBounds.{most_link}
@@ -71,7 +72,7 @@ AreHomeRowsSized n table = (left : ℕ) → left < length table
 abbrev pub no_way : ℤ
 no_way = pos (2 ^ 100)
 
--- what a way home from a customer weighs where a route that can carry so much more serves that customer next
+-- what a way home from a customer weighs if a route that can still carry this much serves the customer next
 abbrev pub IsOnward : ℕ → ℕ → List ℕ → ℕ → List (Vec ℤ) → ℕ → ℤ → Type 0
 IsOnward n depot loads left table next number =
     (IsCustomer n depot next × (load_at loads next ≤ left) × (number ≡ home_in table (left - load_at loads next) next))

@@ -1,5 +1,5 @@
--- What Prim's algorithm keeps for each node outside the tree, the nearest node inside and the weight to it; and an
--- entry of a row after a number was added to it.
+-- What Prim's algorithm (src/tree.rt of tsp_bound) keeps for each node outside the tree: the nearest node inside, and
+-- the weight to it. Also an entry of a row after a number was added to it.
 use Rattle.std.specs.Int.{w64, int_wrap}
 use Rattle.std.specs.Prelude.{◌≡◌, ℕ, Bool, false, List, slice_index_or, ◌⊎◌, ℤ, pos, ◌≤ℤ◌, ◌<ℤ◌, ◌+ℤ◌}
 
@@ -12,7 +12,7 @@ abbrev pub least_at : List ℤ → ℕ → ℤ
 least_at least x = slice_index_or least x (pos 0)
 
 -- The node `next` is grown now, at this weight: the nearest grown node and its weight are as before, or `next` and this
--- weight where that is less.
+-- weight if that is less.
 abbrev pub IsNearer : ℤ → ℕ → ℕ → ℤ → ℕ → ℤ → Type 0
 IsNearer weight next old_near old_least new_near new_least =
     ((new_near ≡ old_near) × (new_least ≡ old_least) × (old_least ≤ℤ weight))
@@ -20,6 +20,6 @@ IsNearer weight next old_near old_least new_near new_least =
 
 -- ---- an entry of a row after a number was added to it in 64 bits
 
--- the entry as it was, where 0 is added; else what is left of the sum in 64 bits
+-- the entry as it was, if 0 is added; otherwise what is left of the sum in 64 bits
 abbrev pub IsMoved : ℤ → ℤ → ℤ → Type 0
 IsMoved change old new = ((new ≡ old) × (change ≡ pos 0)) ⊎ (new ≡ int_wrap w64 (old +ℤ change))

@@ -1,4 +1,4 @@
--- Marks of nodes, the next node on a cycle, and routes as vectors of nodes.
+-- Marks of nodes, the next node on a cycle, routes as vectors of nodes, and sums. For src/tour.rt and src/routes.rt.
 use Rattle.tsp_verdict.specs.Prelude.{All, flat_map, ℕ, Bool, true, false, List, length, slice_index, slice_index_or, [], map, ℤ, pos, most_tour_nodes, most_weight, Fields, is_tour_file, Follows}
 use Rattle.std.specs.Global.{Vec}
 use Rattle.std.specs.Prelude.{◌≡◌, ◌+◌, ◌<◌, ◌≤◌, ◌≢◌, ◌*◌, ◌+ℤ◌, ◌≤ℤ◌}
@@ -23,7 +23,7 @@ pub record AreNext (cycle next : List ℕ) : Type 0 where
   pub follows : (a b : ℕ) → Follows cycle (a, b) → slice_index next a ≡ b
   pub only : (a b : ℕ) → 1 ≤ b → slice_index next a ≡ b → Follows cycle (a, b)
 
--- ---- the tours or routes of a solution where code has them as vectors of nodes
+-- ---- the tours or routes of a solution, as vectors of nodes
 
 -- the nodes of several vectors, one after the other
 abbrev pub nodes_in : List (Vec ℕ) → List ℕ

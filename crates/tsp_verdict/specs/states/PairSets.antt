@@ -1,4 +1,5 @@
--- Sets of pairs of nodes, where an undirected pair has its smaller node first.
+-- Sets of pairs of nodes, where an undirected pair has its smaller node first. For src/certificate.rt and
+-- src/potentials_certificate.rt.
 use Rattle.tsp_verdict.specs.Prelude.{ℕ, Bool, true, false, List, nat_le, list_any, is_same_pair, is_same}
 use Rattle.std.specs.Prelude.{◌≡◌, if◌then◌else◌}
 use Rattle.std.specs.BTreeSet.{BTreeSet, contains}
@@ -18,7 +19,7 @@ abbrev pub HasPairs : {X : Type 0} → (X → ℕ × ℕ) → BTreeSet (ℕ × �
 HasPairs pair_in set xs = (pair : ℕ × ℕ)
     → contains pair_cmp set (undirected pair) ≡ list_any (λ x. is_same_pair pair (pair_in x)) xs
 
--- a pair as a set has it: directed as it is, else with its smaller node first
+-- a pair as a set has it: directed as it is, otherwise with its smaller node first
 abbrev pub key_of : Bool → ℕ × ℕ → ℕ × ℕ
 key_of true pair = pair
 key_of false pair = undirected pair

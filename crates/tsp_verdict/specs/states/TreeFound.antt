@@ -1,4 +1,5 @@
--- What a certificate gives, by the verdict on its tree of cases: one table for tours and for routes.
+-- What a certificate gives, by the verdict on its tree of cases: one table for tours and for routes. For
+-- `found_by_tree` in src/certificate.rt; a new variant of `TreeVerdict` needs its row.
 use Rattle.tsp_verdict.specs.Prelude.{None, Some, BadFamily, BadMemory, BadRow, BadBranch, BranchTwice, BadLeaf, TooManyLoads, TooManyStates}
 use Rattle.std.specs.Prelude.{◌<◌, ◌^◌}
 use Rattle.tsp_cases.specs.declared.judged.TreeVerdict.{TreeVerdict}

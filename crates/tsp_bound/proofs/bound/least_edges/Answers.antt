@@ -1,5 +1,5 @@
--- The goals of `least_edges` in src/bound.rt, which finds the edges of a least 1-tree: what its calls require, that no
--- sum overflows and what it ensures.
+-- The goals of `least_edges` in src/bound.rt, which finds the edges of a minimum 1-tree: what its calls require, that
+-- no sum overflows and what it ensures.
 use Rattle.tsp_bound.proofs.Prelude.{◌≡◌, ◌∙◌, [], ap, ap₂, sym, arith, rules, FitsSigned, ◌+ℤ◌, w64, ints, weight_of, tree_of, least_from_forest, weight_even, tree_fits, tree_size, tree_computed, weight_of_tree}
 use Rattle.tsp_bound.specs.states.Potentials.{weight_under, triples_in, weight_less}
 use Rattle.tsp_theory.proofs.Neighbours.{adjusted_even}
@@ -22,7 +22,7 @@ overflow_add-result g c =
     let second : FitsSigned w64 c.two_root_edges.result.1.weight = search rules in
     tree_fits c.two_root_edges.result.0.weight c.two_root_edges.result.1.weight c.in_ok-grown.grown.weight c.from.result c.from-2.result first second c.from.ensures c.from-2.ensures c.in_ok-grown.ensures.size
 
--- plan: the joined pairs with both spokes are a least 1-tree under the lessened weights (`least_from_forest`)
+-- plan: the joined pairs with both spokes are a minimum 1-tree under the lessened weights (`least_from_forest`)
 pub returns : goal.returns
 returns g c =
     let n = g.C.Costs.nodes c.args.c.now in

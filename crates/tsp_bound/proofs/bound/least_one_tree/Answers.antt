@@ -1,5 +1,5 @@
--- The goals of `least_one_tree` in src/bound.rt, which bounds every cycle by a least 1-tree: what its calls require and
--- what it ensures.
+-- The goals of `least_one_tree` in src/bound.rt, which bounds every cycle by a minimum 1-tree: what its calls require
+-- and what it ensures.
 use Rattle.tsp_bound.proofs.Prelude.{◌≡◌, ℕ, List, [], subst, ◌∙◌, arith, rules, FitsSigned, to_z, of_z, ℤ, w128, to_z-of_z, total, triples_total, IsAdjustedBoundOf, IsAdjustedBound, weight_of, IsLeastOneTree, sum_of_bound, bound_of_weight, tree_same}
 use Rattle.tsp_bound.specs.states.Potentials.{weight_less}
 use Rattle.tsp_bound.proofs.bound.least_one_tree.Goals as goal

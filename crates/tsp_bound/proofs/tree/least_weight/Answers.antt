@@ -1,4 +1,4 @@
--- The goals of `least_weight` in src/tree.rt, which returns the weight of a least 1-tree: that no sum overflows and
+-- The goals of `least_weight` in src/tree.rt, which returns the weight of a minimum 1-tree: that no sum overflows and
 -- what it ensures.
 use Rattle.tsp_bound.proofs.Prelude.{◌≡◌, ◌∙◌, ℕ, ℤ, List, ap₂, refl, sym, rules, FitsSigned, ◌+ℤ◌, w64, weight_of, tree_of, least_from_forest, tree_fits, tree_size, tree_computed, weight_of_tree}
 use Rattle.tsp_bound.proofs.tree.least_weight.Goals as goal
@@ -9,7 +9,7 @@ overflow_add-result g c =
     let second : FitsSigned w64 c.two_root_edges.result.1.weight = search rules in
     tree_fits c.two_root_edges.result.0.weight c.two_root_edges.result.1.weight c.in_ok-grown.grown.weight c.from.result c.from-2.result first second c.from.ensures c.from-2.ensures c.in_ok-grown.ensures.size
 
--- plan: the joined pairs with both spokes are a least 1-tree (`least_from_forest`), whose weight fits 128 bits
+-- plan: the joined pairs with both spokes are a minimum 1-tree (`least_from_forest`), whose weight fits 128 bits
 pub returns : goal.returns
 returns g c =
     let n = g.W.Weights.nodes c.args.w.now in

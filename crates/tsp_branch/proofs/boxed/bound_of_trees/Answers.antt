@@ -1,4 +1,4 @@
--- The goals of `bound_of_trees` in src/boxed.rt, which bounds a leaf by least 1-trees, by kept rows or by boxes:
+-- The goals of `bound_of_trees` in src/boxed.rt, which bounds a leaf by minimum 1-trees, by kept rows or by boxes:
 -- the facts of the values that it makes, what its calls require and what it ensures.
 use Rattle.tsp_branch.proofs.Prelude.{◌≡◌, ◌∙◌, ℕ, ℤ, Bool, List, refl, sym, subst, rules, FitsSigned, to_z, of_z, w64, w128, to_z-of_z, IfOk-weaker, same_scale, Decision, DecideOnce, lent_in, set_weight, decisions_in, few_changes}
 use Rattle.tsp_branch.specs.BranchVerdicts.{BoundsEachLeaf}

@@ -1,10 +1,10 @@
--- The goals of `leaf_bound` in src/boxed.rt, which bounds a leaf by a least 1-tree: what it ensures.
+-- The goals of `leaf_bound` in src/boxed.rt, which bounds a leaf by a minimum 1-tree: what it ensures.
 use Rattle.tsp_branch.proofs.Prelude.{◌≡◌, sym, subst, rules, ℤ, FitsSigned, to_z, of_z, ◌+ℤ◌, w128, to_z-of_z, IsLeastBound, same_scale}
 use Rattle.tsp_branch.specs.BranchVerdicts.{IsBoundOfWeights}
 use Rattle.tsp_branch.proofs.BoxedLeaves.{bounds_each_leaf, sum_is}
 use Rattle.tsp_branch.proofs.boxed.leaf_bound.Goals as goal
 
--- plan: the weight of a least 1-tree plus the sum given back, rounded up, bounds each leaf that has these weights
+-- plan: the weight of a minimum 1-tree plus the sum given back, rounded up, bounds each leaf that has these weights
 -- (`bounds_each_leaf`)
 pub returns : goal.returns
 returns g c =

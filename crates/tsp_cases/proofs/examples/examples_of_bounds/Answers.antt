@@ -2,7 +2,7 @@
 use Rattle.tsp_cases.proofs.SmallFamilies.{four_have_five, four_have_six, six_have_nine, six_have_ten}
 use Rattle.tsp_cases.proofs.examples.examples_of_bounds.Goals as goal
 
--- plan: for each example the least 1-tree is found by Prim's method, tested pair by pair, and its bound computed
+-- plan: for each example the minimum 1-tree is found by Prim's method, tested pair by pair, and its bound computed
 pub returns-clause-potentials_alone : goal.returns-clause-potentials_alone
 returns-clause-potentials_alone c = four_have_five
 

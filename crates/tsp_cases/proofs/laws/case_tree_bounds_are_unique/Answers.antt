@@ -2,6 +2,6 @@
 use Rattle.tsp_cases.proofs.CaseTrees.{case_tree_bounds_are_unique}
 use Rattle.tsp_cases.proofs.laws.case_tree_bounds_are_unique.Goals as goal
 
--- plan: two least 1-trees weigh the same, so a leaf has one bound at most, and the least of these is one number
+-- plan: two minimum 1-trees weigh the same, so a leaf has one bound at most, and the least of these is one number
 pub returns : goal.returns
 returns c = case_tree_bounds_are_unique

@@ -2,7 +2,6 @@
 use Rattle.tsp_cases.proofs.CaseLaws.{cycles_keep_leaves}
 use Rattle.tsp_cases.proofs.laws.cycles_keep_leaves.Goals as goal
 
--- plan: by induction over the steps: at a branch a cycle uses the pair or avoids it, so it stays in one of the open
--- cases
+-- plan: at a branch a cycle uses the pair or avoids it, so it stays in one of the open cases (`leaves_are_kept`)
 pub returns : goal.returns
 returns c = cycles_keep_leaves

@@ -3,8 +3,8 @@ use Rattle.tsp_theory.proofs.Cycles.{Laws}
 use Rattle.tsp_cases.proofs.CaseTrees.{leaf_bounds_bound_cycles, uncombed_bounds_are_adjusted_bounds}
 use Rattle.tsp_cases.proofs.laws.leaf_bounds_bound_cycles.Goals as goal
 
--- plan: a cycle weighs at least a least 1-tree. It crosses each family as often as its number says, so its length is at
--- least that weight plus the sum given back
+-- plan: a cycle weighs at least a minimum 1-tree. It crosses each family as often as its number says, so its length is
+-- at least that weight plus the sum given back
 pub returns : goal.returns
 returns c =
     let laws : Laws = record {

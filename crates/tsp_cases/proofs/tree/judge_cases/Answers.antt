@@ -6,7 +6,7 @@ use Rattle.tsp_cases.specs.states.OpenCases.{IsDecision}
 use Rattle.tsp_cases.proofs.TreeBranches.{steps_on_nodes}
 use Rattle.tsp_cases.proofs.tree.judge_cases.Goals as goal
 
--- plan: where no branch begins out of the limits, all pairs are of nodes (`steps_on_nodes`). Whether one is decided
+-- plan: if no branch begins out of the limits, all pairs are of nodes (`steps_on_nodes`). Whether one is decided
 -- twice the call ensures
 pub first_twice-requires : goal.first_twice-requires
 first_twice-requires g c =

@@ -1,5 +1,5 @@
 -- The goals of `examples_of_loads` in src/examples.rt: what it ensures.
-use Rattle.tsp_routing.proofs.SmallLoads.{in_fours, in_fives}
+use Rattle.tsp_routing.proofs.SmallCases.{in_fours, in_fives}
 use Rattle.tsp_routing.proofs.examples.examples_of_loads.Goals as goal
 
 -- plan: the light customers are counted

@@ -3,7 +3,7 @@ use Rattle.tsp_routing.proofs.Prelude.{ℕ, ◌<◌, ◌+◌, ◌*◌, arith, su
 use Rattle.tsp_routing.specs.Examples.{rectangle_with}
 use Rattle.tsp_routing.specs.PlanLinks.{capacity_in_parts}
 use Rattle.tsp_routing.specs.PlanVerdicts.{most_entries}
-use Rattle.tsp_routing.proofs.SmallLoads.{in_ones, none_below_one}
+use Rattle.tsp_routing.proofs.SmallCases.{in_ones, none_below_one}
 use Rattle.tsp_routing.proofs.examples.examples_of_most.Goals as goal
 
 -- plan: no customer demands less than 1 (`none_below_one`), so a route carries its capacity

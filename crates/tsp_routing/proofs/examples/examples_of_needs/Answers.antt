@@ -1,7 +1,7 @@
 -- The goals of `examples_of_needs` in src/examples.rt: what it ensures.
 use Rattle.tsp_routing.proofs.Prelude.{refl, arith, pos, ints}
 use Rattle.std.specs.Int.Signed.{le_z_yes}
-use Rattle.tsp_routing.proofs.SmallCuts.{fewest, need_of_three, need_of_two, cut_of_three, cut_of_two}
+use Rattle.tsp_routing.proofs.SmallCases.{fewest, need_of_three, need_of_two, cut_of_three, cut_of_two}
 use Rattle.tsp_routing.proofs.examples.examples_of_needs.Goals as goal
 
 -- plan: the demands are summed, and fewer routes carry less

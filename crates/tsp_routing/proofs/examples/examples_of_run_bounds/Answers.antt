@@ -2,7 +2,7 @@
 use Rattle.tsp_routing.proofs.Prelude.{◌≡◌, ◌≢◌, ℕ, [], ◌∷◌, refl, arith, inl, inr, ℤ, pos, negsuc, ◌≤ℤ◌, ints, nodes_to, IsCustomer}
 use Rattle.tsp_routing.specs.Runs.{IsRunUnder, run_weight}
 use Rattle.tsp_routing.specs.RunBounds.{IsRunBound}
-use Rattle.tsp_routing.proofs.RectangleRuns.{rules_with, AreAbove, all_above}
+use Rattle.tsp_routing.proofs.SmallCases.{rules_with, AreAbove, all_above}
 use Rattle.tsp_routing.proofs.examples.examples_of_run_bounds.Goals as goal
 
 -- customers 3 and 4, of which the run's weight is the least

@@ -1,7 +1,7 @@
 -- The loop of `near_by_node` in src/judged_memory.rt.
 use Rattle.tsp_routing.proofs.Prelude.{◌≡◌, ◌≤◌, ◌+◌, ◌-◌, ℕ, length, drop}
 use Rattle.tsp_routing.specs.RunTrees.{near_of}
-use Rattle.tsp_routing.specs.states.GivenMemories.{near_in}
+use Rattle.tsp_routing.specs.states.MemoryTables.{near_in}
 use Rattle.tsp_routing.specs.states.RunTables.{item_lists}
 use Rattle.tsp_routing.proofs.judged_memory.near_by_node.Given as goal
 

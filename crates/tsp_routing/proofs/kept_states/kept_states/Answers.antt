@@ -2,10 +2,9 @@
 use Rattle.tsp_routing.proofs.Prelude.{◌≡◌, ◌≤◌, ◌+◌, ◌∙◌, Option, ℕ, ℤ, List, [], ◌∷◌, ◌++◌, length, ap, subst, sym, arith, length-append, Vec}
 use Rattle.std.specs.Prelude.{IfSome}
 use Rattle.tsp_routing.specs.KeptStates.{most_states}
-use Rattle.tsp_routing.specs.declared.kept_state.KeptState.{KeptState}
+use Rattle.tsp_routing.specs.declared.kept_states.KeptState.{KeptState}
 use Rattle.tsp_routing.specs.states.RunTables.{item_lists}
-use Rattle.tsp_routing.specs.states.KeptCounts.{count_in_lists, entry_count, AreRisingLists, AreRisingRows, IsStateRowIfFew}
-use Rattle.tsp_routing.specs.states.KeptLists.{rules_of, IsStateRow, AreStateRows, IsSizedRow, AreSizedRows}
+use Rattle.tsp_routing.specs.states.KeptLists.{count_in_lists, entry_count, AreRisingLists, AreRisingRows, IsStateRowIfFew, rules_of, IsStateRow, AreStateRows, IsSizedRow, AreSizedRows}
 use Rattle.tsp_routing.proofs.KeptCounts.{entry_count_pushed}
 use Rattle.tsp_routing.proofs.WaysHome.{rows_pushed}
 use Rattle.tsp_routing.proofs.kept_states.kept_states.Goals as goal

@@ -2,8 +2,7 @@
 use Rattle.std.proofs.Common.{◌≡◌, ◌≤◌, ℕ, ℤ, List, length}
 use Rattle.tsp_format.specs.Steps.{SubsetRow}
 use Rattle.tsp_routing.specs.KeptStates.{most_states}
-use Rattle.tsp_routing.specs.states.KeptCounts.{entry_count, AreRisingRows}
-use Rattle.tsp_routing.specs.states.KeptLists.{rules_of, IsLeafOf, AreStateRows, AreSizedRows}
+use Rattle.tsp_routing.specs.states.KeptLists.{entry_count, AreRisingRows, rules_of, IsLeafOf, AreStateRows, AreSizedRows}
 use Rattle.tsp_routing.proofs.kept_states.kept_states.Given as goal
 
 -- the table has the rows of the loads below this one, and its entries are counted

@@ -2,11 +2,10 @@
 use Rattle.tsp_routing.proofs.Prelude.{◌≡◌, ◌≤◌, ◌<◌, ◌+◌, ◌*◌, ◌^◌, ◌∙◌, ℕ, ℤ, List, zero, suc, [], ◌∷◌, ◌++◌, pos, neg_ℤ, length, get_or, ap, subst, sym, arith, length-append, Vec, length-map, All-nil, IsFromTo, cases_lt, get_or_past, inl, inr}
 use Rattle.tsp_routing.specs.Runs.{RunRules}
 use Rattle.tsp_routing.specs.KeptStates.{most_states}
-use Rattle.tsp_routing.specs.declared.kept_state.KeptState.{KeptState}
+use Rattle.tsp_routing.specs.declared.kept_states.KeptState.{KeptState}
 use Rattle.tsp_routing.specs.states.RunTables.{item_lists}
-use Rattle.tsp_routing.specs.states.KeptCounts.{count_in_lists, AreRisingLists}
-use Rattle.tsp_routing.specs.states.KeptLists.{rules_of, IsKeptList, AreSizedEntries}
-use Rattle.tsp_routing.proofs.KeptBefores.{no_customer}
+use Rattle.tsp_routing.specs.states.KeptLists.{count_in_lists, AreRisingLists, rules_of, IsKeptList, AreSizedEntries}
+use Rattle.tsp_routing.proofs.KeptLists.{no_customer}
 use Rattle.tsp_routing.proofs.KeptCounts.{list_count_pushed, rising_lists, table_many}
 use Rattle.tsp_routing.proofs.WaysHome.{rows_pushed}
 use Rattle.tsp_routing.proofs.kept_states.states_with.Goals as goal

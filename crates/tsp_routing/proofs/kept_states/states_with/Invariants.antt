@@ -3,8 +3,7 @@ use Rattle.tsp_routing.proofs.Prelude.{◌≡◌, ◌≤◌, ◌<◌, ◌+◌, �
 use Rattle.tsp_format.specs.Steps.{SubsetRow}
 use Rattle.tsp_routing.specs.KeptStates.{most_states}
 use Rattle.tsp_routing.specs.states.RunTables.{item_lists}
-use Rattle.tsp_routing.specs.states.KeptCounts.{count_in_lists, AreRisingLists}
-use Rattle.tsp_routing.specs.states.KeptLists.{rules_of, IsLeafOf, IsKeptList, AreStateRows, AreSizedEntries}
+use Rattle.tsp_routing.specs.states.KeptLists.{count_in_lists, AreRisingLists, rules_of, IsLeafOf, IsKeptList, AreStateRows, AreSizedEntries}
 use Rattle.tsp_routing.proofs.kept_states.states_with.Given as goal
 
 -- the row has a place 0 and the lists of the nodes up to `index`, whose entries are counted

@@ -1,5 +1,5 @@
 -- The goals of `starts_are_told_from_both_ends` in src/laws.rt: what it ensures.
-use Rattle.tsp_routing.proofs.Starts.{kept_starts_are_starts, starts_are_kept_starts}
+use Rattle.tsp_routing.proofs.KeptStarts.{kept_starts_are_starts, starts_are_kept_starts}
 use Rattle.tsp_routing.proofs.laws.starts_are_told_from_both_ends.Goals as goal
 
 -- plan: customer by customer, with what was told so far

@@ -6,7 +6,7 @@ use Rattle.tsp_routing.specs.states.Demands.{onward_entry, entry_at, IsEntrySize
 use Rattle.tsp_routing.proofs.QRouteRests.{get_same, known_sized, sum_low, sum_near, sum_real, below_more, met_more}
 use Rattle.tsp_routing.proofs.least_q_route.entry_by.Goals as goal
 
--- plan: a step to the next node, and its least weight on, or the other one where that comes back to this node
+-- plan: a step to the next node, and its least weight on, or the other one if that comes back to this node
 pub returns-clause-below : goal.returns-clause-below
 returns-clause-below g c = λ w default row so_far.
     let value = g.S.Sum.value in

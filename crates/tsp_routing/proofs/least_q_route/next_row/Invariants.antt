@@ -5,7 +5,7 @@ use Rattle.tsp_routing.specs.declared.least_q_route.Onward.{Onward}
 use Rattle.tsp_routing.specs.states.Demands.{load_at, onward_entry, entry_at, IsEntrySized, AreRowsLow, AreRowsMet}
 use Rattle.tsp_routing.proofs.least_q_route.next_row.Given as goal
 
--- where the rows before are right, so are the entries of this row for the customers up to `index`
+-- if the rows before are right, so are the entries of this row for the customers up to `index`
 abbrev pub invariant-nodes : goal.invariant-nodes
 invariant-nodes g l =
     let value = g.S.Sum.value in

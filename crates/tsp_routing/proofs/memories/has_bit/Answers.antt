@@ -1,7 +1,7 @@
 -- The goals of `has_bit` in src/memories.rt, which tests a bit of a word: what it ensures.
 use Rattle.tsp_routing.proofs.Prelude.{◌≡◌, ℕ, ◌==◌, Bool, true, false, get_or, refl, ap, ◌∙◌, arith, bit_at, if◌then◌else◌}
 use Rattle.std.proofs.lemmas.Nat.Bits.{shr_and_one}
-use Rattle.tsp_routing.proofs.Words.{bit_of_word, is_one}
+use Rattle.tsp_routing.proofs.MemoryWords.{bit_of_word, is_one}
 use Rattle.tsp_routing.proofs.memories.has_bit.Goals as goal
 
 pub returns : goal.returns

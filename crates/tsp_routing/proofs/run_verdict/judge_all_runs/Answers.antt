@@ -5,7 +5,7 @@ use Rattle.tsp_format.specs.states.TreeSteps.{steps_of}
 use Rattle.tsp_cases.specs.declared.judged.TreeVerdict.{TreeVerdict}
 use Rattle.tsp_cases.specs.declared.judged.TreeVerdict.TheVariants as verdict
 use Rattle.tsp_cases.proofs.Passes.{by_leaves}
-use Rattle.tsp_routing.specs.states.GivenMemories.{near_in}
+use Rattle.tsp_routing.specs.states.MemoryTables.{near_in}
 use Rattle.tsp_routing.specs.states.RunJudged.{AreRunsJudged, tree_in}
 use Rattle.tsp_routing.specs.states.RunTables.{item_lists}
 use Rattle.tsp_routing.proofs.RunJudging.{good_memories, small_rows, tables_for}

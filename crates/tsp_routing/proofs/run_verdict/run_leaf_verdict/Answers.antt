@@ -10,7 +10,7 @@ use Rattle.tsp_cases.specs.ListedCases.{AreGoodLeavesBy}
 use Rattle.tsp_routing.specs.PlanVerdicts.{most_entries}
 use Rattle.tsp_routing.specs.RunTrees.{placed_steps, AreRunNumbers, AreGoodRunLeaves}
 use Rattle.tsp_routing.specs.states.RunJudged.{AreRunsJudged, tree_in}
-use Rattle.tsp_routing.proofs.PlacedSteps.{whole_placed, steps_placed}
+use Rattle.tsp_routing.proofs.RunJudging.{whole_placed, steps_placed}
 use Rattle.tsp_routing.proofs.PlanVerdicts.{all_good, verdict_of_judged_runs}
 use Rattle.tsp_routing.proofs.run_verdict.run_leaf_verdict.Goals as goal
 

@@ -6,7 +6,7 @@ use Rattle.tsp_format.specs.states.TreeSteps.{steps_of, subset_row_of}
 use Rattle.tsp_routing.specs.PlanVerdicts.{AreCapacityCuts, routing_with}
 use Rattle.tsp_routing.specs.RunTrees.{AreGoodLists, IsFirstBadRow, IsBadMemory}
 use Rattle.tsp_routing.specs.RunVerdicts.{IsPlanVerdict}
-use Rattle.tsp_routing.specs.declared.units.Demands.{Demands}
+use Rattle.tsp_routing.specs.declared.demands.Demands.{Demands}
 use Rattle.tsp_routing.specs.states.Demands.{loads_problem}
 use Rattle.tsp_routing.specs.states.Judged.{AreCutsJudged}
 use Rattle.tsp_routing.specs.states.JudgedMemory.{AreRowsOf, AreMemoriesJudged}

@@ -9,7 +9,7 @@ use Rattle.tsp_routing.specs.states.Judged.{IsFoundOfFew}
 use Rattle.tsp_routing.proofs.PlanJudging.{least_if}
 use Rattle.tsp_routing.proofs.verdict.leaf_verdict.Goals as goal
 
--- plan: the entries of the table are counted, and where they are few each leaf has a bound by walks (`least_if`)
+-- plan: the entries of the table are counted, and if they are few each leaf has a bound by walks (`least_if`)
 pub returns-then-few-clause-verdict : goal.returns-then-few-clause-verdict
 returns-then-few-clause-verdict g c =
     let s = c.args.context.now in

@@ -3,8 +3,8 @@ use Rattle.tsp_theory.proofs.Cycles.{Laws}
 use Rattle.tsp_theory.proofs.Neighbours.{adjusted_bounds_bound_cycles, unadjusted_bounds_are_node_bounds}
 use Rattle.tsp_theory.proofs.laws.adjusted_bounds_bound_cycles.Goals as goal
 
--- plan: a cycle weighs no less than a least 1-tree; it has the number of each taken pair and of no avoided one. `Laws`
--- has the laws of cycles that the proof takes
+-- plan: a cycle weighs no less than a minimum 1-tree; it has the number of each taken pair and of no avoided one.
+-- `Laws` has the laws of cycles that the proof takes
 pub returns : goal.returns
 returns c =
     let laws : Laws = record {

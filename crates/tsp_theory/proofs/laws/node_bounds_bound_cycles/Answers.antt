@@ -2,7 +2,7 @@
 use Rattle.tsp_theory.proofs.Cycles.{Laws, node_bounds_bound_cycles}
 use Rattle.tsp_theory.proofs.laws.node_bounds_bound_cycles.Goals as goal
 
--- plan: a cycle weighs its length and each potential twice, and no less than a least 1-tree. `Laws` has the laws of
+-- plan: a cycle weighs its length and each potential twice, and no less than a minimum 1-tree. `Laws` has the laws of
 -- cycles that the proof takes
 pub returns : goal.returns
 returns c =

@@ -5,8 +5,7 @@ use Rattle.tsp_verdict.proofs.examples.examples_against_routes.Goals as goal
 -- plan: the example is computed, customer by customer (`customer`)
 pub returns-clause-unserved : goal.returns-clause-unserved
 returns-clause-unserved c = record {
-  customer = search rules;
-  unserved = search rules;
-  first = λ other is below. of_customers (λ node. node < 4 → Contains (2 ∷ 3 ∷ []) node) (λ lower. (0, omega arith, refl))
+  applies = search rules;
+  none_before = λ other below is. of_customers (λ node. node < 4 → Contains (2 ∷ 3 ∷ []) node) (λ lower. (0, omega arith, refl))
       (λ lower. (1, omega arith, refl)) (λ lower. absurd (omega (arith, lower))) other is below;
 }

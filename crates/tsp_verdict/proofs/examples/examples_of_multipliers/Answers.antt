@@ -4,18 +4,17 @@ use Rattle.tsp_verdict.proofs.examples.examples_of_multipliers.Goals as goal
 
 -- plan: each example is computed
 pub returns-clause-fixed : goal.returns-clause-fixed
-returns-clause-fixed c = λ applies. applies.1.holds (inl (0, omega arith, refl))
+returns-clause-fixed c = λ applies. applies.1.applies.1 (inl (0, omega arith, refl))
 
 pub returns-clause-turned_round : goal.returns-clause-turned_round
-returns-clause-turned_round c = λ applies. applies.1.holds (inr (0, omega arith, refl))
+returns-clause-turned_round c = λ applies. applies.1.applies.1 (inr (0, omega arith, refl))
 
 pub returns-clause-not_fixed : goal.returns-clause-not_fixed
 returns-clause-not_fixed c = (
   refl,
   record {
-    here = (omega arith, omega arith);
-    holds = search rules;
-    first = λ earlier from before. absurd (omega (arith, from, before));
+    applies = ((omega arith, omega arith), search rules);
+    none_before = λ earlier before from. absurd (omega (arith, from, before));
   },
 )
 
@@ -23,9 +22,8 @@ pub returns-clause-twice : goal.returns-clause-twice
 returns-clause-twice c = (
   refl,
   record {
-    here = (omega arith, omega arith);
-    holds = (1, omega arith, omega arith, refl);
-    first = λ earlier from before repeated. absurd (omega (arith, from, before, repeated.1, repeated.2));
+    applies = ((omega arith, omega arith), (1, omega arith, omega arith, refl));
+    none_before = λ earlier before from repeated. absurd (omega (arith, from, before, repeated.1, repeated.2));
   },
 )
 
@@ -33,8 +31,7 @@ pub returns-clause-twice_turned_round : goal.returns-clause-twice_turned_round
 returns-clause-twice_turned_round c = (
   refl,
   record {
-    here = (omega arith, omega arith);
-    holds = (1, omega arith, omega arith, refl);
-    first = λ earlier from before repeated. absurd (omega (arith, from, before, repeated.1, repeated.2));
+    applies = ((omega arith, omega arith), (1, omega arith, omega arith, refl));
+    none_before = λ earlier before from repeated. absurd (omega (arith, from, before, repeated.1, repeated.2));
   },
 )

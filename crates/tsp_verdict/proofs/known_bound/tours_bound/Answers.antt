@@ -1,5 +1,5 @@
 -- The goals of `tours_bound` in src/known_bound.rt, which bounds the tours of an instance by a certificate: what it
--- ensures where a reason applies to the instance.
+-- ensures if a reason applies to the instance.
 use Rattle.tsp_verdict.proofs.OneReason.{tours_refused}
 use Rattle.tsp_verdict.proofs.known_bound.tours_bound.Goals as goal
 

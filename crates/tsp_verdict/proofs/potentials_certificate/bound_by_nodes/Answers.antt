@@ -21,7 +21,7 @@ returns-in_err-bound-clause-refused c = λ refused.
     none_of_potentials c.args.inst.now pot c.in_default.ensures.0 c.in_default.ensures.2
     (subst (λ kind. has_wanted kind pot ≡ true) (sym c.requires.kind) wanted)
 
--- plan: by what is found: a reason against the multipliers, or the bound of a least 1-tree (`none_of_tsp`)
+-- plan: by what is found: a reason against the multipliers, or the bound of a minimum 1-tree (`none_of_tsp`)
 pub returns-clause-found : goal.returns-clause-found
 returns-clause-found c =
     let inst = c.args.inst.now in

@@ -2,7 +2,7 @@
 -- multipliers: what it ensures.
 use Rattle.tsp_verdict.proofs.Prelude.{◌≡◌, false, subst, MatchOption, AllPairs, pair_of, is_same_pair}
 use Rattle.tsp_verdict.specs.Certificates.{AreListed, IsUnlisted, IsPairRepeated}
-use Rattle.tsp_verdict.specs.Solutions.{IsFirstPlace}
+use Rattle.tsp_theory.specs.First.{IsFirstPlace}
 use Rattle.tsp_verdict.proofs.FirstReasons.{not_fixed, repeats, multiplied}
 use Rattle.tsp_verdict.proofs.potentials_certificate.first_against_multipliers.Goals as goal
 

@@ -3,7 +3,7 @@
 use Rattle.tsp_verdict.proofs.Prelude.{◌≡◌, ◌+◌, false, true, sym, subst, ◌∙◌, arith, contains, pos, slice_index_or, pair_of}
 use Rattle.tsp_verdict.specs.Certificates.{IsUnlisted}
 use Rattle.tsp_verdict.specs.states.PairSets.{undirected, pair_cmp}
-use Rattle.tsp_verdict.specs.Solutions.{IsFirstPlace}
+use Rattle.tsp_theory.specs.First.{IsFirstPlace}
 use Rattle.tsp_verdict.proofs.GivenPairs.{has_listed, inside_more, outside_here}
 use Rattle.tsp_verdict.proofs.potentials_certificate.first_outside.Goals as goal
 

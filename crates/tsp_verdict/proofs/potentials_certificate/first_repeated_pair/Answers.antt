@@ -3,7 +3,7 @@
 use Rattle.tsp_verdict.proofs.Prelude.{◌≡◌, ◌+◌, false, true, sym, subst, ◌∙◌, arith, contains, Updates, pos, slice_index_or, not-false, not-true, pair_of}
 use Rattle.tsp_verdict.specs.Certificates.{IsPairRepeated}
 use Rattle.tsp_verdict.specs.states.PairSets.{undirected, pair_cmp}
-use Rattle.tsp_verdict.specs.Solutions.{IsFirstPlace}
+use Rattle.tsp_theory.specs.First.{IsFirstPlace}
 use Rattle.tsp_verdict.proofs.GivenPairs.{has_more, repeated_pair, apart_more, apart_all}
 use Rattle.tsp_verdict.proofs.potentials_certificate.first_repeated_pair.Goals as goal
 

@@ -1,4 +1,4 @@
--- The goals of `tree_bound` in src/potentials_certificate.rt, which returns the bound of a least 1-tree: what it
+-- The goals of `tree_bound` in src/potentials_certificate.rt, which returns the bound of a minimum 1-tree: what it
 -- ensures.
 use Rattle.tsp_verdict.proofs.Prelude.{◌∙◌, rules, subst, sym, FitsSigned, w128, to_z-of_z, Potentials}
 use Rattle.tsp_verdict.specs.Certified.{IsCertified}

@@ -22,7 +22,7 @@ overflow_add-result c =
     let applies : StandsAfter c.routes.before all nodes =
     applies_here c.args.routes.now c.routes.route-index c.routes.before c.route-item.result nodes
     c.routes-test.true c.route-item.is c.routes.invariant.counted c.as_slice-nodes.ensures.value in
-    omega (arith, applies.inside, c.requires, c.in-Some.ensures.here.1)
+    omega (arith, applies.inside, c.requires, c.in-Some.ensures.applies.0.1)
 
 pub returns-in-Some : goal.returns-in-Some
 returns-in-Some c =

@@ -1,8 +1,9 @@
 -- The goals of `first_overload` in src/routes.rt, which finds the first route above the capacity: its loop and what its
 -- calls require.
-use Rattle.tsp_verdict.proofs.Prelude.{◌≡◌, ℕ, List, length, take, refl, sym, ap, ◌∙◌, arith, rules, FitsSigned, ◌≤ℤ◌, w64, to_z-of_z, IsNode, load_of}
+use Rattle.tsp_verdict.proofs.Prelude.{◌≡◌, ℕ, List, length, take, refl, sym, ap, ◌∙◌, ◌+◌, arith, rules, FitsSigned, ◌≤ℤ◌, w64, to_z-of_z, IsNode, load_of}
+use Rattle.std.specs.Prelude.{◌<ℤ◌}
 use Rattle.tsp_verdict.specs.states.Marks.{StandsAfter, nodes_in}
-use Rattle.tsp_verdict.proofs.RouteFiles.{applies_here, all_here, carried_more, not_over}
+use Rattle.tsp_verdict.proofs.RouteFiles.{applies_here, all_here, carried_more, not_over, is_over, over_here}
 use Rattle.tsp_verdict.proofs.routes.first_overload.Goals as goal
 
 -- plan: route by route: the first whose load is too much, or none so far (`not_over`)
@@ -39,3 +40,16 @@ routes-preserved c =
       so_far = simp to_z-of_z (carried_more c.args.demands.now c.args.capacity c.args.routes.now c.routes.route-index
           c.route-item.result c.routes-test.true c.route-item.is carries before);
     }
+
+pub returns-then-load-capacity : goal.returns-then-load-capacity
+returns-then-load-capacity c =
+    let capacity_fits : FitsSigned w64 c.args.capacity = search rules in
+    let load_fits : FitsSigned w64 c.load.result = search rules in
+    let above = simp to_z-of_z at c.if-load-capacity.true in
+    let value : load_of c.args.demands.now c.route-item.result.items ≡ c.load.result =
+    ap (load_of c.args.demands.now) (sym c.as_slice-nodes.ensures.value) ∙ sym c.load.ensures in
+    let over : c.args.capacity <ℤ load_of c.args.demands.now c.route-item.result.items =
+    rw value (is_over c.load.result c.args.capacity above) in
+    let before = simp to_z-of_z at c.routes.invariant.so_far in
+    over_here c.args.demands.now c.args.capacity c.args.routes.now c.routes.route-index (c.routes.index + 1) c.route-item.result
+    c.routes-test.true c.route-item.is (omega (arith, c.routes.invariant.counted)) over before

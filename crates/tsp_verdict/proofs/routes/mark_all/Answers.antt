@@ -33,7 +33,7 @@ overflow_add-result c =
     applies_here c.args.routes.now c.routes.route-index c.routes.before c.route-item.result nodes
     c.routes-test.true c.route-item.is c.routes.invariant.counted c.as_slice-nodes.ensures.value in
     let first = c.in-Some.ensures.marks all c.routes.before applies c.routes.invariant.marks in
-    omega (arith, first.here.1, c.requires.size)
+    omega (arith, first.applies.0.1, c.requires.size)
 
 pub returns-in-Some-clause-marks : goal.returns-in-Some-clause-marks
 returns-in-Some-clause-marks c =

@@ -1,7 +1,8 @@
 -- The goals of `mark` in src/tour.rt, which marks nodes up to the first one that is marked: that indices are in
 -- range, its loop and what it ensures.
 use Rattle.std.proofs.Common.{◌≡◌, ◌<◌, ◌+◌, ℕ, true, false, length, get_or, sym, subst, arith}
-use Rattle.tsp_verdict.specs.Solutions.{IsFirstPlace, IsAtEarlierPlace}
+use Rattle.tsp_theory.specs.First.{IsFirstPlace}
+use Rattle.tsp_verdict.specs.Solutions.{IsAtEarlierPlace}
 use Rattle.tsp_verdict.proofs.TourVerdicts.{mark_next, repeated_next, mark_is}
 use Rattle.tsp_verdict.proofs.tour.mark.Goals as goal
 

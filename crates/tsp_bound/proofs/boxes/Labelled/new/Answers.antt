@@ -4,7 +4,7 @@ use Rattle.std.proofs.Common.{◌≡◌, ◌<◌, ℕ, true, length, arith, sym,
 use Rattle.tsp_bound.specs.states.Components.{AreTags}
 use Rattle.tsp_bound.proofs.boxes.Labelled.new.Goals as goal
 
--- plan: each box has the region of its nodes, and their label where it is one, as the calls that make the boxes ensure
+-- plan: each box has the region of its nodes, and their label if it is one, as the calls that make the boxes ensure
 pub invariant_of-result : goal.invariant_of-result
 invariant_of-result g c =
     let order = c.args.placed.order.now in

@@ -5,7 +5,7 @@ use Rattle.tsp_bound.proofs.RoundJoins.{IsReached}
 use Rattle.tsp_bound.proofs.Listing.{IsEnding}
 use Rattle.tsp_bound.proofs.lists.Listed.best_kept.Given as goal
 
--- where a listed link before this one leaves the component, `best` does so too, and weighs no more
+-- if a listed link before this one leaves the component, `best` does so too, and weighs no more
 abbrev pub invariant-links : goal.invariant-links
 invariant-links g l =
     let s = l.self in

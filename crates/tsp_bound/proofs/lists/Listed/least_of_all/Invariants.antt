@@ -6,7 +6,7 @@ use Rattle.tsp_bound.proofs.RoundJoins.{IsReached}
 use Rattle.tsp_bound.proofs.Listing.{IsEnding}
 use Rattle.tsp_bound.proofs.lists.Listed.least_of_all.Given as goal
 
--- where a place before this one is in another component, `best` leads to another one, and weighs no more
+-- if a place before this one is in another component, `best` leads to another one, and weighs no more
 abbrev pub invariant-places : goal.invariant-places
 invariant-places g l =
     let s = l.self in

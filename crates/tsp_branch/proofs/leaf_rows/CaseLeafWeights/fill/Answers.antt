@@ -17,7 +17,7 @@ returns-then-not-is_empty g c = record {
   small = λ x h. let size = c.fill_by_kept.ensures.sizes x h in omega (arith, ints, size.1);
 }
 
--- plan: where pairs have no direction, each entry of the row is moved by the decisions at its node (`changed_is`)
+-- plan: if pairs have no direction, each entry of the row is moved by the decisions at its node (`changed_is`)
 pub returns-then-not-self-clause-values : goal.returns-then-not-self-clause-values
 returns-then-not-self-clause-values g c = λ x h.
     let q = c.args.self.now in

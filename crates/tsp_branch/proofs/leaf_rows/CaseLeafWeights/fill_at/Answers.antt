@@ -17,7 +17,7 @@ returns-then-not-is_empty g c = record {
   small = λ k h. let size = c.fill_by_kept.ensures.sizes _ (c.requires.to k h) in omega (arith, ints, size.1);
 }
 
--- plan: where pairs have no direction, each entry that is asked for is moved by the decisions at its node
+-- plan: if pairs have no direction, each entry that is asked for is moved by the decisions at its node
 -- (`changed_is`)
 pub returns-then-not-self-clause-values : goal.returns-then-not-self-clause-values
 returns-then-not-self-clause-values g c = λ k h.

@@ -6,7 +6,7 @@ use Rattle.tsp_cases.proofs.OpenCases.{ListsNow, now_more, taken_more, filter_ou
 use Rattle.tsp_cases.proofs.open_case.NodeDecisions.add.Goals as goal
 use Rattle.tsp_cases.proofs.open_case.NodeDecisions.add.Goals.{then-not-self+in_ok-list_at-2, else-not-self}
 
--- plan: the decision is last in the lists of its nodes (`now_more`), and of the taken ones (`taken_more`). Where pairs
+-- plan: the decision is last in the lists of its nodes (`now_more`), and of the taken ones (`taken_more`). If pairs
 -- have a direction, its first node alone lists it
 pub returns-in_ok-push-clause-more : goal.returns-in_ok-push-clause-more
 returns-in_ok-push-clause-more c = λ n case was.

@@ -6,7 +6,7 @@ use Rattle.tsp_cases.proofs.OpenCases.{ListsNow, now_less, taken_less, filter_ou
 use Rattle.tsp_cases.proofs.open_case.NodeDecisions.drop_last.Goals as goal
 use Rattle.tsp_cases.proofs.open_case.NodeDecisions.drop_last.Goals.{then-not-self, else-not-self}
 
--- plan: the last decision leaves the lists of its nodes (`now_less`), and the taken ones (`taken_less`). Where pairs
+-- plan: the last decision leaves the lists of its nodes (`now_less`), and the taken ones (`taken_less`). If pairs
 -- have a direction, its first node alone lists it
 pub returns-then-decision-clause-less : goal.returns-then-decision-clause-less
 returns-then-decision-clause-less c = λ n case was.

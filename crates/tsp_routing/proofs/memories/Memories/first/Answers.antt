@@ -2,10 +2,9 @@
 use Rattle.tsp_routing.proofs.Prelude.{◌≡◌, ◌≤◌, ◌<◌, ◌+◌, ◌-◌, ◌*◌, ◌^◌, ℕ, Bool, List, [], ◌∷◌, map, drop, length, get_or, refl, ap, ap₂, subst, sym, ◌∙◌, arith, if◌then◌else◌, length-map, length-drop, drop_more, drop_all, get_or_read, recursion_from_All, IsNode}
 use Rattle.tsp_routing.specs.Runs.{first_state}
 use Rattle.tsp_routing.specs.Memories.{memory_word, is_member_of, told, memory_of}
-use Rattle.tsp_routing.specs.declared.memory_key.MemoryKey.{MemoryKey}
+use Rattle.tsp_routing.specs.declared.memories.MemoryKey.{MemoryKey}
 use Rattle.tsp_routing.specs.states.MemoryTables.{keys_in}
-use Rattle.tsp_routing.proofs.Words.{word_below}
-use Rattle.tsp_routing.proofs.MemoryWords.{first_bits, first_remembers}
+use Rattle.tsp_routing.proofs.MemoryWords.{word_below, first_bits, first_remembers}
 use Rattle.tsp_routing.proofs.memories.Memories.first.Goals as goal
 
 -- plan: one bit more below the others, from the last key to the first

@@ -1,7 +1,7 @@
 -- The loop of `first` in src/memories.rt.
 use Rattle.std.proofs.Common.{◌≡◌, ◌-◌, ℕ, List, map, drop, length}
 use Rattle.tsp_routing.specs.Memories.{memory_word}
-use Rattle.tsp_routing.specs.declared.memory_key.MemoryKey.{MemoryKey}
+use Rattle.tsp_routing.specs.declared.memories.MemoryKey.{MemoryKey}
 use Rattle.tsp_routing.proofs.memories.Memories.first.Given as goal
 
 -- the word has the bits of the last `index` keys

@@ -1,11 +1,10 @@
 -- The goals of `steps` in src/memories.rt, which makes the steps of all keys: what its call requires, its loop and what it
 -- ensures.
 use Rattle.tsp_routing.proofs.Prelude.{◌≡◌, ◌≤◌, ◌<◌, ◌+◌, ◌++◌, ℕ, ℤ, List, [], ◌∷◌, map, drop, length, get_or, ap, ap₂, subst, sym, ◌∙◌, arith, append-nil, drop_all, All, All-get_or}
-use Rattle.tsp_routing.specs.declared.memory_key.MemoryKey.{MemoryKey}
-use Rattle.tsp_routing.specs.declared.memory_key.StepKey.{StepKey}
-use Rattle.tsp_routing.specs.states.MemoryTables.{keys_in, key_places_in, IsKeyIn}
-use Rattle.tsp_routing.specs.states.MemorySteps.{step_key_of}
-use Rattle.tsp_routing.proofs.MemorySteps.{step_pushed}
+use Rattle.tsp_routing.specs.declared.memories.MemoryKey.{MemoryKey}
+use Rattle.tsp_routing.specs.declared.memories.StepKey.{StepKey}
+use Rattle.tsp_routing.specs.states.MemoryTables.{keys_in, key_places_in, IsKeyIn, step_key_of}
+use Rattle.tsp_routing.proofs.RunSteps.{step_pushed}
 use Rattle.tsp_routing.proofs.memories.Memories.steps.Goals as goal
 
 -- plan: key by key

@@ -1,7 +1,6 @@
 -- The loop of `steps` in src/memories.rt.
 use Rattle.std.proofs.Common.{◌≡◌, ◌++◌, drop, map}
-use Rattle.tsp_routing.specs.states.MemoryTables.{key_places_in}
-use Rattle.tsp_routing.specs.states.MemorySteps.{step_key_of}
+use Rattle.tsp_routing.specs.states.MemoryTables.{key_places_in, step_key_of}
 use Rattle.tsp_routing.proofs.memories.Memories.steps.Given as goal
 
 -- with those of the keys left, the list has the steps of all keys

@@ -1,7 +1,7 @@
 -- The goals of `tells` in src/memories.rt, which reads one thing of a memory: what it ensures.
 use Rattle.tsp_routing.proofs.Prelude.{◌≡◌, ◌≤◌, ℕ, Bool, List, map, length, get_or, false, ap, subst, sym, ◌∙◌, arith, length-map, IsNode}
 use Rattle.tsp_routing.specs.Memories.{keys_of, told, memory_of}
-use Rattle.tsp_routing.specs.declared.memory_key.MemoryKey.{MemoryKey}
+use Rattle.tsp_routing.specs.declared.memories.MemoryKey.{MemoryKey}
 use Rattle.tsp_routing.specs.states.MemoryTables.{keys_in, IsKeyPlace}
 use Rattle.tsp_routing.proofs.MemoryWords.{place_tells}
 use Rattle.tsp_routing.proofs.memories.Memories.tells.Goals as goal

@@ -1,8 +1,0 @@
--- The loop of `add_rows` in src/memory_tables.rt.
-use Rattle.std.proofs.Common.{◌≡◌, ◌+◌, ◌++◌, drop}
-use Rattle.tsp_routing.specs.states.GivenMemories.{kept_keys}
-use Rattle.tsp_routing.proofs.memory_tables.add_rows.Given as goal
-
--- with the keys of the rows left, the list has those of all
-abbrev pub invariant-rows : goal.invariant-rows
-invariant-rows l = l.keys.items ++ kept_keys (l.first + l.index) (drop l.index l.rows) l.node ≡ l.fn.keys.items ++ kept_keys l.first l.rows l.node
