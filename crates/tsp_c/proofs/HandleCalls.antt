@@ -1,4 +1,5 @@
--- The calls on a handle say of an open instance what the calls on texts say of its text.
+-- For src/handle_calls.rt and the calls that fill in numbers: a call on a handle says of an open instance what the call
+-- on a text says of its text.
 use Rattle.tsp_c.proofs.Prelude.{◌≡◌, ℕ, ◌≤◌, sym, ap, arith, refl, ◌≢◌, ◌+◌, ◌<◌, List, length, ◌∙◌, below_more, get_or-set_same, get_or-set_other, zero, suc, Bool, true, false, cond, ◌∷◌, take, drop, length-drop, drop-cons, add-one, ltb-true, ltb-false, subst, Result, Ok, Err, inl, inr, Option, Some, None, unwrap_or, ℤ, pos, option_map, slice_index_or as get_or, ◌==◌, not, nat_lt, Sink, distance, Fields, is_yes, Verdict, status_of, status_of_fault, Open, IsHeldVerdict, IsNotJudged, RunFault, File, WrongKind, Write, OutOfMemory, Relayout, Bx}
 use Rattle.std.proofs.Math.ListN.{set}
 use Rattle.std.proofs.lemmas.Bool.{false≢true}
@@ -54,7 +55,7 @@ some_count (Some nodes) count is some = sym (ap (λ (k : ℕ). Some k) is)
 
 -- ---- the kind that a number means, with the distance of two points by it
 
--- a kind with its distance, where there is a distance
+-- a kind with its distance, if there is a distance
 pub kind_found : (a b : Point) (found : Option WeightKind) (result : ℤ) → Some result ≡ option_map (λ kind. distance kind a b) found
     → (kind : WeightKind) × (found ≡ Some kind) × (result ≡ distance kind a b)
 kind_found a b None result is = absurd cc
@@ -340,7 +341,7 @@ verdict_as_texts opened claimed strict one two written given (No reason) status 
       printed = printed;
     }) e
 
--- a writer into memory fails only where it is out of memory
+-- a writer into memory fails only if it is out of memory
 unwritten : (fault : RunFault) (written : List ℕ) (status : ℕ) (text : List ℕ)
     → fault ≡ Write write_faults.Device → EndsOnTexts (Err fault) written status text → status ≡ 3
 unwritten fault written status text is (inl e) = e.0 ∙ ap (λ (f : RunFault). status_of_fault (without_devices f)) is

@@ -1,4 +1,5 @@
--- The numbers that C gets of a run on texts: each fits, and they say the verdict or the fault on these texts.
+-- For src/picked_runs.rt: the numbers that C gets of a run on texts. Each fits, and they say the verdict or the fault
+-- on these texts.
 use Rattle.tsp_c.proofs.Prelude.{◌≡◌, ◌≢◌, ℕ, ◌≤◌, List, Bool, Result, Ok, Err, inl, inr, sym, subst, ◌∙◌, arith, Option, Some, None, ℤ, IfOk, ReadTrace, Sink, Fields, CertificateKind, Verdict, is_yes, is_bound_yes, RunFault, status_of_fault, Given, EndsWithout, IsRun, acceptance, EndsUnbounded, IsBoundRun}
 use Rattle.tsp_report.specs.declared.verdict.BoundVerdict.{BoundVerdict}
 use Rattle.tsp_report.specs.declared.verdict.BoundVerdict.TheVariants as bounds

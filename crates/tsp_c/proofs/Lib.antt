@@ -1,4 +1,5 @@
--- The files of lemmas of this crate. Crates above may import those that are public.
+-- Lemmas on calls on texts (NamedTexts, PickedRuns), on calls on a handle (HandleCalls), and on results in numbers
+-- (InNumbers). No crate is above this one.
 mod Prelude
 pub mod HandleCalls
 mod NamedTexts

@@ -1,16 +1,16 @@
--- A certificate that may be named, whose reader delivers a text in memory.
+-- For src/picked_runs.rt: a certificate that may be named, whose reader delivers a text in memory.
 use Rattle.tsp_c.proofs.Prelude.{◌≡◌, ℕ, List, [], Option, None, Some, refl, sym, ap, subst, false, ReadTrace, CertificateKind, Given}
 use Rattle.std.specs.Prelude.{MatchOption}
 use Rattle.tsp_io.specs.declared.watched.Watched.{Watched}
 use Rattle.tsp_io.specs.states.Watched.{watched, read_trace_of}
 use Rattle.tsp_judge.specs.CheckRun.{TakesNamed}
 
--- the certificate with the turn of a reader, or none
+-- the certificate with the read trace of a reader, or none
 abbrev pub given_by : Option CertificateKind → ReadTrace → Given
 given_by None third = None
 given_by (Some by) third = Some (by, third)
 
--- a statement on the certificate that is named, whose reader delivers a text, is one on a turn of such a reader
+-- a statement on the certificate that is named, whose reader delivers a text, is one on a read trace of such a reader
 pub named_text : {R : Type 0} (bytes : R → List ℕ) (by : Option CertificateKind) (text : List ℕ)
     (named left : Option (CertificateKind × Watched R)) (Q : Given → Type 0)
     → MatchOption named (by ≡ None) (λ it. (by ≡ Some it.0) × (bytes (watched it.1) ≡ text))

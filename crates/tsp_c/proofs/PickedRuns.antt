@@ -1,4 +1,5 @@
--- Runs on readers over texts in memory, as statements on these texts, and the status that C gets.
+-- For src/picked_runs.rt: runs on readers over texts in memory, as statements on these texts, and the status that C
+-- gets.
 use Rattle.tsp_c.proofs.Prelude.{◌≡◌, ℕ, ◌≤◌, List, [], Bool, true, false, Result, Ok, Err, inl, inr, refl, sym, subst, arith, IsErr, Option, None, Some, IfSome, ℤ, ReadTrace, Sink, HasWritten, Fields, is_yes, is_bound_yes, CertificateKind, Verdict, status_of_fault, IsSomeFile, IsFileIn, AreRead, JudgesFiles, IsFaultOfRun, EndsWithout, BoundsFiles, EndsUnbounded, SaysBound, IsBoundRunOf, IsTextFault, RunFault, File, WrongKind, Write, OutOfMemory, Relayout}
 use Rattle.std.proofs.lemmas.Bool.{false≢true}
 use Rattle.std.specs.Io.KnownBytes.{Appends}
@@ -21,7 +22,7 @@ use Rattle.tsp_c.specs.NumberCalls.{without_devices, IsPrinted, EndsOnTexts, End
 use Rattle.tsp_c.specs.Texts.{IsFileText, StopsShowing, ShowsText, BecomesFile, StopsConverting, ConvertsText, with_certificate, ParsesToGiven, AreSpelled, IsAcceptedText, IsRejected, IsUnchecked, IsReached, StopsCheck, ChecksTexts, IsBoundText, IsUnbounded, StopsBound, BoundsTexts}
 use Rattle.tsp_c.proofs.NamedTexts.{given_by}
 
--- the status of a fault in memory: 2, 3, or 1 where weights can't go into a layout
+-- the status of a fault in memory: 2, 3, or 1 if weights can't go into a layout
 pub record FaultStatus (fault : RunFault) (status : ℕ) : Type 0 where
   pub some : 1 ≤ status
   pub most : status ≤ 3
@@ -93,7 +94,7 @@ some_file read_trace text known is = (is.0, spelled read_trace text is.0 known i
 faulty : (read_trace : ReadTrace) (text : List ℕ) (found : ReadFault) → read_trace.known ≡ Some text → HasFault found read_trace → fault text ≡ Some found
 faulty read_trace text found known has = subst (λ (k : Option (List ℕ)). IfSome k (λ xs. fault xs ≡ Some found)) known has.3
 
--- a text at which a run stops has a fault, where the status is that of a fault of a text
+-- a text at which a run stops has a fault, if the status is that of a fault of a text
 stopped : (read_trace : ReadTrace) (text : List ℕ) (file : ℕ) (found : ReadFault) → read_trace.known ≡ Some text → StopsAt found read_trace
     → status_of_fault (without_devices (File file found)) ≡ 2 → fault text ≡ Some found
 stopped read_trace text file (read_faults.Line line word found) known stops two = faulty read_trace text (read_faults.Line line word found) known stops

@@ -1,4 +1,5 @@
--- What the proofs of this crate use most of other crates, passed on from one place.
+-- Names of other crates, passed on to the files of this crate alone. It defines nothing: add or remove names freely;
+-- `tests/repository/names` sees that each is imported from here.
 pub use Rattle.std.proofs.Common.{Bool, Err, FitsSigned, List, Ok, Result, add-one, ap, arith, below_more, cond, drop, drop-cons, false, get_or-set_other, get_or-set_same, inl, inr, length, length-drop, ltb-false, ltb-true, refl, rules, subst, subst₂, suc, sym, take, true, w64, zero, ℕ, [], ◌%◌, ◌+◌, ◌-◌, ◌/◌, ◌<◌, ◌∙◌, ◌∷◌, ◌≡◌, ◌≢◌, ◌≤◌}
 pub use Rattle.std.proofs.lemmas.Int.{to_z-of_z}
 pub use Rattle.std.specs.Prelude.{IfOk, IfSome, IsErr, None, Option, Some, nat_lt, not, option_map, pos, slice_index_or, unwrap_or, ℤ, ◌==◌}

@@ -1,5 +1,6 @@
--- The result of a call of the C library in numbers: the struct of bindings/c/tsp.h, whose numbers are 0 where the call
--- doesn't have them.
+-- The result of a C call in numbers: the struct of bindings/c/tsp.h. Numbers that don't apply are 0. src/call_result.rt
+-- promises them. In no circle of docs/trust.md, but callers in other languages rely on the numbers, so they never
+-- change.
 use Rattle.tsp_c.specs.Prelude.{ℕ, Bool, List, Option, None, Some, Result, Ok, Err, IsTrue, unwrap_or, ℤ, pos, unsigned_abs, Fields, nodes_of, ParsesTo, CertificateKind, number_of_reason, row_of_reason, is_yes, is_bound_yes, IsGapSized, RunFault, File, WrongKind, status_of}
 use Rattle.std.specs.Prelude.{◌≡◌, ◌≤◌, ◌<◌, ◌^◌}
 use Rattle.std.specs.Int.{int_div_euclid, int_rem_euclid}
@@ -123,7 +124,7 @@ first_number reason = unwrap_or (row_of_reason reason).numbers.0 (pos 0)
 abbrev pub second_number : Reason → ℤ
 second_number reason = unwrap_or (row_of_reason reason).numbers.1 (pos 0)
 
--- the field that isn't used, where that is the reason; else 0
+-- the field that isn't used, if that is the reason; otherwise 0
 abbrev pub field_of_reason : Reason → ℕ
 field_of_reason (NotUsed field) = field_number field
 field_of_reason reason = 0
@@ -203,12 +204,12 @@ number_fault_number number_faults.TooFine = 3
 number_fault_number number_faults.OutOfRange = 4
 number_fault_number number_faults.NotWhole = 5
 
--- the same, where the fault of the line is that of a number; else 0
+-- the same, if the fault of the line is that of a number; otherwise 0
 abbrev pub number_of_fault : LineFault → ℕ
 number_of_fault (line_faults.Number found) = number_fault_number found
 number_of_fault found = 0
 
--- the field that is missing or incomplete at the end of a text; else 0
+-- the field that is missing or incomplete at the end of a text; otherwise 0
 abbrev pub field_of_fault : ReadFault → ℕ
 field_of_fault (read_faults.End (end_faults.Missing found)) = field_number found
 field_of_fault (read_faults.End (end_faults.Incomplete found)) = field_number found
@@ -292,7 +293,7 @@ pub record TellsBound (by : CertificateKind) (strict : Bool) (one two : List ℕ
   pub faulty : status ≡ 2 → (fault : RunFault) × IsUnbounded by one two fault × (call_result ≡ result_of_fault fault)
   pub refused : status ≡ 3 → call_result ≡ blank_result
 
--- the same, by what the caller's number asks for; where it asks nothing, all numbers are 0
+-- the same, by what the caller's number asks for; if it asks nothing, all numbers are 0
 abbrev pub TellsBoundBy : Option (CertificateKind × Bool) → List ℕ → List ℕ → ℕ → CallResult → Type 0
 TellsBoundBy None one two status call_result = call_result ≡ blank_result
 TellsBoundBy (Some asked) one two status call_result = TellsBound asked.0 asked.1 one two status call_result

@@ -1,6 +1,8 @@
--- The files of definitions of this crate. Crates above may import them.
+-- Definitions of the results of the C calls: texts (Texts, Solutions), numbers (NumberCalls, CallResult), and open
+-- instances (Opened). No crate is above this one.
 pub mod Prelude
 pub mod NumberCalls
 pub mod Opened
 pub mod Texts
+pub mod Solutions
 pub mod CallResult

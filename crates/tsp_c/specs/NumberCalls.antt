@@ -1,5 +1,6 @@
 -- How a call for C ends, and the results of the calls that fill in numbers: nodes, costs, lengths, coordinates,
--- distances.
+-- distances. Most calls in src/lib.rt are stated in these words. In no circle of docs/trust.md, because no `yes` rests
+-- on them.
 use Rattle.tsp_c.specs.Prelude.{ℕ, zero, suc, Bool, true, false, List, [], length, drop, Option, None, Some, Result, Ok, Err, min, cond, slice_index_or, IsTrue, ℤ, pos, negsuc, Point, cost, distance, point_of, Fields, nodes_of, ParsesTo, is_bound_yes, run_fault_text, status_of, status_of_fault, IsTextFault, IsUnopened, RunFault, File, Write}
 use Rattle.std.specs.List.{All}
 use Rattle.std.specs.Prelude.{◌≡◌, ◌⊎◌, ◌≤◌, ◌<◌, ◌∷◌, ◌++◌, ◌+◌, ◌-◌, ◌*◌, ◌/◌, ◌%◌, ◌==◌}
@@ -17,14 +18,14 @@ use Rattle.tsp_judge.specs.declared.bound_run.Bounded.{Bounded}
 
 -- ---- the caller's buffer
 
--- The text's length is written. Where the text fits the buffer begins with it, and the result is its status; else the
--- buffer is as it was, and the result is 6.
+-- The text's length is written. If the text fits, the buffer begins with it, and the result is its status; otherwise
+-- the buffer is as it was, and the result is 6.
 abbrev pub IsPlaced : List ℕ → ℕ → List ℕ → List ℕ → ℕ → ℕ → Type 0
 IsPlaced text status old new written answer = (written ≡ length text)
     × (length text ≤ length old → (new ≡ text ++ drop (length text) old) × (answer ≡ status))
     × (length old < length text → (new ≡ old) × (answer ≡ 6))
 
--- a text and its status, of which P holds, are put into the buffer
+-- a text and its status, for which P holds, are put into the buffer
 abbrev pub PlacesText : (ℕ → List ℕ → Type 0) → List ℕ → List ℕ → ℕ → ℕ → Type 0
 PlacesText P old new written answer = (status : ℕ) × (text : List ℕ) × P status text × IsPlaced text status old new written answer
 
@@ -66,7 +67,7 @@ IsPrinted (Ok answer) written status text = (status ≡ status_of (Ok answer)) �
 IsPrinted (Err fault) written status text =
     (status ≡ status_of_fault (without_devices fault)) × (text ≡ fault_line (without_devices fault))
 
--- the same; where there is no memory for the line of the fault, the status is 3, without a text
+-- the same; if there is no memory for the line of the fault, the status is 3, without a text
 abbrev pub EndsOnTexts : Result Bool RunFault → List ℕ → ℕ → List ℕ → Type 0
 EndsOnTexts (Ok answer) written status text = (status ≡ status_of (Ok answer)) × (text ≡ written)
 EndsOnTexts (Err fault) written status text =
@@ -80,7 +81,7 @@ Reports sink report accepts (Err fault) = fault ≡ Write write_faults.Device
 
 -- ---- the meaning of a status
 
--- Yes holds of the text where the answer is yes, No where it is no; of a fault Stops holds, and the text is its line.
+-- Yes holds for the text if the answer is yes, No if it is no. Stops holds for a fault, and the text is its line.
 abbrev pub SaysEnding : (List ℕ → Type 0) → (List ℕ → Type 0) → (RunFault → Type 0) → Result Bool RunFault → List ℕ → Type 0
 SaysEnding Yes No Stops (Ok true) text = Yes text
 SaysEnding Yes No Stops (Ok false) text = No text
@@ -118,7 +119,7 @@ FindsInstance text (Err fault) = IsUnopened text fault
 abbrev pub StopsWith : {X : Type 0} → RunFault → X → X → ℕ → Type 0
 StopsWith fault old new status = (status ≡ status_of_fault fault) × (new ≡ old)
 
--- The text is an instance, of which P holds; or the call ends with the fault of a text that is none.
+-- The text is an instance, for which P holds; or the call ends with the fault of a text that is none.
 abbrev pub OfInstance : {X : Type 0} → List ℕ → (Fields → Type 0) → X → X → ℕ → Type 0
 OfInstance text P old new status = ((instance : Fields) × IsInstanceText text instance × P instance)
     ⊎ ((fault : RunFault) × IsUnopened text fault × StopsWith fault old new status)
@@ -129,7 +130,7 @@ OfInstance text P old new status = ((instance : Fields) × IsInstanceText text i
 abbrev pub EndsCount : Fields → ℕ → ℕ → Type 0
 EndsCount instance count status = (status ≡ 0) × (instance.dimension ≡ Some count)
 
--- the same of the instance that a text parses to
+-- the same for the instance that a text parses to
 abbrev pub FillsCount : List ℕ → ℕ → ℕ → ℕ → Type 0
 FillsCount text old new status = OfInstance text (λ instance. EndsCount instance new status) old new status
 
@@ -163,7 +164,7 @@ EndsWeights instance pairs old new status =
     EndsBuffer (ArePairs pairs (nodes_of instance)) (pair_count pairs) (pair_count pairs) (pair_cost pairs instance)
     old new status
 
--- the same of the instance that a text parses to
+-- the same for the instance that a text parses to
 abbrev pub FillsWeights : List ℕ → List ℕ → List ℤ → List ℤ → ℕ → Type 0
 FillsWeights text pairs old new status = OfInstance text (λ instance. EndsWeights instance pairs old new status) old new status
 
@@ -182,7 +183,7 @@ abbrev pub EndsMatrix : Fields → ℕ → List ℤ → List ℤ → ℕ → Typ
 EndsMatrix instance first old new status = EndsBuffer (IsNode (nodes_of instance) first) (nodes_of instance)
     (row_count (length old) (nodes_of instance) first * nodes_of instance) (row_cost first instance) old new status
 
--- the same of the instance that a text parses to
+-- the same for the instance that a text parses to
 abbrev pub FillsMatrix : List ℕ → ℕ → List ℤ → List ℤ → ℕ → Type 0
 FillsMatrix text first old new status = OfInstance text (λ instance. EndsMatrix instance first old new status) old new status
 
@@ -217,7 +218,7 @@ EndsLengths instance nodes old new status =
     EndsBuffer (AreLists nodes (nodes_of instance)) (list_count nodes) (list_count nodes) (list_length nodes instance)
     old new status
 
--- the same of the instance that a text parses to
+-- the same for the instance that a text parses to
 abbrev pub FillsLengths : List ℕ → List ℕ → List ℤ → List ℤ → ℕ → Type 0
 FillsLengths text nodes old new status = OfInstance text (λ instance. EndsLengths instance nodes old new status) old new status
 
@@ -243,14 +244,14 @@ coordinate (suc (suc axis)) point = point.z
 abbrev pub point_number : List Point → ℕ → ℤ
 point_number points k = coordinate (k % 3) (point_of points (k / 3 + 1))
 
--- How a call ends that asks for these points: 1 where the file has none in the section, else 0 or 6 as above.
+-- How a call ends that asks for these points: 1 if the file has none in the section, otherwise 0 or 6 as above.
 abbrev pub EndsPoints : Option (List Point) → List ℤ → List ℤ → ℕ → Type 0
 EndsPoints None old new status = (status ≡ 1) × (new ≡ old)
 EndsPoints (Some points) old new status =
     ((status ≡ 0) × (3 * length points ≤ length old) × IsFilled (3 * length points) (point_number points) old new)
     ⊎ ((status ≡ 6) × (new ≡ old) × (length old < 3 * length points))
 
--- the same of the file that a text parses to; 4 where there is no such section
+-- the same for the file that a text parses to; 4 if there is no such section
 abbrev pub FillsPoints : List ℕ → ℕ → List ℤ → List ℤ → ℕ → Type 0
 FillsPoints text section old new status =
     (IsSection section × ((file : Fields) × ParsesTo text file × EndsPoints (section_points section file) old new status))
@@ -263,7 +264,7 @@ FillsPoints text section old new status =
 abbrev pub distance_kinds : List WeightKind
 distance_kinds = Euc2d ∷ Ceil2d ∷ Man2d ∷ Max2d ∷ Att ∷ Euc3d ∷ Man3d ∷ Max3d ∷ []
 
--- the distance of two points, whose coordinates are counts of 10^-9; -1 where no weight type has the number, or a
+-- the distance of two points, whose coordinates are counts of 10^-9; -1 if no weight type has the number, or a
 -- coordinate is no decimal
 abbrev pub GivesDistance : ℕ → Point → Point → ℤ → Type 0
 GivesDistance number a b result =

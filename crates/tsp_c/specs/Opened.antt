@@ -1,5 +1,6 @@
--- The results of the calls on a handle: an instance that is open, a certificate that may be bound to it, and who owns
--- the box.
+-- The results of the C calls on a handle: an open instance, a certificate that may be bound to it, and who owns the
+-- box. src/handle.rt and src/handle_calls.rt promise them. In no circle of docs/trust.md: by lemmas, an open instance
+-- is judged as its text would be.
 use Rattle.tsp_c.specs.Prelude.{ℕ, Bool, List, Option, None, Some, Ok, ℤ, Fields, blank_fields, ParsesTo, is_yes, is_bound_yes, CertificateKind, status_of, status_of_fault, Open, IsOpened, IsUnopened, IsBoundTo, IsUnbound, IsHeldVerdict, IsNotJudged, RunFault, OutOfMemory}
 use Rattle.std.specs.Coded.{coded_option}
 use Rattle.std.specs.Prelude.{◌≡◌, ◌⊎◌, ◌≤◌, ◌<◌}
@@ -18,7 +19,7 @@ use Rattle.tsp_c.specs.NumberCalls.{section_points, IsSection, EndsPoints}
 use Rattle.tsp_c.specs.Texts.{GivenText, ParsesToGiven, ChecksTexts, IsRefusedNumber, claim_of, strict_of}
 use Rattle.tsp_c.specs.declared.call_result.CallResult.{CallResult}
 
--- the instance on which a handle is open, with its certificate; None where it is closed
+-- the instance on which a handle is open, with its certificate; None if it is closed
 abbrev pub Held : Type 0
 Held = Option Open
 
@@ -50,7 +51,7 @@ BindsOpen by text opened held call_result status =
 abbrev pub IsRefusedCall : Held → Held → CallResult → ℕ → Type 0
 IsRefusedCall old new call_result status = (status ≡ 4) × (new ≡ old) × (call_result ≡ blank_result)
 
--- the same, where the caller's number is that of a certificate and the handle is open; else the call is refused
+-- the same, if the caller's number is that of a certificate and the handle is open; otherwise the call is refused
 abbrev pub BindsText : Option CertificateKind → List ℕ → Held → Held → CallResult → ℕ → Type 0
 BindsText None text old new call_result status = IsRefusedCall old new call_result status
 BindsText (Some by) text None new call_result status = IsRefusedCall None new call_result status
@@ -95,12 +96,12 @@ ChecksHeld (Some opened) flags claimed two status text call_result =
 
 -- ---- numbers of the instance
 
--- P of the open instance; where the handle is closed, the status is 4, and nothing is filled in
+-- P of the open instance; if the handle is closed, the status is 4, and nothing is filled in
 abbrev pub OfHeld : {X : Type 0} → Held → (Fields → Type 0) → X → X → ℕ → Type 0
 OfHeld None P old new status = (status ≡ 4) × (new ≡ old)
 OfHeld (Some opened) P old new status = P opened.instance
 
--- the coordinates of the points of a section; 4 where there is no such section
+-- the coordinates of the points of a section; 4 if there is no such section
 abbrev pub EndsSection : Fields → ℕ → List ℤ → List ℤ → ℕ → Type 0
 EndsSection instance section old new status =
     (IsSection section × EndsPoints (section_points section instance) old new status)
@@ -108,7 +109,7 @@ EndsSection instance section old new status =
 
 -- ---- the ownership of a handle
 
--- the box at this pointer is owned, with the open instance; nothing where none is open
+-- the box at this pointer is owned, with the open instance; nothing if none is open
 abbrev pub held_owns : Global → Ptr → Option Open → Fml
 held_owns alloc p None = ftrue
 held_owns alloc p (Some x) = box_owns (ghosts.dealloc_token alloc) the_row p x
@@ -117,7 +118,7 @@ held_owns alloc p (Some x) = box_owns (ghosts.dealloc_token alloc) the_row p x
 abbrev pub held_coded : Coded (Option Open)
 held_coded = coded_option the_row.coded
 
--- the open instance; a blank one where none is open
+-- the open instance; a blank one if none is open
 abbrev pub open_of : Option Open → Open
 open_of None = record { instance = blank_fields; certificate = None }
 open_of (Some opened) = opened

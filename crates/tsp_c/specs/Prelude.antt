@@ -1,4 +1,5 @@
--- What the definitions and contracts of this crate use most of other crates, passed on from one place.
+-- Names of other crates, passed on to the files of this crate alone. It defines nothing: add or remove names freely;
+-- `tests/repository/names` sees that each is imported from here.
 pub use Rattle.std.specs.Prelude.{Bool, Err, IfOk, IsTrue, List, MatchResult, None, Ok, Option, Result, Some, SomeIff, codes, cond, drop, false, is_some, length, map, min, negsuc, option_map, pos, slice_index, slice_index_or, suc, true, unsigned_abs, unwrap_or, zero, ℕ, ℤ, []}
 pub use Rattle.tsp_file.specs.Cost.{origin, point_of}
 unfoldable pub use Rattle.tsp_file.specs.Cost.{cost, distance}

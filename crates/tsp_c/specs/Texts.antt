@@ -65,7 +65,7 @@ StopsConverting to one (Relayout refused) = (old : Fields) × ParsesTo one old �
 StopsConverting to one (Write write_faults.OutOfMemory) = (new : Fields) × BecomesFile to one new
 StopsConverting to one fault = IsTextFault 1 one fault
 
--- the result of a conversion; the status is 1 where the weights can't have the layout
+-- the result of a conversion; the status is 1 if the weights can't have the layout
 abbrev pub ConvertsText : Option Layout → List ℕ → ℕ → List ℕ → Type 0
 ConvertsText to one status text = EndsWithText
     (λ out. (new : Fields) × BecomesFile to one new × (out ≡ text_of new))
@@ -99,12 +99,12 @@ ParsesToGiven None (Some certificate) = ⊥
 ParsesToGiven (Some given) None = ⊥
 ParsesToGiven (Some given) (Some certificate) = (certificate.0 ≡ given.0) × ParsesTo given.1 certificate.1
 
--- A check by 0 asks nothing more, by 1 for a length, by 2 that lines that aren't judged be a reason, by 3 for both. This
--- is the claimed length, if there is one.
+-- With 0 a check asks for nothing more, with 1 for a length, with 2 for `--strict`, with 3 for both. This is the
+-- claimed length, if there is one.
 abbrev pub claim_of : ℕ → ℤ → Option ℤ
 claim_of has claimed = if has == 1 || has == 3 then Some claimed else None
 
--- whether lines that aren't judged are a reason
+-- whether a check is strict
 abbrev pub strict_of : ℕ → Bool
 strict_of has = has == 2 || has == 3
 
@@ -137,7 +137,7 @@ pub record IsRejected (given : GivenText) (claimed : Option ℤ) (strict : Bool)
   pub judged : IsVerdictAsked strict certificate claimed instance solution (No reason)
   pub printed : text ≡ report_of instance (No reason)
 
--- all texts are valid, but solutions of the instance's TYPE aren't judged so
+-- all texts are valid, but the certificate can't bound solutions of the instance's TYPE
 abbrev pub IsOfWrongKind : GivenText → List ℕ → List ℕ → Type 0
 IsOfWrongKind given one two = (instance solution : Fields) × (certificate : Option (CertificateKind × Fields))
     × AreSpelled given one two instance solution certificate × (is_judged certificate instance.kind ≡ false)
@@ -192,7 +192,7 @@ ChecksBy by flags claimed one two three status text =
 
 -- ---- a bound without a solution
 
--- the certificate of a bound by its number, 1 to 4: for 3 and 4 lines that aren't judged are a reason too
+-- the certificate of a bound by its number, 1 to 4; 3 and 4 are strict
 abbrev pub bounds_asked : List (CertificateKind × Bool)
 bounds_asked = (Potentials, false) ∷ (Branches, false) ∷ (Potentials, true) ∷ (Branches, true) ∷ []
 
@@ -225,7 +225,8 @@ IsUnbounded by one two WrongKind = (instance certificate : Fields) × ParsesTo o
     × (is_bounded by instance.kind ≡ false)
 IsUnbounded by one two fault = IsFaultyText 1 one fault ⊎ (IsFileText one × IsFaultyText 2 two fault)
 
--- both texts are valid, and no reason applies to the instance, nor one to the certificate that is found without memory
+-- both texts are valid, no reason applies to the instance, and none that is found without memory applies to the
+-- certificate
 abbrev pub IsUndecidedBound : CertificateKind → List ℕ → List ℕ → Type 0
 IsUndecidedBound by one two = (instance certificate : Fields) × ParsesTo one instance × ParsesTo two certificate
     × IsTrue (is_bounded by instance.kind) × NoneAgainstInstance instance × NoneWithoutMemory by instance certificate

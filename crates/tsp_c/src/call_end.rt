@@ -1,6 +1,6 @@
-//! How a call that writes no text ends, such as one that fills in numbers or opens a handle: by a
-//! status (`CallEnd`), with the numbers of `Status` in tsp_judge, which `bindings/c/tsp.h` repeats.
-//! Calls that write a text end as in `ended.rt`.
+//! How a C call that writes no text ends, such as one that fills in numbers or opens a handle: a
+//! status (`CallEnd`), with the numbers of `Status` in tsp_judge. `bindings/c/tsp.h` promises them,
+//! so they never change. For calls that write a text, see `ended.rt`.
 
 ghost use Rattle.tsp_c.specs.Prelude.{Ok, status_of, status_of_fault, OutOfMemory};
 ghost use Rattle.std.specs.Prelude.{◌≡◌};
@@ -9,12 +9,12 @@ use crate::handle::NoBox;
 use std::marker::Model;
 use tsp_judge::{RunError, Status, status_of};
 
-/// The buffer has too few places.
+/// The buffer is too small.
 pub(crate) const TOO_SMALL: u32 = Status::TooSmall as u32;
 
-/// The status of a call on numbers. Contracts see its number.
+/// The status of a call. Contracts see its number.
 ///
-/// Only the calls of this file make one: out of memory comes from a [`RunError`] or a [`NoBox`].
+/// Only this file makes one: it says that memory ran out only after a [`RunError`] or a [`NoBox`].
 #[derive(Clone, Copy, Drop)]
 pub(crate) struct CallEnd {
     number: u32,
@@ -38,7 +38,7 @@ impl CallEnd {
         self.number
     }
 
-    /// The ending of a call that succeeded: status 0.
+    /// The call succeeded: status 0.
     pub(crate) fn done() -> CallEnd
         ensures { result ≡ 0 }
     {
@@ -56,8 +56,7 @@ impl CallEnd {
         }
     }
 
-    /// The status of a number that is refused: a node, a row or a section that the instance doesn't
-    /// have.
+    /// A number was refused: the instance has no such node, row or section.
     pub(crate) fn refused() -> CallEnd
         ensures { result ≡ 4 }
     {
@@ -66,14 +65,14 @@ impl CallEnd {
         }
     }
 
-    /// The buffer has too few places.
+    /// The buffer is too small.
     pub(crate) fn too_small() -> CallEnd
         ensures { result ≡ 6 }
     {
         CallEnd { number: TOO_SMALL }
     }
 
-    /// The status of a call with a verdict: 0 if it accepts, else 1.
+    /// The status of a verdict: 0 if it accepts, otherwise 1.
     pub(crate) fn of_answer(accepts: bool) -> CallEnd
         ensures { result ≡ status_of (Ok accepts) }
     {
@@ -82,7 +81,7 @@ impl CallEnd {
         }
     }
 
-    /// The status of a fault: 2 for one of a text, 3 for out of memory.
+    /// The status of a fault: 2 for a text's fault, 3 if memory ran out.
     pub(crate) fn of_fault(error: RunError) -> CallEnd
         ensures { result ≡ status_of_fault error }
     {

@@ -1,4 +1,6 @@
 //! The result of a call in numbers, as `tsp.h` declares it: verdict, length, bound, reason, fault.
+//! `picked_runs.rt` and `handle_calls.rt` fill it in. `specs/CallResult.antt` pins the numbers, and
+//! none of them ever changes.
 
 ghost use Rattle.std.specs.Prelude.{◌≡◌, ◌≢◌, Some, IfOk};
 ghost use Rattle.tsp_report.specs.Report.{IsGapSized, IsSized};
@@ -27,7 +29,7 @@ const WRONG_KIND: u32 = 21;
 /// The halves of a bound have 64 bits each.
 const TWO_TO_64: i128 = 18_446_744_073_709_551_616;
 
-/// The result of a call, in numbers. A number that it doesn't have is 0.
+/// The result of a call, in numbers. Numbers that don't apply are 0.
 #[repr(C)]
 #[derive(Clone, Copy)]
 pub struct CallResult {
@@ -35,7 +37,7 @@ pub struct CallResult {
     pub kind: u32,
     /// How many nodes it has.
     pub nodes: u32,
-    /// 1 a tour, 2 routes, 3 rejected, 4 a bound, 5 that there is no solution.
+    /// 1 for a tour, 2 for routes, 3 for rejected, 4 for a bound, 5 for no solution.
     pub verdict: u32,
     /// The number of the reason.
     pub reason: u32,
@@ -51,7 +53,7 @@ pub struct CallResult {
     pub bound_low: u64,
     /// The least number of routes.
     pub least: u64,
-    /// 1 if there is a bound, else 0.
+    /// 1 if there is a bound, otherwise 0.
     pub has_bound: u32,
     /// How many routes there are.
     pub routes: u32,
@@ -65,7 +67,7 @@ pub struct CallResult {
     pub word: u32,
     /// The number of what is wrong with a number.
     pub number: u32,
-    /// The number of the keyword or section that is missing, or has too few places.
+    /// The number of the keyword or section that is missing or incomplete.
     pub field: u32,
 }
 
@@ -96,7 +98,7 @@ impl CallResult {
         }
     }
 
-    /// The numbers of an instance without a verdict: its TYPE, and how many nodes it has.
+    /// The numbers of an instance without a verdict: its TYPE and its number of nodes.
     pub(crate) fn of_instance(instance: &Instance) -> CallResult
         ensures { result ≡ result_of_instance instance.now }
     {
@@ -242,7 +244,7 @@ impl CallResult {
         }
     }
 
-    /// The numbers of a call with this status: none out of memory.
+    /// The numbers of a call with this status: none if memory ran out.
     pub(crate) fn for_status(self, status: u8) -> CallResult
         ensures kept { status ≢ 3 → result ≡ self }
         ensures none { status ≡ 3 → result ≡ blank_result }
@@ -282,7 +284,7 @@ impl CallResult {
     }
 }
 
-/// The number of the field that isn't used, if that is the reason; else 0.
+/// The number of the unused field, if that is the reason; otherwise 0.
 fn field_of_reason(reason: Reason) -> u32
     ensures { result ≡ field_of_reason reason }
 {
@@ -342,7 +344,7 @@ fn read_fault_number(fault: ReadFault) -> u32
     }
 }
 
-/// The number of what is wrong with a number, if that is the fault of a line; else 0.
+/// The number of what is wrong with a number, if that is the fault of a line; otherwise 0.
 fn number_of_fault(fault: LineFault) -> u32
     ensures { result ≡ number_of_fault fault }
 {
@@ -377,7 +379,7 @@ fn field_of_fault(fault: ReadFault) -> u32
     }
 }
 
-/// The number of a field, which no later version changes.
+/// The number of a field. No later version changes it.
 fn field_number(field: Field) -> u32
     ensures { result ≡ field_number field }
 {

@@ -1,5 +1,5 @@
-//! `tsp_distance`: the distance of two points by the number of a weight type. `src/lib.rt` and
-//! `bindings/c/tsp.h` list the numbers too.
+//! The C call `tsp_distance`: the distance between two points, for the number of a weight type.
+//! `lib.rt` exports it. The numbers, which `bindings/c/tsp.h` lists, too, never change.
 
 ghost use Rattle.tsp_c.specs.Prelude.{Some, option_map, SomeIff, Point, distance};
 ghost use Rattle.std.specs.Prelude.{◌≡◌};
@@ -29,7 +29,7 @@ fn point_of(counts: Counts) -> Option<Point>
     Some(Point { x, y, z })
 }
 
-/// The distance of two points by a number, or -1.
+/// The distance between two points for a number, or -1.
 pub(crate) fn distance_of(number: u32, from: Counts, to: Counts) -> i64
     ensures { let a : Point = record { x = from.x; y = from.y; z = from.z } in
         let b : Point = record { x = to.x; y = to.y; z = to.z } in GivesDistance number a b result }

@@ -1,23 +1,27 @@
-//! How a call that writes a text ends: by a status and the text (`Answer`; `tsp_explain` has its
-//! text from `explain.rt`, and shares `place`). Calls that write no text end by a status alone
-//! (`call_end.rt`).
+//! How a C call that writes text ends: a status and the text (`Answer`). The C call `tsp_explain`
+//! makes its own text (`explain.rt`) and shares only `place`. Other calls end with a status alone
+//! (`call_end.rt`). `tsp.h` promises the statuses, and `specs/NumberCalls.antt` pins what the
+//! buffer contains.
 
 ghost use Rattle.std.specs.Prelude.{◌≡◌, ◌≢◌, IsErr, MatchResult, [], IfOk};
 ghost use Rattle.tsp_io.specs.states.Output.{writer_of};
 ghost use Rattle.tsp_c.specs.CallResult.{blank_result};
 ghost use Rattle.tsp_c.specs.NumberCalls.{EndsOnTexts, IsPlaced, IsPrinted, without_devices, fault_line};
+ghost use Rattle.tsp_c.specs.Solutions.{EndsSolving, solving_line};
 ghost use Rattle.tsp_c.specs.Texts.{IsRefusedNumber};
 
 use crate::call_end::TOO_SMALL;
 use crate::call_result::CallResult;
+use crate::solution_call::status_of_solving;
 use std::alloc::Global;
 use std::io::{self, Write};
 use std::marker::Model;
 use tsp_judge::{Output, ReadFault, RunError, RunFault, Status, WriteFault, status_of};
+use tsp_solution::SolutionRunFault;
 
 /// The status of a call on texts, and its text. Contracts see a pair.
 ///
-/// Only the calls of this file make one: out of memory comes from a [`RunError`] or a [`NoLine`].
+/// Only this file makes one: it says that memory ran out only after a [`RunError`] or a [`NoLine`].
 #[derive(Drop)]
 pub(crate) struct Answer {
     status: u8,
@@ -33,7 +37,7 @@ impl Model for Answer {
 }
 
 impl Answer {
-    /// The status of a call with a number that is refused, and no text.
+    /// A refused number: its status, and no text.
     pub(crate) fn refused(alloc: Global) -> Answer
         ensures { IsRefusedNumber result.0 result.1 }
     {
@@ -43,7 +47,34 @@ impl Answer {
         }
     }
 
-    /// The numbers of the call, of which it has none out of memory.
+    /// A text, with the status 0.
+    pub(crate) fn done(text: Vec<u8>) -> Answer
+        ensures { (result.0 ≡ 0) × (result.1 ≡ text.items) }
+    {
+        Answer {
+            status: Status::Yes as u8,
+            text,
+        }
+    }
+
+    /// The status and the line of a fault of `tsp_solution`. If there is no memory for the line,
+    /// the status says so, and the text is empty.
+    pub(crate) fn unsolved(alloc: Global, fault: SolutionRunFault) -> Answer
+        ensures { EndsSolving fault result.0 result.1 }
+    {
+        match line_of_solving(alloc, fault) {
+            Ok(text) => Answer {
+                status: status_of_solving(fault),
+                text,
+            },
+            Err(no_line) => Answer {
+                status: Status::OutOfMemory as u8,
+                text: no_line.into_text(),
+            },
+        }
+    }
+
+    /// The call's numbers; all blank if memory ran out.
     pub(crate) fn numbers(&self, call_result: CallResult) -> CallResult
         ensures kept { self.now.0 ≢ 3 → result ≡ call_result }
         ensures none { self.now.0 ≡ 3 → result ≡ blank_result }
@@ -51,7 +82,7 @@ impl Answer {
         call_result.for_status(self.status)
     }
 
-    /// Puts the text into a caller's buffer if it fits. The status of the call.
+    /// Puts the text into the caller's buffer if it fits, and returns the call's status.
     pub(crate) fn place(&self, out: &mut [u8], written: &mut usize) -> u32
         ensures { IsPlaced self.now.1 self.now.0 out.old out.new written.new result }
     {
@@ -59,8 +90,8 @@ impl Answer {
     }
 }
 
-/// The status with which a run on texts ends, and the text that goes to the caller: what the run
-/// wrote, or the line of its fault. If there is no memory for a line, the text is empty.
+/// The status of a run on texts, and the text for the caller: what the run wrote, or the line of
+/// its fault. If there is no memory for the line, the text is empty.
 pub(crate) fn ended(answer: Result<bool, RunError>, report: Output<Vec<u8>>) -> Answer
     ensures { EndsOnTexts answer (writer_of report).items result.0 result.1 }
 {
@@ -73,11 +104,11 @@ pub(crate) fn ended(answer: Result<bool, RunError>, report: Output<Vec<u8>>) -> 
     }
 }
 
-/// The status of a run on texts and the text for the caller, as of `ended`.
+/// Like [`ended`], but fails if there is no memory for the line.
 ///
 /// # Errors
 ///
-/// Out of memory for the line of a fault.
+/// Out of memory.
 fn printed(answer: Result<bool, RunError>, report: Output<Vec<u8>>) -> Result<Answer, NoLine>
     ensures { MatchResult result
         (λ printed. IsPrinted answer (writer_of report).items printed.0 printed.1)
@@ -100,7 +131,7 @@ fn printed(answer: Result<bool, RunError>, report: Output<Vec<u8>>) -> Result<An
     }
 }
 
-/// The fault in memory, if no device is: a read or a write that fails is out of memory.
+/// The fault of a run in memory, without devices: a failed read or write means that memory ran out.
 fn without_devices(fault: RunFault) -> RunFault
     ensures { result ≡ without_devices fault }
 {
@@ -117,7 +148,7 @@ fn without_devices(fault: RunFault) -> RunFault
     }
 }
 
-// ---- puts a text into a caller's buffer if it fits
+// ---- put a text into a caller's buffer if it fits
 
 /// Puts a text at the start of a buffer if it fits, and writes its length. Returns the text's
 /// status, or that the text doesn't fit.
@@ -134,7 +165,8 @@ pub(crate) fn place(text: &[u8], status: u8, out: &mut [u8], written: &mut usize
 
 // ---- the line of a fault, as the program writes it on standard error, in memory
 
-/// There was no memory for a line. Only `line_of` makes one, if a write to memory failed.
+/// There was no memory for a line. Only `line_of` and `line_of_solving` make one, after a failed
+/// write to memory.
 #[derive(Drop)]
 pub(crate) struct NoLine {
     text: Vec<u8>,
@@ -153,7 +185,7 @@ impl NoLine {
     }
 }
 
-/// The line of a fault, in the place of a text.
+/// The line of a fault, replacing a text.
 ///
 /// # Errors
 ///
@@ -163,6 +195,22 @@ fn line_of(mut text: Vec<u8>, fault: RunFault) -> Result<Vec<u8>, NoLine>
 {
     text.clear();
     match writeln!(text, "{fault}") {
+        Ok(()) => Ok(text),
+        Err(error) => Err(NoLine { text, error }),
+    }
+}
+
+/// The line of a fault of `tsp_solution`.
+///
+/// # Errors
+///
+/// Out of memory.
+fn line_of_solving(alloc: Global, fault: SolutionRunFault) -> Result<Vec<u8>, NoLine>
+    ensures { IfOk result (λ line. line.items ≡ solving_line fault) }
+{
+    let mut text = Vec::new(alloc);
+    let told = writeln!(text, "{fault}");
+    match told {
         Ok(()) => Ok(text),
         Err(error) => Err(NoLine { text, error }),
     }

@@ -1,6 +1,7 @@
 //! Laws that state values of the definitions in `specs/`, worked out by hand: which numbers the
 //! calls for C take and return (verdicts, reasons, faults, fields), which buffers are too small,
-//! and which file of a call a fault is of.
+//! and which file of a call a fault is of. No code calls them. If someone makes the same mistake in
+//! a definition and in the code, every contract still holds, but one of these laws fails.
 
 ghost use Rattle.tsp_c.specs.Prelude.{ℕ, ℤ, pos, List, [], Err, true, false, negsuc, None, Some, codes, map, Point, cost, Fields, nodes_of, CertificateKind, IsNotJudged, IsUnbound, IsUnopened, Open, status_of_fault, RunFault};
 ghost use Rattle.std.specs.Prelude.{◌∷◌, ◌≡◌, ◌++◌, ◌+◌, ◌-◌, ◌^◌};
@@ -21,9 +22,16 @@ ghost use Rattle.tsp_report.specs.declared.verdict.BoundVerdict.TheVariants as b
 ghost use Rattle.tsp_report.specs.declared.verdict.Reason.TheVariants as reasons;
 ghost use Rattle.tsp_report.specs.declared.verdict.Verdict.TheVariants as verdicts;
 ghost use Rattle.tsp_judge.specs.declared.run_status.RunFault.TheVariants as run_faults;
+ghost use Rattle.tsp_solution.specs.Forms.{all_forms};
+ghost use Rattle.tsp_solution.specs.declared.fault.FormFault.TheVariants as form_faults;
+ghost use Rattle.tsp_solution.specs.declared.fault.SolutionFault.TheVariants as solution_faults;
+ghost use Rattle.tsp_solution.specs.declared.form.Form.TheVariants as forms;
+ghost use Rattle.tsp_solution.specs.declared.hints.Numbering.TheVariants as numbering;
+ghost use Rattle.tsp_solution.specs.declared.run.SolutionRunFault.TheVariants as solution_ends;
 ghost use Rattle.tsp_c.specs.CallResult.{blank_result, high_half, low_half, result_of_bound, result_of_fault, result_of_verdict, field_number, first_number, kind_number, line_fault_number, number_fault_number, read_fault_number, second_number, field_of_fault, number_of_fault, result_of_instance};
 ghost use Rattle.tsp_c.specs.NumberCalls.{IsPlaced, fault_line, nth, without_devices, EndsBuffer, distance_kinds, lists_in, pair_cost, row_cost, row_count, EndsPoints, coordinate, section_points};
 ghost use Rattle.tsp_c.specs.Opened.{EndsSection};
+ghost use Rattle.tsp_c.specs.Solutions.{depot_by, known_instance, numberings, solving_line, status_of_solving};
 ghost use Rattle.tsp_c.specs.Texts.{IsExplained, bounds_asked, certificates, claim_of, strict_of};
 ghost use Rattle.tsp_c.specs.declared.call_result.CallResult.{CallResult};
 
@@ -44,7 +52,22 @@ pub fn examples_of_explained_calls()
     ensures no_call { ¬ IsExplained 4 1 0 }
 {}
 
-/// A buffer of one place, of which two are asked, and sections that files don't have.
+/// What the numbers say of a solution, and how faults of solutions end a call.
+pub fn examples_of_solution_numbers()
+    ensures first_form { nth 1 all_forms ≡ Some forms.Tour }
+    ensures last_form { nth 10 all_forms ≡ Some forms.List }
+    ensures no_form { nth 0 all_forms ≡ None }
+    ensures from_zero { nth 1 numberings ≡ Some numbering.FromZero }
+    ensures from_one { nth 2 numberings ≡ Some numbering.FromOne }
+    ensures depot { depot_by 7 ≡ Some 7 }
+    ensures no_depot { depot_by 0 ≡ None }
+    ensures no_instance { known_instance [] ≡ None }
+    ensures fault { status_of_solving (solution_ends.File 1 (solution_faults.Place 1 2 form_faults.NotANode)) ≡ 2 }
+    ensures memory { status_of_solving (solution_ends.File 2 solution_faults.OutOfMemory) ≡ 3 }
+    ensures line { solving_line (solution_ends.Write write_faults.OutOfMemory) ≡ codes "output: out of memory\n" }
+{}
+
+/// A buffer with one place for two numbers, and sections that files don't have.
 pub fn examples_of_refused_places()
     ensures too_small { (number : ℕ → ℤ) → EndsBuffer (Unit {0}) 2 2 number (pos 7 ∷ []) (pos 7 ∷ []) 6 }
     ensures not_asked { (number : ℕ → ℤ) → EndsBuffer ⊥ 2 2 number (pos 7 ∷ []) (pos 7 ∷ []) 4 }
@@ -53,7 +76,7 @@ pub fn examples_of_refused_places()
     ensures no_section { (instance : Fields) → EndsSection instance 0 (pos 7 ∷ []) (pos 7 ∷ []) 4 }
 {}
 
-/// The text that is opened is file 1 of its call; one that is bound to it, or judged, is file 2.
+/// The text that is opened is file 1 of its call; a text that is bound or judged is file 2.
 pub fn examples_of_faulty_files()
     ensures opened { (text : List ℕ) (fault : ReadFault) → Reads text (Err fault)
         → IsUnopened text (run_faults.File 1 fault) }
@@ -184,7 +207,7 @@ pub fn examples_of_distance_numbers()
     ensures man_3d { nth 7 distance_kinds ≡ Some weight_kinds.Man3d }
 {}
 
-/// The points of a section: a file without the section is no refused call.
+/// The points of a section. If the file lacks the section, the call isn't refused.
 pub fn examples_of_sections()
     ensures coords { (file : Fields) → section_points 1 file ≡ file.coords }
     ensures display { (file : Fields) → section_points 2 file ≡ file.display }
@@ -195,7 +218,7 @@ pub fn examples_of_sections()
     ensures missing { EndsPoints None (pos 7 ∷ []) (pos 7 ∷ []) 1 }
 {}
 
-/// A reason, its numbers, and its field. A length that is claimed may be below 0.
+/// A reason, its numbers, and its field. A claimed length may be negative.
 pub fn examples_of_reason_numbers()
     ensures one { first_number (reasons.Unserved 6) ≡ pos 6 }
     ensures none { first_number reasons.TourCount ≡ pos 0 }
@@ -243,7 +266,7 @@ pub fn examples_of_field_numbers()
         (call_result.fault ≡ 17) × (call_result.file ≡ 2) × (call_result.field ≡ 12) }
 {}
 
-/// Out of memory, a call has no numbers.
+/// If memory runs out, a call has no numbers.
 pub fn no_numbers_without_memory()
     ensures { (fault : RunFault) → status_of_fault fault ≡ 3 → result_of_fault fault ≡ blank_result }
 {}

@@ -1,4 +1,6 @@
-//! Explains the result of a call on texts to a person, by doing the call again as a task.
+//! The C call `tsp_explain`: explains the result of a call on texts by running it again as a task.
+//! `lib.rt` exports it. Its contract (`ExplainsTexts` in `specs/Texts.antt`) says nothing about the
+//! words, so you can change them freely.
 
 ghost use Rattle.std.specs.Prelude.{◌↔◌, IsSome};
 ghost use Rattle.tsp_c.specs.Texts.{ExplainsTexts, IsExplained};
@@ -11,7 +13,7 @@ use tsp_judge::{
 };
 use tsp_report::{FileTask, Task};
 
-/// The calls that are explained, by their numbers.
+/// The calls that can be explained, by their numbers.
 const SHOW: u32 = 0;
 
 const CONVERT: u32 = 1;
@@ -30,8 +32,7 @@ pub(crate) struct Numbers {
     pub(crate) flags: u32,
 }
 
-/// The texts of a call. `names` has what the user calls them, one behind the other, and a byte 0
-/// between them.
+/// The texts of a call. `names` contains the user's names for them, separated by bytes 0.
 #[derive(Clone, Copy)]
 pub(crate) struct Texts<'a> {
     pub(crate) instance: &'a [u8],
@@ -40,7 +41,7 @@ pub(crate) struct Texts<'a> {
     pub(crate) names: &'a [u8],
 }
 
-/// A text, and what the user calls it.
+/// A text, and the user's name for it.
 #[derive(Clone, Copy)]
 struct Named<'a> {
     bytes: &'a [u8],
@@ -120,7 +121,7 @@ fn explain(alloc: Global, text: &mut Vec<u8>, task: FileTask<Named<'_>>) -> Resu
 ///
 /// # Errors
 ///
-/// Out of memory, since a fault for which there was no memory can't be explained.
+/// Out of memory: a fault for which there was no memory can't be explained.
 fn again<'a>(task: &Task<'_, Named<'a>>, fault: RunFault) -> Result<Option<&'a [u8]>, AllocError> {
     match fault {
         RunFault::File {
@@ -175,7 +176,7 @@ fn cut(names: &[u8]) -> (&[u8], &[u8]) {
     }
 }
 
-/// The name that bytes are, or another one if they are none.
+/// The name that these bytes spell, or a default name if they aren't text.
 fn name_or<'a>(name: &'a [u8], other: &'a str) -> &'a str {
     match str::from_utf8(name) {
         Ok(name) if !name.is_empty() => name,

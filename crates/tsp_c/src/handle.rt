@@ -1,5 +1,5 @@
-//! The handle that a caller in C holds: closed, or open on an instance. `struct tsp_instance` in
-//! `bindings/c/tsp.h` has the same layout.
+//! The handle that a C caller holds: closed, or open on an instance. Only `handle_calls.rt` opens
+//! and closes one. Its layout must stay that of `struct tsp_instance` in `bindings/c/tsp.h`.
 
 ghost use Rattle.tsp_c.specs.Prelude.{option_map, None, Some, is_some, Option, IfOk, Open};
 ghost use Rattle.std.specs.Prelude.{◌≡◌};
@@ -12,7 +12,7 @@ use std::marker::Model;
 use std::mem::replace;
 use tsp_judge::Opened;
 
-/// An instance that is open, or none. All bytes 0 are a closed handle.
+/// An open instance, or none. All bytes 0 are a closed handle.
 #[repr(C)]
 pub struct Handle {
     is_open: bool,
@@ -41,7 +41,7 @@ impl Handle {
         }
     }
 
-    /// The instance that the handle is open on, if any. The handle is closed then.
+    /// Closes the handle, and returns the instance on which it was open, if any.
     pub(crate) fn take(&mut self, alloc: Global) -> Option<Box<Opened, Global>>
         ensures value { option_map (λ b. b.value) result ≡ self.old.loose.value }
         ensures closed { self.new.loose.value ≡ None }
@@ -67,8 +67,8 @@ impl Handle {
 
 // ---- an open instance in a box as its bare pointer, or NULL
 
-/// A box at the border to C, where its type may not be named: its pointer, and the ownership that
-/// goes with it. It is ended by hand, and has no drop.
+/// A box for C, which can't name its type: its pointer, and ownership. It has no drop, so it must
+/// be ended by hand.
 #[repr(C)]
 pub struct Loose {
     at: *mut u8,
@@ -162,7 +162,7 @@ pub(crate) struct NoBox {
     error: AllocError,
 }
 
-/// Puts a value into a box. The value isn't looked at.
+/// Puts a value into a box, without looking at it.
 ///
 /// # Errors
 ///

@@ -1,5 +1,6 @@
-//! The calls on a handle: open, bind, check, count, costs, points, lengths, close. Points and
-//! lengths are filled in by `point_calls.rt`, costs by `pair_costs.rt`, for texts as well.
+//! The C calls on a handle: open, bind, check, count, costs, points, lengths, close. `lib.rt`
+//! exports them. `specs/Opened.antt` pins what each does to the handle; by lemmas in
+//! `proofs/HandleCalls.antt`, each answers as the call on the text would.
 
 ghost use Rattle.tsp_c.specs.Prelude.{None, Some, MatchResult, report_of, IsSized, is_yes, Open, IsOpened, IsUnopened, status_of_fault, OutOfMemory};
 ghost use Rattle.std.specs.Prelude.{◌≡◌, ◌<◌, ◌*◌, ◌-◌};
@@ -25,8 +26,8 @@ use tsp_judge::{
 };
 use tsp_verdict::strict_verdict;
 
-/// Opens a handle on the instance that a text is; the status. What it was open on before is freed
-/// first.
+/// Opens a handle on the instance in a text, and returns the status. Frees what the handle was open
+/// on before.
 pub(crate) fn open_text(
     alloc: Global,
     text: &[u8],
@@ -47,7 +48,7 @@ pub(crate) fn open_text(
     }
 }
 
-/// Tells the numbers of a fault; its status.
+/// Fills in the numbers of a fault, and returns its status.
 fn tell_fault(error: RunError, call_result: &mut CallResult) -> CallEnd
     ensures call_result { call_result.new ≡ result_of_fault error }
     ensures status { result ≡ status_of_fault error }
@@ -56,7 +57,7 @@ fn tell_fault(error: RunError, call_result: &mut CallResult) -> CallEnd
     CallEnd::of_fault(error)
 }
 
-/// Tells that there was no memory for a box; the status.
+/// Fills in that there was no memory for a box, and returns the status.
 fn tell_no_box(no_box: NoBox, call_result: &mut CallResult) -> CallEnd
     ensures call_result { call_result.new ≡ result_of_fault OutOfMemory }
     ensures status { result ≡ status_of_fault OutOfMemory }
@@ -65,11 +66,11 @@ fn tell_no_box(no_box: NoBox, call_result: &mut CallResult) -> CallEnd
     CallEnd::without_box(no_box)
 }
 
-/// The instance that a text is, in a box, if there was memory for it.
+/// The instance in a text, in a box if there was memory for one.
 ///
 /// # Errors
 ///
-/// Why the text is no instance; out of memory for the box is no such fault.
+/// Why the text has no instance. No memory for the box isn't such a fault.
 fn boxed(alloc: Global, text: &[u8]) -> Result<Result<Box<Opened, Global>, NoBox>, RunError>
     ensures { MatchResult result
         (λ held. MatchResult held (λ opened. IsOpened text.now opened.value) (λ no_box. (opened : Open) × IsOpened text.now opened))
@@ -89,8 +90,8 @@ pub(crate) fn close(alloc: Global, handle: &mut Handle)
     drop(handle.take(alloc));
 }
 
-/// Binds the certificate that a text is to the instance of a handle, by 1 potentials, by 2
-/// branches; the status.
+/// Binds the certificate in a text (1 for potentials, 2 for branches) to the instance of a handle,
+/// and returns the status.
 pub(crate) fn bind_text(
     alloc: Global,
     handle: &mut Handle,
@@ -114,7 +115,7 @@ pub(crate) fn bind_text(
     }
 }
 
-/// Binds the certificate that a text is to an instance that is open; the status.
+/// Binds the certificate in a text to an open instance, and returns the status.
 fn bind_opened(
     alloc: Global,
     opened: &mut Opened,
@@ -133,8 +134,8 @@ fn bind_opened(
     }
 }
 
-/// The check of the solution that a text is, of the instance of a handle, with the certificate that
-/// is bound, if one is, and with what `flags` asks; with its status, and in numbers.
+/// Checks the solution in a text for the instance of a handle, with the bound certificate, if any,
+/// and what `flags` asks for. Returns the text and the status, and the result in numbers.
 pub(crate) fn check_held(
     alloc: Global,
     handle: &mut Handle,
@@ -159,7 +160,7 @@ pub(crate) fn check_held(
     }
 }
 
-/// The check of the solution that a text is, of an instance that is open.
+/// Checks the solution in a text for an open instance.
 fn check_opened(
     alloc: Global,
     opened: &Opened,
@@ -203,7 +204,7 @@ fn reported<W: Takes>(
     Ok(verdict.is_yes())
 }
 
-/// Fills in the costs of pairs of nodes of the instance of a handle; the status.
+/// Fills in the costs of pairs of nodes of a handle's instance, and returns the status.
 pub(crate) fn weights_held(
     alloc: Global,
     handle: &mut Handle,
@@ -224,7 +225,7 @@ pub(crate) fn weights_held(
     }
 }
 
-/// Fills in rows of the matrix of the instance of a handle; the status.
+/// Fills in rows of the cost matrix of a handle's instance, and returns the status.
 pub(crate) fn rows_held(
     alloc: Global,
     handle: &mut Handle,
@@ -245,7 +246,7 @@ pub(crate) fn rows_held(
     }
 }
 
-/// Fills in the lengths of lists of nodes of the instance of a handle; the status.
+/// Fills in the lengths of lists of nodes of a handle's instance, and returns the status.
 pub(crate) fn lengths_held(
     alloc: Global,
     handle: &mut Handle,
@@ -266,7 +267,7 @@ pub(crate) fn lengths_held(
     }
 }
 
-/// Fills in the coordinates of the points of a section of the instance of a handle; the status.
+/// Fills in the coordinates in a section of a handle's instance, and returns the status.
 pub(crate) fn points_held(
     alloc: Global,
     handle: &mut Handle,
@@ -290,7 +291,7 @@ pub(crate) fn points_held(
     }
 }
 
-/// How many nodes the instance of a handle has; the status.
+/// Fills in how many nodes a handle's instance has, and returns the status.
 pub(crate) fn count_held(alloc: Global, handle: &mut Handle, count: &mut u32) -> CallEnd
     ensures same { handle.new.loose.value ≡ handle.old.loose.value }
     ensures fills { OfHeld handle.old.loose.value (λ instance. EndsCount instance count.new result)

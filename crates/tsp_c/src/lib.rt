@@ -1,12 +1,12 @@
 //! Yokecairn's interface for C, and for languages that can call C: every argument is a number or a
 //! slice of bytes. `bindings/c/tsp.h` declares the calls.
 //!
-//! A call on texts has no state. A handle holds an instance that is open, which calls on it don't
-//! read again. No call keeps a pointer, or calls back. A call that writes a text returns the status
-//! with which the program exits: 0 for the line `yes` or a call that succeeded, 1 for the line
-//! `no`, 2 for a text with a fault, 3 out of memory, 4 for a number that is refused. The text is at
-//! the start of the buffer `out`, and `written` is its length. If it doesn't fit, the status is
-//! 6, the buffer is as it was, and `written` is the length that is needed.
+//! A call on texts has no state. A handle holds an open instance, so that calls on it needn't read
+//! it again. No call keeps a pointer or calls back. A call that writes a text returns the program's
+//! exit status: 0 for the line `yes` or another success, 1 for the line `no`, 2 for a text with a
+//! fault, 3 if memory ran out, 4 for a refused number. The text is at the start of the buffer
+//! `out`, and `written` is its length. If the text doesn't fit, the status is 6, the buffer is
+//! unchanged, and `written` is the length needed.
 #![tactic(auto)]
 
 ghost use Rattle.std.specs.Prelude.{◌≡◌, None};
@@ -14,6 +14,7 @@ ghost use Rattle.tsp_number.specs.declared.decimal.Point.{Point};
 ghost use Rattle.tsp_c.specs.CallResult.{TellsBoundBy, TellsBy};
 ghost use Rattle.tsp_c.specs.NumberCalls.{PlacesText, nth, EndsCount, EndsLengths, EndsMatrix, EndsWeights, FillsCount, FillsLengths, FillsMatrix, FillsPoints, FillsWeights, GivesDistance};
 ghost use Rattle.tsp_c.specs.Opened.{BindsText, ChecksHeld, EndsSection, OfHeld, OpensText};
+ghost use Rattle.tsp_c.specs.Solutions.{SolvesBy};
 ghost use Rattle.tsp_c.specs.Texts.{BoundsBy, ChecksBy, ConvertsBy, ExplainsTexts, ShowsText, bounds_asked, certificates};
 
 mod call_end;
@@ -27,6 +28,7 @@ mod handle_calls;
 mod pair_costs;
 mod picked_runs;
 mod point_calls;
+mod solution_call;
 mod text_instance;
 
 use crate::call_result::CallResult;
@@ -41,6 +43,7 @@ use crate::handle_calls::{
 use crate::pair_costs::{fill_matrix, fill_weights};
 use crate::picked_runs::{Claim, bound_by, check_by, convert_by, shown};
 use crate::point_calls::{fill_lengths, fill_points};
+use crate::solution_call::{HintNumbers, solution_by};
 use crate::text_instance::fill_count;
 use std::alloc::Global;
 
@@ -48,8 +51,8 @@ use std::alloc::Global;
 const VERSION_NUMBER: u32 = 10100;
 
 /// Judges a solution of an instance. `by` is 0 without a certificate, 1 with potentials, 2 with
-/// branches. `flags` is a sum: with 1 the length has to be `claimed`, with 2 an instance with a
-/// line that isn't judged is rejected, after all other reasons.
+/// branches. `flags` is a sum: with 1, the length has to be `claimed`; with 2, an instance with a
+/// line that the verdict ignores is rejected, after all other reasons.
 #[unsafe(no_mangle)]
 pub extern "C" fn tsp_check(
     alloc: Global,
@@ -72,7 +75,7 @@ pub extern "C" fn tsp_check(
     status
 }
 
-/// Does what `tsp_check` does, and returns its result in numbers too.
+/// Like `tsp_check`, but returns the result in numbers, too.
 #[unsafe(no_mangle)]
 pub extern "C" fn tsp_check_result(
     alloc: Global,
@@ -99,7 +102,7 @@ pub extern "C" fn tsp_check_result(
 }
 
 /// Bounds all tours or routes of an instance. `by` is 1 for potentials and 2 for branches; 3 and 4
-/// are the same, but with a line that isn't judged as a reason.
+/// are the same, but reject an instance with a line that the verdict ignores.
 #[unsafe(no_mangle)]
 pub extern "C" fn tsp_bound(
     alloc: Global,
@@ -117,7 +120,7 @@ pub extern "C" fn tsp_bound(
     status
 }
 
-/// Does what `tsp_bound` does, and returns its result in numbers too.
+/// Like `tsp_bound`, but returns the result in numbers, too.
 #[unsafe(no_mangle)]
 pub extern "C" fn tsp_bound_result(
     alloc: Global,
@@ -139,7 +142,7 @@ pub extern "C" fn tsp_bound_result(
     status
 }
 
-/// Writes what `tsp show` prints of a file.
+/// Writes what `tsp show` prints for a file.
 #[unsafe(no_mangle)]
 pub extern "C" fn tsp_show(alloc: Global, file: &[u8], out: &mut [u8], written: &mut usize) -> u32
     ensures { PlacesText (ShowsText file.now) out.old out.new written.new result }
@@ -150,7 +153,7 @@ pub extern "C" fn tsp_show(alloc: Global, file: &[u8], out: &mut [u8], written: 
     status
 }
 
-/// Writes a file anew: by 0 in its own layout, by 1 to 9 in that of `Layout::ALL`.
+/// Writes a file in its normal form: 0 keeps its layout, 1 to 9 are those of `Layout::ALL`.
 #[unsafe(no_mangle)]
 pub extern "C" fn tsp_convert(
     alloc: Global,
@@ -167,9 +170,33 @@ pub extern "C" fn tsp_convert(
     status
 }
 
+/// Reads a solution in any form, and writes it as `tsp solution` does. `form` is 0 to detect it, or
+/// 1 to 10 for one of `Form`. `first` is 0 to go by the form and the numbers, 1 if nodes count from
+/// 0, 2 if they count from 1. `depot` is a node, or 0 for the instance's depot. An empty `instance`
+/// means that there is none.
+#[unsafe(no_mangle)]
+pub extern "C" fn tsp_solution(
+    alloc: Global,
+    solution: &[u8],
+    instance: &[u8],
+    form: u32,
+    first: u32,
+    depot: u32,
+    out: &mut [u8],
+    written: &mut usize,
+) -> u32
+    ensures { PlacesText (SolvesBy form first depot solution.now instance.now) out.old out.new written.new result }
+{
+    let numbers = HintNumbers { form, first, depot };
+    let answer = solution_by(alloc, solution, instance, numbers);
+    let status = answer.place(out, written);
+    drop(answer);
+    status
+}
+
 /// Explains the result of a call on texts: 0 `tsp_show`, 1 `tsp_convert`, 2 `tsp_check`, 3
-/// `tsp_bound`. `number` is the layout or the kind of certificate of the call. `names` has what the
-/// user calls the texts, one behind the other, and a byte 0 between them.
+/// `tsp_bound`. `number` is the layout or the kind of certificate of the call. `names` contains the
+/// user's names for the texts, separated by bytes 0.
 #[unsafe(no_mangle)]
 pub extern "C" fn tsp_explain(
     alloc: Global,
@@ -245,8 +272,7 @@ pub extern "C" fn tsp_lengths(alloc: Global, instance: &[u8], nodes: &[u32], out
     fill_lengths(alloc, instance, nodes, out).number()
 }
 
-/// Opens a handle on the instance that a text is. What the handle was open on before is freed
-/// first.
+/// Opens a handle on the instance in a text. Frees what the handle was open on before.
 #[unsafe(no_mangle)]
 pub extern "C" fn tsp_open(
     alloc: Global,
@@ -267,8 +293,8 @@ pub extern "C" fn tsp_close(alloc: Global, handle: &mut Handle)
     close(alloc, handle);
 }
 
-/// Binds a certificate to the instance of a handle, in the place of the one before: by 1
-/// potentials, by 2 branches.
+/// Binds a certificate (1 for potentials, 2 for branches) to the instance of a handle, replacing an
+/// earlier one.
 #[unsafe(no_mangle)]
 pub extern "C" fn tsp_bind(
     alloc: Global,
@@ -283,8 +309,8 @@ pub extern "C" fn tsp_bind(
     bind_text(alloc, handle, certificate, by, call_result).number()
 }
 
-/// Judges a solution of the instance of a handle, as `tsp_check` does, with the certificate that is
-/// bound to it, if one is.
+/// Judges a solution of a handle's instance, as `tsp_check` does, with the bound certificate, if
+/// any.
 #[unsafe(no_mangle)]
 pub extern "C" fn tsp_instance_check(
     alloc: Global,
@@ -377,7 +403,7 @@ pub extern "C" fn tsp_instance_lengths(
     lengths_held(alloc, handle, nodes, out).number()
 }
 
-/// The distance of two points, whose coordinates are counts of 10^-9; -1 if there is none. The
+/// The distance between two points, whose coordinates are counts of 10^-9; -1 if there is none. The
 /// kinds are 1 EUC_2D, 2 CEIL_2D, 3 MAN_2D, 4 MAX_2D, 5 ATT, 6 EUC_3D, 7 MAN_3D, 8 MAX_3D.
 #[unsafe(no_mangle)]
 pub extern "C" fn tsp_distance(

@@ -1,6 +1,6 @@
-//! Fills in costs of pairs of nodes and rows of the matrix, of a text or of an open instance:
-//! `tsp_weights`, `tsp_matrix`, and the same on a handle. `put`, which fills in one number, is for
-//! `point_calls.rt` too.
+//! The C calls `tsp_weights` and `tsp_matrix`, and the same on a handle: they fill in costs of
+//! pairs and rows of the matrix. `lib.rt` and `handle_calls.rt` export them, and
+//! `specs/NumberCalls.antt` pins the numbers.
 
 ghost use Rattle.std.specs.List.{All};
 ghost use Rattle.std.specs.Prelude.{◌+◌, ◌≤◌, ◌*◌, ◌↔◌, IsTrue, length, ◌≡◌, ◌<◌, ℕ, ℤ, List};
@@ -13,7 +13,7 @@ use crate::text_instance::instance_of;
 use std::alloc::Global;
 use tsp_cost::{Costs, Instance};
 
-/// Fills in the costs of pairs of nodes of the instance of a text; the status.
+/// Fills in the costs of pairs of nodes of a text's instance, and returns the status.
 pub(crate) fn fill_weights(alloc: Global, text: &[u8], pairs: &[u32], out: &mut [i64]) -> CallEnd
     ensures { FillsWeights text.now pairs.now out.old out.new result }
 {
@@ -27,7 +27,7 @@ pub(crate) fn fill_weights(alloc: Global, text: &[u8], pairs: &[u32], out: &mut 
     }
 }
 
-/// Fills in the costs of pairs of nodes of an instance; the status.
+/// Fills in the costs of pairs of nodes of an instance, and returns the status.
 pub(crate) fn weights_of(instance: &Instance, pairs: &[u32], out: &mut [i64]) -> CallEnd
     ensures { EndsWeights instance.now pairs.now out.old out.new result }
 {
@@ -66,7 +66,7 @@ fn put_weights(instance: &Instance, pairs: &[u32], out: &mut [i64])
     }
 }
 
-/// Fills in rows of the matrix of the instance of a text; the status.
+/// Fills in rows of the cost matrix of a text's instance, and returns the status.
 pub(crate) fn fill_matrix(alloc: Global, text: &[u8], first_row: u32, out: &mut [i64]) -> CallEnd
     ensures { FillsMatrix text.now first_row out.old out.new result }
 {
@@ -80,7 +80,7 @@ pub(crate) fn fill_matrix(alloc: Global, text: &[u8], first_row: u32, out: &mut 
     }
 }
 
-/// Fills in rows of the matrix of an instance; the status.
+/// Fills in rows of the cost matrix of an instance, and returns the status.
 pub(crate) fn rows_of(instance: &Instance, first_row: u32, out: &mut [i64]) -> CallEnd
     ensures { EndsMatrix instance.now first_row out.old out.new result }
 {
@@ -113,7 +113,7 @@ fn put_rows(instance: &Instance, first_row: u32, rows: usize, out: &mut [i64])
 
 // ---- puts a number into a caller's buffer
 
-/// Puts a number to a place of a buffer, of which the places before it are filled.
+/// Puts a number into a place of a buffer whose earlier places are filled.
 #[inline(always)]
 pub(crate) fn put(out: &mut [i64], place: usize, number: i64)
     requires { place < length out.old }

@@ -1,6 +1,6 @@
-//! Show, convert, check and bound, on texts in memory. A number picks the certificate or the
-//! layout, as the enums of `bindings/c/tsp.h` say; another number is refused. `explain.rt` and
-//! `handle_calls.rt` read the numbers by the functions here (`certificate_of` and the like).
+//! The C calls that show, convert, check and bound texts in memory. A number picks the certificate
+//! or the layout, as in the enums of `bindings/c/tsp.h`; any other number is refused. `lib.rt`
+//! exports the calls, and `specs/Texts.antt` pins what each returns.
 
 ghost use Rattle.std.specs.Prelude.{◌≡◌, ◌≤◌, MatchOption, None, Some};
 ghost use Rattle.tsp_io.specs.states.Watched.{watched};
@@ -18,16 +18,16 @@ use tsp_judge::{
     run_bound, show_file, verdicts_mean_reports,
 };
 
-/// What a check asks for besides the verdict. `flags` is a sum: 1 for a claimed length, 2 if a line
-/// of the instance that isn't judged is a reason.
+/// What a check asks for, apart from the verdict. `flags` is a sum: 1 for a claimed length, 2 if a
+/// line that the verdict ignores is a reason.
 #[derive(Clone, Copy)]
 pub(crate) struct Claim {
     pub(crate) claimed: i64,
     pub(crate) flags: u32,
 }
 
-/// The check by 0 alone, by 1 with potentials, by 2 with branches, and with what else it asks for;
-/// with its status, and in numbers.
+/// Checks a solution: 0 without a certificate, 1 with potentials, 2 with branches, and with
+/// whatever else is asked for. Returns the text and the status, and the result in numbers.
 pub(crate) fn check_by(
     alloc: Global,
     instance: &[u8],
@@ -53,8 +53,8 @@ pub(crate) fn check_by(
     checked(alloc, instance, solution, by, certificate, claim, strict)
 }
 
-/// The bound by 1 with potentials, by 2 with branches, and by 3 and 4 with lines that aren't judged
-/// as a reason too; with its status, and in numbers.
+/// Computes a bound: 1 with potentials, 2 with branches; 3 and 4 are the same with `--strict`.
+/// Returns the text and the status, and the result in numbers.
 pub(crate) fn bound_by(
     alloc: Global,
     instance: &[u8],
@@ -70,7 +70,8 @@ pub(crate) fn bound_by(
     }
 }
 
-/// What a number asks of a bound: the certificate, and whether lines that aren't judged are a reason.
+/// What a number asks of a bound: the certificate, and whether a line that the verdict ignores is a
+/// reason.
 pub(crate) fn bound_asked(number: u32) -> Option<(CertificateKind, bool)>
     ensures { result ≡ nth number bounds_asked }
 {
@@ -94,7 +95,7 @@ pub(crate) fn certificate_of(number: u32) -> Option<CertificateKind>
     }
 }
 
-/// The length that is claimed, if one is.
+/// The claimed length, if there is one.
 pub(crate) fn claim_of(flags: u32, claimed: i64) -> Option<i64>
     ensures { result ≡ claim_of flags claimed }
 {
@@ -105,14 +106,14 @@ pub(crate) fn claim_of(flags: u32, claimed: i64) -> Option<i64>
     }
 }
 
-/// Whether lines that aren't judged are a reason.
+/// Whether a line that the verdict ignores is a reason.
 pub(crate) fn strict_of(flags: u32) -> bool
     ensures { result ≡ strict_of flags }
 {
     flags == 2 || flags == 3
 }
 
-/// A text written anew in the layout with this number, with its status.
+/// A text rewritten in the layout with this number, and the status.
 pub(crate) fn convert_by(alloc: Global, file: &[u8], number: u32) -> Answer
     ensures { ConvertsBy number file.now result.0 result.1 }
 {
@@ -143,7 +144,7 @@ pub(crate) fn layout_of(number: u32) -> Option<Layout>
 
 // ---- the runs of tsp_judge on texts in memory: show, convert, check, bound
 
-/// The text of `show` for a text, with its status.
+/// What `show` prints for a text, and the status.
 pub(crate) fn shown(alloc: Global, file: &[u8]) -> Answer
     ensures { ShowsText file.now result.0 result.1 }
 {
@@ -153,7 +154,7 @@ pub(crate) fn shown(alloc: Global, file: &[u8]) -> Answer
     ended(answer, report)
 }
 
-/// A text written anew, with its status.
+/// A text rewritten, and the status.
 fn converted(alloc: Global, file: &[u8], to: Option<Layout>) -> Answer
     ensures { ConvertsText to file.now result.0 result.1 }
 {
@@ -163,9 +164,8 @@ fn converted(alloc: Global, file: &[u8], to: Option<Layout>) -> Answer
     ended(answer, report)
 }
 
-/// The check of two texts, with the certificate that a third one is, if one is asked for, and
-/// with the length that is claimed, if one is, and with lines that aren't judged as a reason,
-/// if that is asked; with its status, and in numbers.
+/// Checks two texts, with the certificate in a third, a claimed length and `--strict`, if they are
+/// asked for. Returns the text and the status, and the result in numbers.
 fn checked(
     alloc: Global,
     instance: &[u8],
@@ -211,9 +211,8 @@ fn named_reader(
     }
 }
 
-/// The bound of the tours of the instance that a text is, by the certificate that another one is,
-/// and with lines that aren't judged as a reason, if that is asked; with its status, and in
-/// numbers.
+/// Computes a bound for the instance in one text by the certificate in another, with `--strict` if
+/// that is asked for. Returns the text and the status, and the result in numbers.
 fn bounded(
     alloc: Global,
     by: CertificateKind,
@@ -234,7 +233,7 @@ fn bounded(
     (answer, call_result)
 }
 
-/// `true` if a file was shown or converted, since such a run never has the line `no`.
+/// `true` if a file was shown or converted, because such a run never has the line `no`.
 fn done(ended: Result<(), RunError>) -> Result<bool, RunError>
     ensures { result ≡ done ended }
 {

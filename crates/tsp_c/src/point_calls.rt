@@ -1,4 +1,6 @@
-//! The calls for the points of a section and for the lengths of lists of nodes.
+//! The C calls `tsp_points` and `tsp_lengths`, and the same on a handle: they fill in coordinates
+//! and the lengths of lists of nodes. `lib.rt` and `handle_calls.rt` export them, and
+//! `specs/NumberCalls.antt` pins the numbers.
 
 ghost use Rattle.tsp_c.specs.Prelude.{None, Some, length, option_map, slice_index_or, IsTrue, slice_index, origin, nodes_of};
 ghost use Rattle.std.specs.List.{All, count_by, position};
@@ -15,7 +17,7 @@ use tsp_file::{Coords, File};
 use tsp_judge::read_text;
 use tsp_number::{InSpace, Point};
 
-/// Fills in the coordinates of the points of a section of a text; the status.
+/// Fills in the coordinates in a section of a text, and returns the status.
 pub(crate) fn fill_points(alloc: Global, text: &[u8], section: u32, out: &mut [i64]) -> CallEnd
     ensures { FillsPoints text.now section out.old out.new result }
 {
@@ -32,7 +34,7 @@ pub(crate) fn fill_points(alloc: Global, text: &[u8], section: u32, out: &mut [i
     }
 }
 
-/// Fills in the coordinates of the points of a section of a file; the status.
+/// Fills in the coordinates in a section of a file, and returns the status.
 pub(crate) fn points_of_file(file: &File, section: u32, out: &mut [i64]) -> CallEnd
     requires { IsSection section }
     ensures { EndsPoints (section_points section file.now) out.old out.new result }
@@ -81,7 +83,7 @@ fn point_at(points: &Coords, index: usize) -> Point
     }
 }
 
-/// A coordinate of a point: x, y or z by 0, 1 or 2.
+/// A coordinate of a point: x, y or z for 0, 1 or 2.
 fn coordinate(point: Point, axis: usize) -> i64
     ensures { result ≡ coordinate axis point }
 {
@@ -95,7 +97,7 @@ fn coordinate(point: Point, axis: usize) -> i64
 /// How many numbers a call may have.
 const MOST_NUMBERS: usize = 1_000_000;
 
-/// Fills in the lengths of lists of nodes of the instance of a text; the status.
+/// Fills in the lengths of lists of nodes of a text's instance, and returns the status.
 pub(crate) fn fill_lengths(alloc: Global, text: &[u8], nodes: &[u32], out: &mut [i64]) -> CallEnd
     ensures { FillsLengths text.now nodes.now out.old out.new result }
 {
@@ -109,7 +111,7 @@ pub(crate) fn fill_lengths(alloc: Global, text: &[u8], nodes: &[u32], out: &mut 
     }
 }
 
-/// Fills in the lengths of lists of nodes of an instance; the status.
+/// Fills in the lengths of lists of nodes of an instance, and returns the status.
 #[tactic(auto, using(crate::proofs::HandleCalls::lists_counted))]
 pub(crate) fn lengths_of(instance: &Instance, nodes: &[u32], out: &mut [i64]) -> CallEnd
     ensures { EndsLengths instance.now nodes.now out.old out.new result }

@@ -1,6 +1,6 @@
-//! The instance that a text parses to, for calls on a text that fill in numbers:
-//! `src/pair_costs.rt`, `src/point_calls.rt`, and `tsp_count` in `src/lib.rt`. Calls on a handle
-//! don't come here: `Opened` of tsp_judge has read their text.
+//! The instance that a text parses to, for the C calls on a text that fill in numbers
+//! (`pair_costs.rt`, `point_calls.rt`), and the call `tsp_count`. Calls on a handle don't come
+//! here, because their text has been read.
 
 ghost use Rattle.tsp_c.specs.NumberCalls.{FillsCount, FindsInstance};
 
@@ -13,8 +13,7 @@ use tsp_judge::{RunError, read_text};
 ///
 /// # Errors
 ///
-/// `File` with the number 1 if the text parses to no file; `WrongKind` if the file is no
-/// instance.
+/// `File` with the number 1 if the text isn't valid, and `WrongKind` if its file isn't an instance.
 pub(crate) fn instance_of(alloc: Global, text: &[u8]) -> Result<Instance, RunError>
     ensures { FindsInstance text.now result }
 {
@@ -28,7 +27,7 @@ pub(crate) fn instance_of(alloc: Global, text: &[u8]) -> Result<Instance, RunErr
     }
 }
 
-/// Fills in how many nodes the instance of a text has; the status.
+/// Fills in how many nodes a text's instance has, and returns the status.
 pub(crate) fn fill_count(alloc: Global, text: &[u8], count: &mut u32) -> CallEnd
     ensures { FillsCount text.now count.old count.new result }
 {

@@ -1,4 +1,4 @@
--- The files of lemmas of this crate. No other crate imports them.
+-- Lemmas on command lines (Subcommands) and on opened files (Openings). No other crate imports them.
 mod Prelude
 mod Subcommands
 mod Openings

@@ -1,4 +1,4 @@
--- Files that are opened for a task, and explanations of single solutions.
+-- For src/running.rt: files that are opened for a task, and explanations of single solutions.
 use Rattle.tsp_cli.proofs.Prelude.{Option, None, Some, ℕ, zero, suc, Bool, true, false, List, [], ◌++◌, refl, sym, subst, ◌∙◌, Appends-nil, Appends-trans, Result, Ok, Err}
 use Rattle.tsp_report.specs.Tasks.{IsMapped, IsMappedCertificate, IsMappedComparison}
 use Rattle.tsp_report.specs.declared.task.CertificateKind.{CertificateKind}
@@ -52,7 +52,7 @@ pub tells_more : (explained : Bool) (first next last : Option (List ℕ)) → Ma
 tells_more false first next last some more = more ∙ some
 tells_more true first next last some more = (some.0 ++ more.0, Appends-trans first next last some.0 more.0 some.1 more.1)
 
--- what telling of one line may do, where its bytes are these
+-- what telling of one line may do, if its bytes are these
 abbrev pub TellsLine : {E : Type 0} → Bool → (E → Option (List ℕ)) → ℕ → E → E → Type 0
 TellsLine explained contents index old new = MayTell explained (contents old) (contents new)
 

@@ -1,4 +1,5 @@
--- Which values the words of each command give, which words are refused, and that one line has one meaning.
+-- For src/grammar.rt: which values the words of each command give, which words are refused, and that one line has one
+-- meaning.
 use Rattle.tsp_cli.proofs.Prelude.{◌≡◌, false, IfOk, Result, Ok, Err, ◌⊎◌, ◌∙◌, inl, inr, List, sym, subst, ap₂, unwrap_or, Bool, true, [], ◌∷◌, Option, Some, None, refl, ap, codes, fold, is_some, option_map, ℕ, suc, zero, ◌<◌, ◌/◌, ◌%◌, ◌==◌, ◌++◌, rules, arith, Box, ◌&&◌, not, decimal, if◌then◌else◌, walk_stopped, subcommand_of, Row, App, HasKind, IsAmong, Text, fault_of, kind_of}
 use Rattle.std.proofs.Math.Nat.{mod-lt}
 use Rattle.std.proofs.lemmas.Bool.{true≢false}
@@ -138,7 +139,7 @@ module _ (s : Shape) (names : Names) (w : Walk) (word : Text) (enabled : s.disab
   unfolding walked
   step_goes clean = word_goes w.is_trailing (first_none _ _ clean)
 
--- where the walk has no fault, the subcommand that it stops at isn't `help`
+-- if the walk has no fault, the subcommand that it stops at isn't `help`
 stops : (s : Shape) (names : Names) → s.disable_help_subcommand ≡ false → (words : List Text) (w : Walk) (p : Text × List Text)
     → walk_fault s names (record w { stopped = None }) words ≡ []
     → (fold (walked s.rules names) (record w { stopped = None }) words).stopped ≡ Some p

@@ -1,4 +1,4 @@
--- Whole command lines, on which the definitions are evaluated.
+-- Whole command lines, on which the definitions are evaluated, for src/examples.rt alone.
 use Rattle.std.specs.Prelude.{◌≡◌, List, [], Option, None, Some}
 use Rattle.std.specs.Option.{option_map, option_map_or}
 use Rattle.clap.specs.Words.{Text, first_of, fault_of, subcommand_of}

@@ -1,5 +1,6 @@
 -- The commands, arguments and options of the program `tsp`, and which verb and values the words of a command line give,
--- or why they are refused.
+-- or why they are refused. src/grammar.rt is proved to describe these commands to `clap`, which decides what is
+-- refused. In no circle of docs/trust.md.
 use Rattle.std.specs.Prelude.{◌≡◌, Bool, true, false, Some, codes, ◌≢◌, List, [], Option, None, Result, Ok, Err, ⊤, map, option_map, unwrap_or, String, IsTrue, ◌↔◌}
 use Rattle.std.specs.String.{string_bytes}
 use Rattle.clap.specs.Kinds.{IsAmong}
@@ -71,9 +72,13 @@ check_files = with_rule (with_rule (new_app (codes "check")) (path (codes "F")))
 abbrev pub check_certified : App
 check_certified = with_rule (with_rule check_files of_potentials) of_branches
 
--- check F T [--potentials P] [--branches B] [--length N] [--strict] [--explain]
+-- check F T [--potentials P] [--branches B] [--length N] [--form NAME]
+abbrev pub check_claimed : App
+check_claimed = with_rule (with_rule check_certified (option (codes "N") (codes "length"))) (option (codes "NAME") (codes "form"))
+
+-- check F T [--potentials P] [--branches B] [--length N] [--form NAME] [--strict] [--explain]
 abbrev pub check : App
-check = with_rule (with_rule (with_rule check_certified (option (codes "N") (codes "length"))) strict) explain
+check = with_rule (with_rule check_claimed strict) explain
 
 -- compare F S..
 abbrev pub compare_files : App
@@ -153,8 +158,8 @@ text_in = option_map string_bytes
 abbrev pub values_of : Text → List Row → List Text
 values_of id rows = unwrap_or (all_of id rows) []
 
--- the job has the values of F, T, L, P, B, N, NAME, 0|1 and D, where they were found, and all of S; it is strict where U
--- was given, lists the forms where A was, and is explained where E was
+-- the job has the values of F, T, L, P, B, N, NAME, 0|1 and D, if they were found, and all of S; it is strict if U
+-- was given, lists the forms if A was, and is explained if E was
 abbrev pub HasValues : List Row → Job → Type 0
 HasValues rows job = (text_in job.file ≡ first_of (codes "F") rows)
     × (text_in job.solution ≡ first_of (codes "T") rows)
@@ -171,7 +176,7 @@ abbrev pub IsJobOf : Option (Text × List Row) → Job → Type 0
 IsJobOf (Some (name, rows)) job = (option_map word_of job.verb ≡ Some name) × HasValues rows job
 IsJobOf None job = (job.verb ≡ None) × HasValues [] job
 
--- the fault is out of memory exactly where clap's kind of error is
+-- the fault is out of memory exactly if clap's kind of error is
 abbrev pub IsFaultOf : ErrorKind → JobFault → Type 0
 IsFaultOf kind (Refused refusal) = (kind_of refusal ≡ kind) × (kind ≢ kinds.OutOfMemory)
 IsFaultOf kind OutOfMemory = kind ≡ kinds.OutOfMemory

@@ -1,5 +1,5 @@
--- A run of the program `tsp`, from the words of its command line to its exit status, and a run of `tsp compare` from
--- its paths.
+-- A run of the program `tsp`, from the words of its command line to its exit status. `run` in src/running.rt promises
+-- `EndsProgram`. In no circle of docs/trust.md: the contracts of tsp_judge say what `yes` means.
 use Rattle.std.specs.Prelude.{◌≡◌, ℕ, false, List, [], Option, Some, Result, map, slice_index_or, ◌≢◌, ◌⊎◌, ◌||◌, Bool, ◌∷◌, codes, drop, Ok, Err, OnOk, true}
 use Rattle.std.specs.Str.{bytes_eq}
 use Rattle.std.specs.String.{string_bytes}
@@ -12,7 +12,9 @@ use Rattle.tsp_io.specs.states.Watched.{watched, has_failed}
 use Rattle.tsp_report.specs.Tasks.{IsMappedComparison, IsMapped}
 use Rattle.tsp_report.specs.declared.task.Comparison.{Comparison}
 use Rattle.tsp_report.specs.declared.task.FileTask.{FileTask}
+use Rattle.tsp_report.specs.declared.task.Task.{Task}
 use Rattle.tsp_report.specs.declared.task.Task.TheVariants as tasks
+use Rattle.tsp_solution.specs.declared.run.SolutionRunFault.{SolutionRunFault}
 use Rattle.tsp_judge.specs.TaskRun.{AreComparedOn, IsCompared, AreReadOn, IsDone}
 use Rattle.tsp_judge.specs.declared.Watched.{Watched}
 use Rattle.tsp_judge.specs.declared.compared.Compared.{Compared}
@@ -24,7 +26,9 @@ use Rattle.clap.specs.declared.error.kind.ErrorKind.TheVariants as kinds
 use Rattle.tsp_cli.specs.Grammar.{GivesJob, IsOtherRefusal}
 use Rattle.tsp_cli.specs.RunEnd.{status_of_run_end, TellsAll, Prints, PrintsSome, version_text}
 use Rattle.tsp_cli.specs.Tasks.{IsInputPathAt, GivesTask}
-use Rattle.tsp_cli.specs.Solutions.{GivesSolution, IsSolved}
+use Rattle.tsp_cli.specs.FormCheck.{GivesFormCheck, IsCheckedByForm, LacksTexts, asks_form}
+use Rattle.tsp_cli.specs.Solutions.{GivesForm, GivesSolution, IsSolved}
+use Rattle.tsp_cli.specs.declared.form_check.FormCheck.{FormCheck}
 use Rattle.tsp_cli.specs.declared.job.TaskFault.{TaskFault}
 use Rattle.tsp_cli.specs.declared.job.Verb.TheVariants as verbs
 use Rattle.tsp_cli.specs.declared.ends.RunEnd.{RunEnd}
@@ -51,8 +55,8 @@ IsOpenedAt opens paths index file = (place : InputPath) × IsInputPathAt (slice_
 abbrev pub AreOpened : {F : Type 0} → (InputPath → F → Type 0) → Comparison InputPath → Comparison (Watched F) → Type 0
 AreOpened opens = IsMappedComparison (IsFresh opens)
 
--- The instance is opened, then the certificate, and after them each solution, when it is to be read. Each reader has
--- failed where its last read has.
+-- The instance is opened, then the certificate, and then each solution just before it is read. Each reader has failed
+-- if its last read failed.
 abbrev pub IsComparedAs : {F : Type 0} → (F → Option (List ℕ)) → (F → List ℕ → Result ℕ Error → List ℕ → F → Type 0)
     → (InputPath → F → Type 0) → Comparison InputPath → Sink → Result Compared RunFault → Type 0
 IsComparedAs {F = F} remaining gives opens comparison sink answer = (old new : Comparison (Watched F))
@@ -66,27 +70,50 @@ IsComparedAs {F = F} remaining gives opens comparison sink answer = (old new : C
 abbrev pub AreFresh : {F : Type 0} → (InputPath → F → Type 0) → FileTask InputPath → FileTask (Watched F) → Type 0
 AreFresh opens = IsMapped (IsFresh opens)
 
--- the task is done on its opened files; each reader has failed where its last read has
+-- the task is done on its opened files; each reader has failed if its last read has
 abbrev pub IsDoneAs : {F : Type 0} → (F → Option (List ℕ)) → (F → List ℕ → Result ℕ Error → List ℕ → F → Type 0)
     → (InputPath → F → Type 0) → FileTask InputPath → Sink → Result Outcome RunFault → Type 0
 IsDoneAs {F = F} remaining gives opens task sink answer = (old new : FileTask (Watched F)) × AreFresh opens task old
     × IsDone remaining old new sink answer × AreReadOn gives old new
 
--- the job asks for no task, and for no solution that is to be written anew
+-- the job asks for no task, names a form that doesn't exist, or asks for no solution to rewrite
 abbrev pub GivesNone : Job → TaskFault → Type 0
 GivesNone job fault = ((job.verb ≢ Some verbs.Solution) × GivesTask job (Err fault))
+    ⊎ ((job.verb ≢ Some verbs.Solution) × ((task : Task InputPath) × GivesTask job (Ok task)) × GivesForm job.form (Err fault))
     ⊎ ((job.verb ≡ Some verbs.Solution) × GivesSolution job (Err fault))
 
+-- the files of a task ended so: the task was done on them, or it is a check of a solution in some form
+abbrev pub EndsTask : {F : Type 0} → (F → Option (List ℕ)) → (F → List ℕ → Result ℕ Error → List ℕ → F → Type 0)
+    → (InputPath → F → Type 0) → Job → Sink → Result Outcome RunFault → Type 0
+EndsTask remaining gives opens job sink answer =
+    ((task : FileTask InputPath) × GivesTask job (Ok (tasks.Files task)) × (asks_form job task ≡ false)
+    × IsDoneAs remaining gives opens task sink answer)
+    ⊎ ((check : FormCheck) × GivesFormCheck job check × IsCheckedByForm remaining gives (IsFresh opens) check sink answer)
+
+-- there is no text that a check of a solution in some form could judge, and nothing is written
+abbrev pub StopsByForm : {F : Type 0} → (F → Option (List ℕ)) → (F → List ℕ → Result ℕ Error → List ℕ → F → Type 0)
+    → (InputPath → F → Type 0) → Job → Sink → Result (Unit {0}) SolutionRunFault → Type 0
+StopsByForm remaining gives opens job sink answer = (check : FormCheck) × GivesFormCheck job check
+    × ((fault : SolutionRunFault) × (answer ≡ Err fault) × LacksTexts remaining gives (IsFresh opens) check fault) × IsUnwritten sink
+
+-- how a run with a check of a solution in some form ends: the text of its solution was checked, or there is none
+abbrev pub EndsFormCheck : {F : Type 0} → (F → Option (List ℕ)) → (F → List ℕ → Result ℕ Error → List ℕ → F → Type 0)
+    → (InputPath → F → Type 0) → FormCheck → Sink → RunEnd → Type 0
+EndsFormCheck remaining gives opens check sink (Ended answer) = IsCheckedByForm remaining gives (IsFresh opens) check sink answer
+EndsFormCheck remaining gives opens check sink (Solved answer) = ((fault : SolutionRunFault) × (answer ≡ Err fault)
+    × LacksTexts remaining gives (IsFresh opens) check fault) × IsUnwritten sink
+EndsFormCheck remaining gives opens check sink other = ⊥
+
 -- How a run with this job ends: it asks for no task, and then nothing is written; or the task was done on its opened
--- files; or the solutions were compared; or a solution was written anew.
+-- files; or the solutions were compared; or a solution was rewritten, or had a fault before it could be checked.
 abbrev pub EndsWith : {F : Type 0} → (F → Option (List ℕ)) → (F → List ℕ → Result ℕ Error → List ℕ → F → Type 0)
     → (InputPath → F → Type 0) → Job → Sink → RunEnd → Type 0
 EndsWith remaining gives opens job sink (NoJob fault) = ⊥
 EndsWith remaining gives opens job sink (Printed printed) = ⊥
 EndsWith remaining gives opens job sink (NoTask fault) = GivesNone job fault × IsUnwritten sink
-EndsWith remaining gives opens job sink (Solved answer) = IsSolved job sink answer
-EndsWith remaining gives opens job sink (Ended answer) = (task : FileTask InputPath) × GivesTask job (Ok (tasks.Files task))
-    × IsDoneAs remaining gives opens task sink answer
+EndsWith remaining gives opens job sink (Solved answer) = IsSolved remaining gives (IsFresh opens) job sink answer
+    ⊎ StopsByForm remaining gives opens job sink answer
+EndsWith remaining gives opens job sink (Ended answer) = EndsTask remaining gives opens job sink answer
 EndsWith remaining gives opens job sink (run_ends.Compared answer) = (comparison : Comparison InputPath) × GivesTask job
     (Ok (tasks.Compare comparison))
     × IsComparedAs remaining gives opens comparison sink answer
@@ -111,7 +138,7 @@ abbrev pub PrintsAsked : Text → List Text → JobFault → Sink → Result (Un
 PrintsAsked build words fault sink printed = (AsksVersion fault × Prints sink (version_text build) printed)
     ⊎ (AsksHelp words fault × PrintsSome sink printed)
 
--- the end where clap refuses the words: the version or help is printed, or nothing is written
+-- the end if clap refuses the words: the version or help is printed, or nothing is written
 abbrev pub EndsRefused : Text → List Text → Sink → Refusal → RunEnd → Type 0
 EndsRefused build words sink refusal (NoJob fault) = (fault ≡ Refused refusal) × (AsksVersion (Refused refusal) → ⊥)
     × (AsksHelp words (Refused refusal) → ⊥) × IsUnwritten sink
@@ -119,7 +146,7 @@ EndsRefused build words sink refusal (Printed printed) = PrintsAsked build words
 EndsRefused build words sink refusal other = ⊥
 
 -- How a run with these words ends; the first is the program's own name. Words that ask for no job are refused, and
--- nothing is written; or the version or help is printed. Other words end with their job, which is explained where it
+-- nothing is written; or the version or help is printed. Other words end with their job, which is explained if it
 -- says so, and on a terminal.
 abbrev pub EndsProgram : {F : Type 0} → (F → Option (List ℕ)) → (F → List ℕ → Result ℕ Error → List ℕ → F → Type 0)
     → (InputPath → F → Type 0) → Bool → Text → List Text → Sink → Bool → RunEnd → Type 0
@@ -142,7 +169,7 @@ EndsProgram remaining gives opens on_terminal build words sink explained (Solved
     × GivesJob (drop 1 words) (Ok job)
     × EndsWith remaining gives opens job sink (Solved answer) × (explained ≡ (job.explain || on_terminal))
 
--- the end where the words can't be read: out of memory, or a word is no text, which is reported as refused words are
+-- the end if the words can't be read: memory ran out, or a word isn't text, which is reported like refused words
 abbrev pub HasNoWords : ErrorKind → Bool → RunEnd → Type 0
 HasNoWords kind explained (NoJob fault) = (kind ≡ io_kinds.OutOfMemory → fault ≡ OutOfMemory)
     × (kind ≢ io_kinds.OutOfMemory → IsOtherRefusal fault) × (explained ≡ false)
@@ -152,26 +179,26 @@ HasNoWords kind explained (Ended answer) = ⊥
 HasNoWords kind explained (run_ends.Compared answer) = ⊥
 HasNoWords kind explained (Solved answer) = ⊥
 
--- the exit status is that of the run's end; its line is written, if writing succeeded, and an explanation where one is
+-- the exit status is that of the run's end; its line is written, if writing succeeded, and an explanation if one is
 -- asked for
 abbrev pub IsReported : Bool → RunEnd → Option (List ℕ) → Option (List ℕ) → ℕ × Result (Unit {0}) Error → Type 0
 IsReported explained run_end old new answer = (answer.0 ≡ status_of_run_end run_end) × OnOk answer.1 (TellsAll explained run_end old new)
 
--- the run reports some end of a job of which Q holds
+-- the run reports some end of a job for which Q holds
 abbrev pub RunsJob : (RunEnd → Type 0) → Bool → Option (List ℕ) → Option (List ℕ) → ℕ × Result (Unit {0}) Error → Type 0
 RunsJob Q explained old new answer = (run_end : RunEnd) × Q run_end × IsReported explained run_end old new answer
 
--- the same of a task on files
+-- the same for a task on files
 abbrev pub RunsFileTask : (Result Outcome RunFault → Type 0) → Bool → Option (List ℕ) → Option (List ℕ)
     → ℕ × Result (Unit {0}) Error → Type 0
 RunsFileTask Q explained old new answer = (done : Result Outcome RunFault) × Q done × IsReported explained (Ended done) old new answer
 
--- the same of a comparison
+-- the same for a comparison
 abbrev pub RunsComparison : (Result Compared RunFault → Type 0) → Bool → Option (List ℕ) → Option (List ℕ)
     → ℕ × Result (Unit {0}) Error → Type 0
 RunsComparison Q explained old new answer = (found : Result Compared RunFault) × Q found
     × IsReported explained (run_ends.Compared found) old new answer
 
--- the same of the whole program
+-- the same for the whole program
 abbrev pub Runs : (Bool → RunEnd → Type 0) → Option (List ℕ) → Option (List ℕ) → ℕ × Result (Unit {0}) Error → Type 0
 Runs Q old new answer = (explained : Bool) × (run_end : RunEnd) × Q explained run_end × IsReported explained run_end old new answer

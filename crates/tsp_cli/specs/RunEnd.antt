@@ -1,4 +1,5 @@
--- How a run ends: what is printed for help and version, the line on standard error, and the exit status.
+-- How a run ends: what is printed for help and version, the line on standard error, and the exit status. src/ends.rt
+-- promises it, and users' scripts rely on it. In no circle of docs/trust.md.
 use Rattle.std.specs.Io.KnownBytes.{Appends, Keeps}
 use Rattle.std.specs.List.{list_all}
 use Rattle.std.specs.Prelude.{◌≡◌, ◌⊎◌, ◌++◌, List, ℕ, Result, Err, Some, Option, codes, Bool, true, false, [], ◌∷◌, None, Ok, IfSome, not, ◌==◌}
@@ -29,7 +30,7 @@ version_text build = codes "tsp 1.1.0 (" ++ build ++ codes ")\n"
 abbrev pub version_written : Version → Option (List ℕ)
 version_written version = Some (version_text version.build.now)
 
--- the result of printing this text; where there is no memory for it, nothing is written
+-- the result of printing this text; if there is no memory for it, nothing is written
 abbrev pub Prints : Sink → List ℕ → Result (Unit {0}) WriteFault → Type 0
 Prints sink text printed = Writes sink text printed ⊎ ((printed ≡ Err OutOfMemory) × IsUnwritten sink)
 
@@ -54,8 +55,8 @@ status_of_solved (Err (solution_ends.File file (solution_faults.File fault))) = 
 status_of_solved (Err (solution_ends.File file solution_faults.OutOfMemory)) = 3
 status_of_solved (Err (solution_ends.Write fault)) = status_of (Err (Write fault))
 
--- words: 3 out of memory, 4 refused; a version or help: 0 printed, else the status of the fault; a task: the status of
--- its result; a comparison: the largest status of its solutions
+-- words: 3 out of memory, 4 refused; a version or help: 0 printed, otherwise the status of the fault; a task: the
+-- status of its result; a comparison: the largest status of its solutions
 abbrev pub status_of_run_end : RunEnd → ℕ
 status_of_run_end (NoJob (job_faults.Refused refusal)) = 4
 status_of_run_end (NoJob job_faults.OutOfMemory) = 3
@@ -68,7 +69,7 @@ status_of_run_end (Compared (Ok compared)) = compared.status
 status_of_run_end (Compared (Err fault)) = status_of (Err fault)
 status_of_run_end (Solved answer) = status_of_solved answer
 
--- the line of a run's end; a result has none, nor has a printed text, since those are on standard output
+-- the line of a run's end; a result has none, nor has a printed text, because those are on standard output
 abbrev pub IsLineOf : RunEnd → Option ErrorLine → Type 0
 IsLineOf (NoJob (job_faults.Refused refusal)) (Some (error_lines.Refusal reported)) = reported.now ≡ refusal
 IsLineOf (NoJob job_faults.OutOfMemory) line = line ≡ Some error_lines.OutOfMemory
@@ -112,7 +113,7 @@ is_one_line text = list_all (λ b. not (b == 10)) text
 abbrev pub WritesLine : Option (List ℕ) → Option (List ℕ) → Type 0
 WritesLine old new = (text : List ℕ) × (is_one_line text ≡ true) × Appends old new (text ++ 10 ∷ [])
 
--- the line of the run's end is written, where it has one
+-- the line of the run's end is written, if it has one
 abbrev pub IsWritten : Option ErrorLine → Option (List ℕ) → Option (List ℕ) → Type 0
 IsWritten None old new = Keeps old new
 IsWritten (Some line) old new = IfSome (line_text line) (Appends old new)
@@ -121,7 +122,7 @@ IsWritten (Some line) old new = IfSome (line_text line) (Appends old new)
 abbrev pub Tells : RunEnd → Option (List ℕ) → Option (List ℕ) → Type 0
 Tells run_end old new = (line : Option ErrorLine) × IsLineOf run_end line × IsWritten line old new
 
--- the same, with an explanation after the line where one is asked for
+-- the same, with an explanation after the line if one is asked for
 abbrev pub TellsAfter : Bool → RunEnd → Option (List ℕ) → Option (List ℕ) → Type 0
 TellsAfter false run_end old new = Tells run_end old new
 TellsAfter true run_end old new = (between : Option (List ℕ)) × (text : List ℕ) × Tells run_end old between
@@ -133,7 +134,7 @@ TellsAll explained (Compared answer) old new = (first : Option (List ℕ)) × Ma
     × TellsAfter explained (Compared answer) first new
 TellsAll explained run_end old new = TellsAfter explained run_end old new
 
--- ---- the line on standard error for a person at a terminal that is read
+-- ---- the line on standard error for a user whose terminal is read
 
 -- its bytes
 abbrev pub waiting_line : List ℕ

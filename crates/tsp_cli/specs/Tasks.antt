@@ -1,4 +1,5 @@
--- Which task a job asks for, on which files, or why it is none.
+-- Which task a job asks for, on which files, or why it asks for none. src/job.rt promises it. In no circle of
+-- docs/trust.md.
 use Rattle.std.specs.Prelude.{◌≡◌, ◌≢◌, ◌⊎◌, ◌≤◌, ◌+◌, ℕ, Bool, true, false, ◌==◌, List, [], Option, None, Some, Result, Ok, Err, String, codes, map, ℤ, pos, negsuc}
 use Rattle.std.specs.List.{count_by, list_any, sum_by}
 use Rattle.std.specs.Str.{bytes_eq}
@@ -25,7 +26,7 @@ use Rattle.tsp_report.specs.declared.task.Task.TheVariants as tasks
 use Rattle.tsp_cli.specs.declared.job.TaskFault.{TaskFault}
 use Rattle.tsp_cli.specs.declared.job.TaskFault.TheVariants.{UnknownLayout, MissingPath, TwoCertificates, NoCertificate, NotALength, InputTwice, LineEndInPath, UnknownForm, NotAFirst, NotADepot}
 
--- a path and what it names: standard input for `-`, else the file with this path
+-- a path and what it names: standard input for `-`, otherwise the file with this path
 abbrev pub IsInputPathAt : Text → InputPath → Type 0
 IsInputPathAt path Input = path ≡ codes "-"
 IsInputPathAt path (Path text) = (text.now ≡ path) × (path ≢ codes "-")
@@ -34,7 +35,7 @@ IsInputPathAt path (Path text) = (text.now ≡ path) × (path ≢ codes "-")
 abbrev pub IsInputPathOf : Option Text → InputPath → Type 0
 IsInputPathOf path place = (text : Text) × (path ≡ Some text) × IsInputPathAt text place
 
--- the text is that of this layout; no layout where there is no text
+-- the text is that of this layout; no layout if there is no text
 abbrev pub IsLayout : {Z : Type 0} → Option (String Z) → Option Layout → Type 0
 IsLayout word None = word ≡ None
 IsLayout word (Some layout) = text_in word ≡ Some (layout_word layout)
@@ -51,7 +52,7 @@ least_length = negsuc 9223372036854775807
 abbrev pub most_length : ℤ
 most_length = pos 9223372036854775807
 
--- the text is a number word for this length; no length is claimed where there is no text
+-- the text is a number word for this length; no length is claimed if there is no text
 abbrev pub IsClaim : {Z : Type 0} → Option (String Z) → Option ℤ → Type 0
 IsClaim word None = word ≡ None
 IsClaim word (Some claim) = (text : Text) × (text_in word ≡ Some text) × ReadsWhole text least_length most_length (Ok claim)
@@ -84,7 +85,7 @@ abbrev pub GivesLayout : {Z : Type 0} → Option (String Z) → Result (Option L
 GivesLayout word (Ok layout) = IsLayout word layout
 GivesLayout word (Err fault) = (fault ≡ UnknownLayout) × IsNoLayout word
 
--- the length that a word claims, or that it is none
+-- the length that a word claims, or that it isn't a length
 abbrev pub GivesClaim : {Z : Type 0} → Option (String Z) → Result (Option ℤ) TaskFault → Type 0
 GivesClaim word (Ok claimed) = IsClaim word claimed
 GivesClaim word (Err fault) = (fault ≡ NotALength) × IsNoLength word
@@ -95,7 +96,7 @@ GivesCertificate job (Ok None) = NamesNone job
 GivesCertificate job (Ok (Some named)) = IsNamed job named.0 named.1
 GivesCertificate job (Err fault) = (fault ≡ TwoCertificates) × NamesBoth job
 
--- the verb's task, with the files in the order F, T, and P or B; standard input is shown where there is no verb
+-- the verb's task, with the files in the order F, T, and P or B; standard input is shown if there is no verb
 abbrev pub IsFileTask : Job → FileTask InputPath → Type 0
 IsFileTask job (Show Input) = (job.verb ≡ None) ⊎ ((job.verb ≡ Some verbs.Show) × IsInputPathOf (text_in job.file) Input)
 IsFileTask job (Show (Path path)) = (job.verb ≡ Some verbs.Show) × IsInputPathOf (text_in job.file) (Path path)
@@ -115,7 +116,7 @@ abbrev pub any_line_end : {Z : Type 0} → List (String Z) → Bool
 any_line_end paths = list_any (λ path. has_line_end (string_bytes path)) paths
 
 -- The comparison of these solutions, all those of the job in their order, and one at least. No path has a line end,
--- since the line of its solution ends with it.
+-- because the line of its solution ends with it.
 abbrev pub IsComparisonOf : Job → Comparison InputPath → Type 0
 IsComparisonOf job comparison = (job.verb ≡ Some verbs.Compare) × IsInputPathOf (text_in job.file) comparison.instance
     × GivesCertificate job (Ok comparison.certificate) × (comparison.solutions.now ≡ job.solutions.items)
@@ -133,9 +134,9 @@ TakesCertificate job = ((job.verb ≡ Some verbs.Check) × (job.file ≢ None) �
     ⊎ (((job.verb ≡ Some verbs.Compare) × (job.file ≢ None) × (job.solutions.items ≢ []))
     ⊎ ((job.verb ≡ Some verbs.Bound) × (job.file ≢ None)))
 
--- The task, or why there is none; the verb `solution` asks for none of these. Here several of its files may be standard input. Where several faults apply, the
--- first is named: a path that is missing, a word that is no layout, one that is no length, two certificates, none, and a
--- path with a line end.
+-- The task, or why there is none; `solution` isn't the verb of a task. Here, several of its files may be standard
+-- input. If several faults apply, the first is named: a missing path, a word that isn't a layout, one that isn't a
+-- length, two certificates, none, and a path with a line end.
 abbrev pub NamesTask : Job → Result (Task InputPath) TaskFault → Type 0
 NamesTask job (Ok task) = IsTask job task
 NamesTask job (Err MissingPath) = (job.verb ≢ None) × ((job.file ≡ None)
@@ -194,7 +195,7 @@ abbrev pub input : InputPath → ℕ
 input Input = 1
 input (Path path) = 0
 
--- the same of one file, where there is one
+-- the same for one file, if there is one
 abbrev pub input_at : Option (Option Role × InputPath) → ℕ
 input_at None = 0
 input_at (Some file) = input file.1
@@ -220,8 +221,8 @@ abbrev pub inputs_of_task : Task InputPath → ℕ
 inputs_of_task (tasks.Files task) = inputs_of task
 inputs_of_task (tasks.Compare comparison) = inputs_in (files_compared comparison) + inputs_at comparison.solutions.now
 
--- The task, or why there is none, where several faults apply the first; at most one of its files is standard input,
--- since that gives its bytes once. That two are is named last, of a task without another fault.
+-- The task, or why there is none (if several faults apply, the first); at most one of its files is standard input,
+-- because that gives its bytes only once. This fault is named last, if the task has no other.
 abbrev pub GivesTask : Job → Result (Task InputPath) TaskFault → Type 0
 GivesTask job (Ok task) = IsTask job task × (inputs_of_task task ≤ 1)
 GivesTask job (Err InputTwice) = (task : Task InputPath) × IsTask job task × (2 ≤ inputs_of_task task)

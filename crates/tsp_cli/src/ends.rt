@@ -1,4 +1,6 @@
-//! The ends of a run of the program, with the exit status and the line on standard error of each.
+//! How a run of the program can end, with the exit status and the line on standard error for each.
+//! `running.rt` comes here at the end of every run. `specs/RunEnd.antt` pins the statuses and
+//! lines, and users' scripts rely on them.
 
 ghost use Rattle.std.specs.Prelude.{◌≡◌, ◌++◌, ◌∷◌, [], OnOk};
 ghost use Rattle.std.specs.Io.KnownBytes.{Appends};
@@ -21,28 +23,28 @@ const MOST_TEXT: usize = 256;
 /// How a run of the program ends.
 #[derive(Drop)]
 pub enum RunEnd {
-    /// The words of the command line ask for nothing.
+    /// `clap` refuses the words of the command line.
     NoJob(JobFault),
-    /// They ask for the version, or by the verb `help` for help: that was printed, or couldn't be.
+    /// The version or the help was asked for, and was printed or couldn't be.
     Printed(Result<(), WriteFault>),
-    /// What they ask for can't be begun.
+    /// The words make no task.
     NoTask(TaskFault),
-    /// A task was done, or ended with a fault.
+    /// A task ended, with an answer or a fault.
     Ended(Result<Outcome, RunError>),
-    /// Solutions were compared, or that ended with a fault.
+    /// A comparison ended, with a status or a fault.
     Compared(Result<Compared, RunError>),
-    /// A solution was written anew, or the forms were listed; or that ended with a fault.
+    /// `tsp solution` ended, with a solution or the list of forms written, or with a fault.
     Solved(Result<(), SolutionRunFault>),
 }
 
 /// The line that goes to standard error at the end of a run.
 #[derive(Drop)]
 pub enum ErrorLine<'a> {
-    /// Why `clap` refuses the words, or the help that they ask for.
+    /// Why `clap` refuses the words, or the help that was asked for.
     Refusal(&'a Refusal),
     /// Out of memory for the words of the command line.
     OutOfMemory,
-    /// Why no task was begun.
+    /// Why the words make no task.
     NoTask(TaskFault),
     /// Why a task gave no answer.
     Fault(RunFault),
@@ -101,7 +103,7 @@ pub fn status_of_run_end(run_end: &RunEnd) -> u8
     }
 }
 
-/// The exit status of a run that writes a solution anew.
+/// The exit status of `tsp solution`.
 fn status_of_solved(solved: &Result<(), SolutionRunFault>) -> u8
     ensures { result ≡ status_of_solved solved.now }
 {
@@ -167,14 +169,14 @@ pub fn tell<W: Write>(run_end: &RunEnd, errors: &mut W) -> io::Result<()>
     }
 }
 
-/// Tells a fault, and ends its line, by one write.
+/// Writes a fault and the end of its line, in one write.
 fn tell_fault<W: Write>(fault: RunFault, errors: &mut W) -> io::Result<()>
     ensures { OnOk result (Appends (W.contents errors.old) (W.contents errors.new) (run_fault_text fault ++ 10 ∷ [])) }
 {
     let mut text = ArrayString::<MOST_TEXT>::new();
     match writeln!(text, "{fault}") {
         Ok(()) => errors.write_all(text.as_str().as_bytes()),
-        // No fault's text is that long; one that were would be written in parts.
+        // No fault's text is that long. If one were, it would be written in parts.
         Err(_) => writeln!(errors, "{fault}"),
     }
 }

@@ -1,7 +1,9 @@
 //! Laws that state values of the definitions in `specs/`, worked out by hand: verbs, lines on
-//! standard error, exit statuses, the version and the help, and which requests are refused.
+//! standard error, exit statuses, the version and the help, and which requests are refused. No code
+//! calls them. If someone makes the same mistake in a definition and in the code, every contract
+//! still holds, but one of these laws fails.
 
-ghost use Rattle.std.specs.Prelude.{◌≡◌, codes, ◌≢◌, Bool, [], ◌∷◌, Option, None, Some, ℤ, ◌++◌, length, true, false, Ok, Err, decimal};
+ghost use Rattle.std.specs.Prelude.{◌≡◌, codes, ◌≢◌, Bool, [], ◌∷◌, Option, None, Some, ℤ, ◌++◌, length, pos, true, false, Ok, Err, decimal};
 ghost use Rattle.tsp_format.specs.declared.layout.Layout.{Layout};
 ghost use Rattle.tsp_report.specs.declared.task.CertificateKind.TheVariants as certificates;
 ghost use Rattle.tsp_report.specs.declared.task.Comparison.{Comparison};
@@ -23,10 +25,12 @@ ghost use Rattle.tsp_judge.specs.declared.task_run.Outcome.{Outcome};
 ghost use Rattle.tsp_judge.specs.declared.task_run.Outcome.TheVariants as outcomes;
 ghost use Rattle.tsp_solution.specs.declared.fault.FormFault.TheVariants as form_faults;
 ghost use Rattle.tsp_solution.specs.declared.fault.SolutionFault.TheVariants as solution_faults;
+ghost use Rattle.tsp_solution.specs.declared.form.Form.TheVariants as forms;
 ghost use Rattle.tsp_solution.specs.declared.run.SolutionRunFault.TheVariants as solution_ends;
 ghost use Rattle.clap.specs.Words.{fault_of};
 ghost use Rattle.clap.specs.declared.error.Error.{Error};
 ghost use Rattle.clap.specs.declared.error.kind.ErrorKind.TheVariants as kinds;
+ghost use Rattle.tsp_cli.specs.FormCheck.{GivesFormCheck, asks_form, by_check_number, form_hints, task_of_check};
 ghost use Rattle.tsp_cli.specs.Grammar.{word_of, tsp};
 ghost use Rattle.tsp_cli.specs.ProgramRun.{IsOpenedAt, paths_of, AreFresh, begins_with_help};
 ghost use Rattle.tsp_cli.specs.Examples.{IsWholeLine, found_value, all_values};
@@ -34,6 +38,7 @@ ghost use Rattle.tsp_cli.specs.RunEnd.{version_text, status_of_run_end, line_tex
 ghost use Rattle.tsp_cli.specs.Tasks.{GivesTask, IsFileTask, IsTask, IsInputPathAt};
 ghost use Rattle.tsp_cli.specs.declared.ends.ErrorLine.TheVariants as error_lines;
 ghost use Rattle.tsp_cli.specs.declared.ends.RunEnd.TheVariants as run_ends;
+ghost use Rattle.tsp_cli.specs.declared.form_check.FormCheck.{FormCheck};
 ghost use Rattle.tsp_cli.specs.declared.job.InputPath.{InputPath};
 ghost use Rattle.tsp_cli.specs.declared.job.Job.{Job};
 ghost use Rattle.tsp_cli.specs.declared.job.JobFault.TheVariants as job_faults;
@@ -107,6 +112,9 @@ pub fn examples_of_lines()
     ensures first { found_value (codes "0|1") (codes "solution" ∷ codes "a" ∷ codes "--first" ∷ codes "0" ∷ []) ≡ Some (codes "0") }
     ensures depot { found_value (codes "D") (codes "solution" ∷ codes "a" ∷ codes "--depot" ∷ codes "3" ∷ []) ≡ Some (codes "3") }
     ensures forms { IsWholeLine (codes "solution") (codes "solution" ∷ codes "--forms" ∷ []) }
+    ensures checked_form { found_value (codes "NAME") (codes "check" ∷ codes "a" ∷ codes "b" ∷ codes "--form" ∷ codes "auto" ∷ [])
+        ≡ Some (codes "auto") }
+    ensures no_checked_form { found_value (codes "NAME") (codes "check" ∷ codes "a" ∷ codes "b" ∷ []) ≡ None }
     ensures no_file { fault_of tsp (codes "show" ∷ []) ≢ [] }
     ensures no_solution { fault_of tsp (codes "check" ∷ codes "a" ∷ []) ≢ [] }
     ensures two_solutions { fault_of tsp
@@ -136,8 +144,8 @@ pub fn examples_of_strict_requests()
     ensures compare { (job : Job) (c : Comparison InputPath) → IsTask job (tasks.Compare c) → c.strict ≡ job.strict }
 {}
 
-/// With both certificates nothing is checked, compared or bounded: with either one it is
-/// without the other, and the plain check is without both. A bound has one of them.
+/// Nothing is checked, compared or bounded with both certificates. A check may have either one or
+/// none; a bound needs one.
 pub fn examples_of_two_certificates()
     ensures plain_with_potentials { (job : Job) (a b : InputPath) (claimed : Option ℤ) (strict : Bool)
         → job.potentials ≢ None → ¬ IsFileTask job (file_tasks.Check a b None claimed strict) }
@@ -165,6 +173,21 @@ pub fn examples_of_two_certificates()
         → job.verb ≡ Some verbs.Check → ¬ IsFileTask job (file_tasks.Show a) }
     ensures converted { (job : Job) (a : InputPath) (to : Option Layout) → job.verb ≡ Some verbs.Check
         → ¬ IsFileTask job (file_tasks.Convert a to) }
+{}
+
+/// Which tasks read a solution in some form: only checks, if the job names a form.
+pub fn examples_of_checks_by_form()
+    ensures unnamed { (job : Job) (a b : InputPath) → job.form ≡ None → asks_form job (file_tasks.Check a b None None false) ≡ false }
+    ensures shown { (job : Job) (a : InputPath) → asks_form job (file_tasks.Show a) ≡ false }
+    ensures converted { (job : Job) (a : InputPath) → asks_form job (file_tasks.Convert a None) ≡ false }
+    ensures bound { (job : Job) (a b : InputPath) → asks_form job (file_tasks.Bound a (certificates.Branches, b) false) ≡ false }
+    ensures no_check { (job : Job) (check : FormCheck) → job.form ≡ None → ¬ GivesFormCheck job check }
+    ensures task { (check : FormCheck) (a b : InputPath) (strict : Bool)
+        → task_of_check check ≡ file_tasks.Check a b None (Some (pos 9)) strict
+        → (check.instance ≡ a) × (check.solution ≡ b) × (check.claimed ≡ Some (pos 9)) × (check.strict ≡ strict) }
+    ensures named { (form_hints (Some forms.Json)).form ≡ Some forms.Json }
+    ensures found { (form_hints None).form ≡ None }
+    ensures no_depot { (form_hints (Some forms.Json)).depot ≡ None }
 {}
 
 /// Which of two faults of a command line isn't named: the one that comes later in the order of
@@ -222,6 +245,10 @@ pub fn examples_of_statuses()
     ensures missing_solution { status_of_run_end (run_ends.Solved (Err (solution_ends.File 1
         (solution_faults.File read_faults.Device)))) ≡ 5 }
     ensures unknown_form { status_of_run_end (run_ends.NoTask task_faults.UnknownForm) ≡ 4 }
+    ensures solution_of_a_check { by_check_number (solution_ends.File 1 solution_faults.OutOfMemory)
+        ≡ solution_ends.File 2 solution_faults.OutOfMemory }
+    ensures instance_of_a_check { by_check_number (solution_ends.File 2 solution_faults.OutOfMemory)
+        ≡ solution_ends.File 1 solution_faults.OutOfMemory }
     ensures line { ended (codes "missing path") ≡ Some (codes "missing path\n") }
 {}
 

@@ -1,6 +1,7 @@
-//! The text that explains the end of a task to a person; and for a comparison, `Followed`, which
-//! opens each solution that tsp_judge then judges (`Solutions`), and explains its line, or counts
-//! on a terminal (`Follow`).
+//! Explains the end of a task to the user. For a comparison, `Followed` opens each solution for
+//! tsp_judge (`Solutions`), and explains its line or counts on a terminal (`Follow`). Contracts say
+//! whether something is written, not what, so you can change the words freely; the answer and the
+//! exit status don't depend on them.
 
 ghost use Rattle.std.specs.Prelude.{map, true};
 ghost use Rattle.std.specs.String.{string_bytes};
@@ -20,8 +21,7 @@ use tsp_judge::{
 };
 use tsp_report::{Role, Task};
 
-/// What explains why a job asks for nothing, line by line. It is cut short if there is no memory
-/// for more.
+/// Explains line by line why a job makes no task. The text is cut short if memory runs out.
 pub(crate) fn fault_explanation(alloc: Global, fault: TaskFault) -> Vec<u8> {
     let mut text = Vec::new(alloc);
     let _ = match fault {
@@ -77,15 +77,15 @@ const LENGTHS: &str = "A length is a whole number that fits into 64 bits, such a
     Write one below 0 with an equals sign: --length=-34.\n\
     TSPLIB's lengths are whole, so a real cost such as 524.61 can't be compared with them.";
 
-/// A task, of files that `files` opens, and how its end is reported.
+/// A task, the files that it needs, and how its end is reported.
 #[derive(Drop)]
 pub(crate) struct TaskRun<'a, F, O> {
     pub(crate) alloc: Global,
     pub(crate) task: &'a Task<'a, InputPath<'a>>,
     pub(crate) files: &'a O,
-    /// Whether the end is explained, and each line of a comparison that accepts no solution.
+    /// Whether the end is explained, along with each line of a comparison that accepts no solution.
     pub(crate) explain: bool,
-    /// Whether solutions are counted besides, on a terminal.
+    /// Whether solutions are counted, too, on a terminal.
     pub(crate) counts: bool,
     pub(crate) file: PhantomData<F>,
 }
@@ -96,16 +96,16 @@ impl<'a, F: Read + Drop, O: Open<F>> TaskRun<'a, F, O> {
         self.task.map(|place| name_of(*place))
     }
 
-    /// The file with this number opened once more, if it can be.
+    /// Opens the file with this number once more, if it can be read twice.
     fn again(&self, number: u32) -> Option<F> {
         let (_, place) = self.task.file(number)?;
         again(*place, self.files)
     }
 }
 
-/// What explains how a task ended, line by line; of a comparison, each solution was explained at
-/// its line. Files that can be are looked at once more for it. `error` is what the system said of a
-/// write that failed. It is cut short if there is no memory for more.
+/// Explains line by line how a task ended, reading a faulty file once more if possible. (In a
+/// comparison, each solution was explained at its line.) `error` is the system's error of a failed
+/// write. The text is cut short if memory runs out.
 pub(crate) fn explanation<F: Read + Drop, O: Open<F>>(
     task_run: &TaskRun<'_, F, O>,
     run_end: &RunEnd,
@@ -144,7 +144,7 @@ fn name_of(place: InputPath<'_>) -> &str {
     }
 }
 
-/// The file at a place opened once more, if it can be.
+/// Opens the file at a place once more, if it can be read twice.
 fn again<F: Read, O: Open<F>>(place: InputPath<'_>, files: &O) -> Option<F> {
     match place {
         InputPath::Path(path) => files.open_again(path),
@@ -154,7 +154,7 @@ fn again<F: Read, O: Open<F>>(place: InputPath<'_>, files: &O) -> Option<F> {
 
 // ---- the solutions of a comparison, opened one after the other
 
-/// The solutions of a comparison that is asked for, and how standard error tells of them.
+/// The solutions of a comparison, and what standard error says about them.
 #[derive(Drop)]
 pub(crate) struct Followed<'a, F, O> {
     pub(crate) task_run: &'a TaskRun<'a, F, O>,
@@ -196,11 +196,11 @@ impl<F: Read + Drop, O: Open<F>, E: Write> Follow<E> for Followed<'_, F, O> {
     }
 }
 
-/// What a terminal is sent to begin its line anew.
+/// What makes a terminal begin its line anew.
 const ANEW: &[u8] = b"\r\x1b[K";
 
 impl<F: Read + Drop, O: Open<F>> Followed<'_, F, O> {
-    /// Appends what standard error has of a solution.
+    /// Appends what standard error says about a solution.
     fn push_message(
         &self,
         text: &mut Vec<u8>,
@@ -221,7 +221,7 @@ impl<F: Read + Drop, O: Open<F>> Followed<'_, F, O> {
         Ok(())
     }
 
-    /// Appends what explains why the solution at a place is rejected, or isn't read.
+    /// Explains why the solution at a place is rejected, or can't be read.
     fn push_found(
         &self,
         text: &mut Vec<u8>,
@@ -266,7 +266,8 @@ pub(crate) fn end_count<F, O, E: Write>(task_run: &TaskRun<'_, F, O>, to: &mut E
     }
 }
 
-/// Sends as much of a text as goes. If standard error can't be written, lines and status tell.
+/// Sends as much of a text as possible. If standard error can't be written, the lines and the exit
+/// status still tell the result.
 fn send_what_goes<E: Write>(to: &mut E, text: &[u8])
     ensures { MayTell true (E.contents to.old) (E.contents to.new) }
 {

@@ -1,9 +1,10 @@
-//! The command line as `clap` knows it: six subcommands, what each takes, and the texts of help.
-//! Also the version, of which `VERSION_NUMBER` in `src/lib.rt` of tsp_c is a copy.
+//! The command line as `clap` sees it: six subcommands, their arguments, and the texts of the help.
+//! `specs/Grammar.antt` pins all but the texts. If you change the version here, change its copy
+//! `VERSION_NUMBER` in `src/lib.rt` of tsp_c, too.
 
 ghost use Rattle.std.specs.Prelude.{◌≡◌, IfOk, false};
 ghost use Rattle.clap.specs.Words.{App, Rule, new_app, rule_of, with_rule, with_subcommand};
-ghost use Rattle.tsp_cli.specs.Grammar.{IsCommandOf, has_globals, path, several_paths, optional_path, option, flag, explain, strict, show, convert, check_files, check_certified, check, compare_files, compare_certified, compare, bound_files, bound_certified, bound, solution_files, solution_hints, solution_verb, start, tsp};
+ghost use Rattle.tsp_cli.specs.Grammar.{IsCommandOf, has_globals, path, several_paths, optional_path, option, flag, explain, strict, show, convert, check_files, check_certified, check_claimed, check, compare_files, compare_certified, compare, bound_files, bound_certified, bound, solution_files, solution_hints, solution_verb, start, tsp};
 
 use clap::{Arg, ArgAction, Command};
 use std::alloc::{AllocError, Global};
@@ -74,17 +75,19 @@ Prints yes with the length, or no with the first reason. With --potentials or
 --branches it also prints a bound: no tour is shorter. Write a length below 0
 with an equals sign: --length=-34. With --strict, an instance with an unknown
 keyword, or with a field that it doesn't use, is rejected if no other reason
-applies.
+applies. With --form auto, the solution is read as tsp solution --of F reads it.
 
 Exit status: 0 yes, 1 no, 2 a fault in a file or the wrong kind,
-3 out of memory, 4 two certificates or not a length, 5 a failed read or write.
+3 out of memory, 4 two certificates, not a length or no such form, 5 a failed
+read or write.
 
 Examples:
   tsp check a.tsp a.tour
   tsp check a.tsp a.tour --potentials a.potentials
   tsp check a.tsp a.tour --branches a.branches
   tsp check a.tsp a.tour --length 426
-  tsp check a.tsp a.tour --strict";
+  tsp check a.tsp a.tour --strict
+  tsp check a.vrp a.sol --form auto";
 
 /// The end of the help of `compare`.
 const COMPARE_NOTES: &str = "\
@@ -134,8 +137,7 @@ Examples:
   tsp solution routes.json --form json --first 0 > a.tour
   tsp solution a.sol --of a.vrp | tsp check a.vrp -";
 
-/// The program's command with its six subcommands. Its words are those after the program's own
-/// name.
+/// The program's command with its six subcommands. Its words come after the program's own name.
 pub(crate) fn tsp<'a>(alloc: Global) -> Result<Command<'a>, AllocError>
     ensures { IfOk result (IsCommandOf tsp) }
 {
@@ -179,15 +181,22 @@ fn convert<'a>(alloc: Global) -> Result<Command<'a>, AllocError>
     then(two, explain(alloc))
 }
 
-/// `check F T [--potentials P] [--branches B] [--length N] [--strict] [--explain]`.
+/// `check F T [--potentials P] [--branches B] [--length N] [--form NAME] [--strict] [--explain]`.
 fn check<'a>(alloc: Global) -> Result<Command<'a>, AllocError>
     ensures { IfOk result (IsCommandOf check) }
 {
-    let one = check_certified(alloc);
+    let one = then(check_claimed(alloc), strict(alloc));
+    then(one, explain(alloc))
+}
+
+/// `check F T [--potentials P] [--branches B] [--length N] [--form NAME]`.
+fn check_claimed<'a>(alloc: Global) -> Result<Command<'a>, AllocError>
+    ensures { IfOk result (IsCommandOf check_claimed) }
+{
     let length = option(alloc, "N", "length", "Reject a solution of another length");
-    let two = then(one, length);
-    let three = then(two, strict(alloc));
-    then(three, explain(alloc))
+    let one = then(check_certified(alloc), length);
+    let about = "Read the solution in this form, or with auto in any";
+    then(one, option(alloc, "NAME", "form", about))
 }
 
 /// `check F T [--potentials P] [--branches B]`.
@@ -283,7 +292,12 @@ fn solution<'a>(alloc: Global) -> Result<Command<'a>, AllocError>
 fn solution_hints<'a>(alloc: Global) -> Result<Command<'a>, AllocError>
     ensures { IfOk result (IsCommandOf solution_hints) }
 {
-    let form = option(alloc, "NAME", "form", "The name of the form");
+    let form = option(
+        alloc,
+        "NAME",
+        "form",
+        "The name of the form, or auto to find it",
+    );
     let one = then(solution_files(alloc), form);
     let about = "0 if nodes count from 0 or routes list customers, 1 if nodes count from 1";
     let two = then(one, option(alloc, "0|1", "first", about));
@@ -311,8 +325,8 @@ fn command<'a>(alloc: Global, name: &'a str, about: &'a str, notes: &'a str) -> 
     Command::new(alloc, name).about(about).after_help(notes)
 }
 
-/// A command that may be made, with one argument more. So a command is put together without an
-/// early return, of which each costs the prover much time.
+/// Adds an argument to a command, unless memory has run out. Commands are put together in this way
+/// because each early return costs the prover much time.
 fn then<'a>(
     command: Result<Command<'a>, AllocError>,
     arg: Arg<'a>,
@@ -325,7 +339,7 @@ fn then<'a>(
     command?.arg(arg)
 }
 
-/// A command that may be made, with one subcommand more that may be made.
+/// Adds a subcommand to a command, unless memory has run out for one of them.
 fn then_command<'a>(
     command: Result<Command<'a>, AllocError>,
     subcommand: Result<Command<'a>, AllocError>,
@@ -356,8 +370,7 @@ fn optional_path<'a>(alloc: Global, id: &'a str, help: &'a str) -> Arg<'a>
     Arg::new(alloc, id).help(help)
 }
 
-/// Paths, of which the words have to contain one at least. Help calls each `T`, as it does the path
-/// of a single one.
+/// One or more paths. The help calls each of them `T`, like a single path.
 fn paths<'a>(alloc: Global, id: &'a str, help: &'a str) -> Arg<'a>
     ensures rule { rule_of result ≡ several_paths id.now }
     ensures local { result.global ≡ false }
@@ -375,7 +388,7 @@ fn option<'a>(alloc: Global, id: &'a str, long: &'a str, help: &'a str) -> Arg<'
     Arg::new(alloc, id).long(long).help(help)
 }
 
-/// An option without a value, which is given or not.
+/// An option without a value.
 fn flag<'a>(alloc: Global, id: &'a str, long: &'a str, help: &'a str) -> Arg<'a>
     ensures rule { rule_of result ≡ flag id.now long.now }
     ensures local { result.global ≡ false }

@@ -1,5 +1,6 @@
 //! What a task reads from: an open file, standard input, or the error of a file that couldn't be
-//! opened. Also `Open`, the trait by which the host opens files; `src/main.rt` of tsp_tool has it.
+//! opened. Also `Open`, the trait through which `running.rt` opens files; `src/main.rt` of tsp_tool
+//! implements it with host calls.
 
 ghost use Rattle.std.specs.Prelude.{◌≡◌, IsTrue, IsErr, MatchResult};
 ghost use Rattle.std.specs.Io.{ReadsAtMost};
@@ -11,21 +12,21 @@ use crate::job::InputPath;
 use std::io::{self, Read};
 use tsp_io::Gives;
 
-/// The trait of what opens files, which `src/main.rt` of tsp_tool implements by calls of the host.
+/// Opens files. `src/main.rt` of tsp_tool implements it with host calls.
 pub trait Open<F> {
-    /// Whether this is what opening the file at a place may give.
+    /// Whether opening the file at a place may give this reader.
     ghost opens: { Self → InputPath → F → Type 0 };
 
-    /// The file at a place, opened to be read.
+    /// Opens the file at a place.
     fn open(&self, place: InputPath<'_>) -> F
         ensures { opens self.now place.entry result };
 
-    /// The file at a path, opened once more, or `None` if it can't be read twice.
+    /// Opens the file at a path once more; `None` if it can't be read twice.
     fn open_again(&self, path: &str) -> Option<F>;
 }
 
-/// Standard input, a file that was opened, or why one couldn't be. Each read of a missing one fails
-/// with that error, so the task reports it when it comes to that file.
+/// Standard input, an open file, or the error of a file that couldn't be opened. Each read of a
+/// missing file fails with its error, so the task reports it when it comes to that file.
 #[derive(Drop)]
 pub enum InputFile<I, F> {
     Input(I),
@@ -34,7 +35,7 @@ pub enum InputFile<I, F> {
 }
 
 impl<I, F> InputFile<I, F> {
-    /// The source that the opening of a file gives.
+    /// The reader for the result of opening a file.
     pub fn of(opened: io::Result<F>) -> InputFile<I, F>
         ensures { MatchResult opened (λ file. result ≡ InputFile.Opened file) (λ error. result ≡ InputFile.Missing error) }
     {
@@ -46,8 +47,8 @@ impl<I, F> InputFile<I, F> {
 }
 
 impl<I, F> InputFile<I, F> {
-    /// Asks standard input or the file once, with a buffer for its bytes, and returns its result as
-    /// it is. A missing file returns its error, and nothing is asked.
+    /// Asks standard input or the file once, with a buffer for its bytes, and returns the result
+    /// unchanged. If the file is missing, returns its error without asking anything.
     fn ask<A, OfInput, OfFile>(
         &mut self,
         room: &mut [u8],
@@ -87,7 +88,7 @@ impl<I: Gives, F: Gives> Read for InputFile<I, F> {
     }
 }
 
-/// An error with the same number of the system, or, if it has none, of the same kind.
+/// A copy of an error: with the same system number, or, if it has none, of the same kind.
 fn same_error(error: &io::Error) -> io::Error
     ensures { IsSameError error.now result }
 {

@@ -1,5 +1,6 @@
-//! Turns the words of a command line into a job, that is a verb with its options and paths, and a
-//! job into a task on files. Each step may fail: `JobFault`, `TaskFault`.
+//! Turns the words of a command line into a job (a verb with its options and paths), and a job into
+//! a task on files. `running.rt` calls both. `specs/Grammar.antt` and `specs/Tasks.antt` pin which
+//! words give which task; to add an option, change them, this file and `grammar.rt`.
 
 ghost use Rattle.std.specs.IoError.{error_kind};
 ghost use Rattle.std.specs.Prelude.{◌≡◌, ◌≢◌, ◌↔◌, IfOk, IsTrue, None, Some, codes, map, option_map, ◌≤◌};
@@ -23,13 +24,13 @@ use tsp_report::{CertificateKind, Comparison, FileTask, Task};
 pub enum Verb {
     /// Show the contents of a file.
     Show,
-    /// Write a file anew.
+    /// Write a file in its normal form.
     Convert,
     /// Judge a solution of an instance.
     Check,
     /// Judge many solutions of an instance.
     Compare,
-    /// Bound all tours or routes of an instance, without a solution.
+    /// Compute a bound for an instance without a solution.
     Bound,
     /// Write a solution of another program as a file of TYPE TOUR.
     Solution,
@@ -52,16 +53,16 @@ impl Verb {
     }
 }
 
-/// The verb, the options and the paths of a command line. Its verb looks at no field but its own.
+/// The verb, the options and the paths of a command line. Each verb uses only its own fields.
 #[derive(Drop)]
 pub struct Job {
     /// What to do, or `None` if no word says so.
     pub verb: Option<Verb>,
     /// The path of the file, or of the instance.
     pub file: Option<String>,
-    /// The path of the solution that is checked, or written anew.
+    /// The path of the solution that is checked or rewritten.
     pub solution: Option<String>,
-    /// The paths of the solutions that are compared, in the order given.
+    /// The paths of the solutions in a comparison, in the order given.
     pub solutions: Vec<String>,
     /// The word of the layout that a matrix gets.
     pub layout: Option<String>,
@@ -73,19 +74,19 @@ pub struct Job {
     pub length: Option<String>,
     /// The name of the form of a solution.
     pub form: Option<String>,
-    /// The word of the number with which nodes begin to count.
+    /// The word for the number of the first node.
     pub first: Option<String>,
     /// The word of the depot.
     pub depot: Option<String>,
     /// Whether the forms of solutions are listed.
     pub forms: bool,
-    /// Whether lines of the instance that aren't judged are a reason.
+    /// Whether a line of the instance that the verdict ignores is a reason.
     pub strict: bool,
     /// Whether a fault, or the line `no`, is to be explained.
     pub explain: bool,
 }
 
-/// Why words are no job: `clap` refuses them, they ask for help or the version, or memory ran out.
+/// Why words make no job: `clap` refuses them, they ask for help or the version, or memory ran out.
 #[derive(Debug, Drop)]
 pub enum JobFault {
     /// The command line is refused, or asks for help or the version. The text is that of `clap`.
@@ -105,12 +106,11 @@ impl JobFault {
     }
 }
 
-/// Reads the words of a command line, those after the program's own name: `show F`,
-/// `convert F [--layout L]`, `check F T [--potentials P] [--branches B] [--length N] [--strict]`,
-/// `compare F T.. [--potentials P] [--branches B] [--strict]`,
-/// `bound F [--potentials P] [--branches B] [--strict]`,
-/// `solution [T] [--of F] [--form NAME] [--first 0|1] [--depot D] [--forms]`, each with `--explain`
-/// or without, or no words at all.
+/// Reads the words of a command line, those after the program's own name: `show F`, `convert F
+/// [--layout L]`, `check F T [--potentials P] [--branches B] [--length N] [--strict]`, `compare F
+/// T.. [--potentials P] [--branches B] [--strict]`, `bound F [--potentials P] [--branches B]
+/// [--strict]`, `solution [T] [--of F] [--form NAME] [--first 0|1] [--depot D] [--forms]`, each
+/// with or without `--explain`, or no words at all.
 ///
 /// # Errors
 ///
@@ -134,7 +134,7 @@ pub fn job_of(alloc: Global, words: &[&str]) -> Result<Job, JobFault>
     }
 }
 
-/// The job of no words, which has no verb and no values.
+/// The job for no words: it has no verb and no values.
 fn no_job(alloc: Global) -> Job
     ensures { IsJobOf None result }
 {
@@ -171,7 +171,7 @@ pub fn unread(alloc: Global, error: &io::Error) -> JobFault
     }
 }
 
-/// What `clap` says when a word is no text.
+/// What `clap` says if a word isn't text.
 fn no_text(alloc: Global) -> Result<Refusal, AllocError>
     ensures { IfOk result (λ refusal. kind_of refusal ≡ ErrorKind.InvalidValue) }
 {
@@ -256,9 +256,9 @@ fn text_of<'a>(found: &ArgMatches<'a>, id: &str) -> Option<&'a str>
     found.get_str(id)
 }
 
-// ---- turns a job into a task on paths, or says why it is none
+// ---- turn a job into a task on paths, or say why it makes none
 
-/// If a file of a task is: standard input, or at a path.
+/// Where a task's file is: standard input, or a path.
 #[derive(Clone, Copy)]
 pub enum InputPath<'a> {
     /// Standard input.
@@ -267,7 +267,7 @@ pub enum InputPath<'a> {
     Path(&'a str),
 }
 
-/// Why a job asks for nothing that can be done.
+/// Why a job makes no task.
 #[derive(Clone, Copy)]
 pub enum TaskFault {
     /// No layout has the word.
@@ -276,32 +276,32 @@ pub enum TaskFault {
     MissingPath,
     /// Two certificates are named, potentials and branches.
     TwoCertificates,
-    /// No certificate is named, if one has to be.
+    /// No certificate is named, but the verb needs one.
     NoCertificate,
-    /// The word is no length that fits 64 bits.
+    /// The word isn't a length that fits 64 bits.
     NotALength,
     /// Two files are standard input, which gives its bytes once.
     InputTwice,
-    /// The path of a solution that is compared contains the end of a line.
+    /// The path of a solution in a comparison contains the end of a line.
     LineEndInPath,
     /// No form of solutions has the name.
     UnknownForm,
     /// The word of the first number is neither 0 nor 1.
     NotAFirst,
-    /// The word is no node that could be a depot.
+    /// The word isn't a node that could be a depot.
     NotADepot,
 }
 
-/// The task that a job asks for, whose verb isn't `solution`: `solution_task_of` is for that. A path `-` is standard input, which one file at most can be. With
-/// no verb, standard input is shown.
+/// The task that a job asks for. The path `-` is standard input, which at most one file can be.
+/// Without a verb, standard input is shown. For the verb `solution`, call `solution_task_of`.
 ///
 /// # Errors
 ///
-/// `InputTwice` if two files are standard input; `UnknownLayout` if no layout has the given
-/// word; `NotALength` if the word of a length isn't one; `TwoCertificates` if both potentials
-/// and branches are named; `NoCertificate` if a bound has neither; `LineEndInPath` if the
-/// path of a solution that is compared contains byte 10; `MissingPath` if a path is missing, which
-/// no job made by `job_of` lacks.
+/// `InputTwice` if two files are standard input; `UnknownLayout` if no layout has the given word;
+/// `NotALength` if the word for the length isn't one; `TwoCertificates` if both potentials and
+/// branches are named; `NoCertificate` if a bound has neither; `LineEndInPath` if the path of a
+/// solution in a comparison contains byte 10; `MissingPath` if a path is missing, which can't
+/// happen to a job from `job_of`.
 pub fn task_of(job: &Job) -> Result<Task<'_, InputPath<'_>>, TaskFault>
     ensures { GivesTask job.now result }
 {
@@ -312,8 +312,8 @@ pub fn task_of(job: &Job) -> Result<Task<'_, InputPath<'_>>, TaskFault>
     Ok(task)
 }
 
-/// How many files of a task are standard input. Three at most have a number; solutions that are
-/// compared have none.
+/// How many files of a task are standard input. At most three have a number; the solutions of a
+/// comparison have none.
 fn inputs_of_task(task: &Task<'_, InputPath<'_>>) -> u128
     ensures { result ≡ inputs_of_task task.now }
 {
@@ -349,15 +349,15 @@ fn inputs_at(paths: &[String]) -> u64
     count
 }
 
-/// The task that a job asks for, of files that may be standard input several times. With no verb,
+/// The task that a job asks for; here, several files may be standard input. Without a verb,
 /// standard input is shown.
 ///
 /// # Errors
 ///
-/// `UnknownLayout` if no layout has the given word; `NotALength` if the word of a length
-/// isn't one; `TwoCertificates` if both potentials and branches are named; `NoCertificate` if
-/// a bound has neither; `LineEndInPath` if the path of a solution that is compared contains byte
-/// 10; `MissingPath` if a path is missing, as in no job that words ask for.
+/// `UnknownLayout` if no layout has the given word; `NotALength` if the word for the length isn't
+/// one; `TwoCertificates` if both potentials and branches are named; `NoCertificate` if a bound has
+/// neither; `LineEndInPath` if the path of a solution in a comparison contains byte 10;
+/// `MissingPath` if a path is missing, which can't happen to a job from `job_of`.
 fn named_task(job: &Job) -> Result<Task<'_, InputPath<'_>>, TaskFault>
     ensures { NamesTask job.now result }
 {
@@ -453,7 +453,7 @@ fn bound_of<'a>(job: &'a Job, instance: InputPath<'a>) -> Result<FileTask<InputP
     }
 }
 
-/// The place of a path that has to be there.
+/// The place of a path that must be there.
 pub(crate) fn input_path_of(path: Option<&String>) -> Result<InputPath<'_>, TaskFault>
     ensures { GivesInputPath (option_map (λ text. string_bytes text.now) path.entry) result }
 {

@@ -1,5 +1,5 @@
-//! Laws: a fault is one line of standard error, and on a terminal each answer is explained. No code
-//! calls them: they show a reader what a run of the program writes there.
+//! Laws: a fault is one line on standard error, and on a terminal each answer is explained. No code
+//! calls them; they tell a reader what a run writes there.
 
 ghost use Rattle.std.specs.Prelude.{◌≡◌, ℕ, Bool, List, true, false, Option, Some, Ok, drop, Result};
 ghost use Rattle.clap.specs.Words.{Text};
@@ -20,15 +20,15 @@ ghost use Rattle.tsp_cli.specs.ProgramRun.{EndsProgram};
 use crate::input::Open;
 use tsp_io::Gives;
 
-/// The text of a fault is one line, and it is written with its end.
+/// The text of a fault is one line, and is written with a line end.
 pub fn faults_are_one_line()
     ensures one { (fault : RunFault) → is_one_line (run_fault_text fault) ≡ true }
     ensures ended { (fault : RunFault) (old new : Option (List ℕ)) → IsWritten (Some (error_lines.Fault fault)) old new
         → WritesLine old new }
 {}
 
-/// On a terminal every answer is explained, and every task that can't be begun; elsewhere if the
-/// job says so. No words are explained that ask for no job.
+/// On a terminal, every answer is explained, and so is every job that makes no task; elsewhere only
+/// if the job says so. Words that make no job are never explained.
 pub fn explained_on_a_terminal<F: Gives + Drop, O: Open<F>>(files: &O)
     ensures answer { (build : Text) (words : List Text) (sink : Sink) (explained : Bool) (answer : Result Outcome RunFault)
         → EndsProgram F.remaining F.gives (O.opens files.now) true build words sink explained (run_ends.Ended answer) → explained ≡ true }

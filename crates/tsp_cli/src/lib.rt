@@ -1,20 +1,22 @@
-//! A run of the program `tsp`, from the words of its command line to its exit status.
+//! Parses the command line of `tsp`, runs the task, and sets the exit status.
 //!
-//! The words are a job (`job`, by the commands in `grammar`), and the job is a task on files or a
-//! comparison. Each file is opened or missing (`input`), the task is done (`running`), and the end
-//! is reported on standard error and by the exit status (`ends`). If the words ask for it, an
-//! explanation follows (`explained`). The calls of the host are tsp_tool's.
+//! The words become a job (`job`, by the commands in `grammar`), and the job becomes a task on
+//! files, a comparison, or a solution to be rewritten (`solution_run`). `running` opens the files
+//! (`input`) and has tsp_judge run the task. A fault is reported on standard error and by the exit
+//! status (`ends`), with an explanation if one is wanted (`explained`). The host calls are in
+//! tsp_tool.
 //!
 //! ```text
 //! let job = job_of(alloc, &["check", "a.tsp", "a.tour"])?;
 //! let task = task_of(&job)?;
-//! let (status, written) = run(alloc, &words, &files, &mut out, &mut errors, surroundings);
+//! let (status, written) = run(alloc, &words, &files, &mut out, &mut errors, host_context);
 //! ```
 #![tactic(auto)]
 
 mod ends;
 mod examples;
 mod explained;
+mod form_check;
 mod grammar;
 mod input;
 mod job;
@@ -24,9 +26,10 @@ mod solution_run;
 
 pub use ends::{ErrorLine, RunEnd, line_of, status_of_run_end, tell};
 pub use examples::{
-    examples_of_help, examples_of_lines, examples_of_opened_files, examples_of_printed_lines,
-    examples_of_second_faults, examples_of_statuses, examples_of_strict_requests,
-    examples_of_two_certificates, examples_of_verbs, examples_of_versions,
+    examples_of_checks_by_form, examples_of_help, examples_of_lines, examples_of_opened_files,
+    examples_of_printed_lines, examples_of_second_faults, examples_of_statuses,
+    examples_of_strict_requests, examples_of_two_certificates, examples_of_verbs,
+    examples_of_versions,
 };
 pub use grammar::VERSION;
 pub use input::{InputFile, Open};

@@ -1,21 +1,24 @@
-//! Runs a job: opens its files, has tsp_judge do the task, and tells how that ended. Also prints
-//! the version and the help, and says so if a person's terminal is read.
+//! Runs a job: opens its files, has tsp_judge run the task, and reports how that ended. Also prints
+//! the version and the help. `main` in tsp_tool calls `run`, and `EndsProgram` in
+//! `specs/ProgramRun.antt` pins its exit status and its output.
 
 ghost use Rattle.std.specs.Io.KnownBytes.{Appends, Keeps};
 ghost use Rattle.std.specs.IoError.{error_kind};
 ghost use Rattle.std.specs.Prelude.{◌≡◌, ◌≢◌, ◌||◌, IfOk, OnOk, Some, drop, map, ◌≤◌, ◌<◌, true, false, length};
 ghost use Rattle.std.specs.String.{string_bytes};
 ghost use Rattle.tsp_io.specs.states.Output.{FailsByWrite, sink_of};
-ghost use Rattle.tsp_cli.specs.ProgramRun.{IsComparedAs, AreOpened, IsFresh, EndsProgram, EndsRefused, EndsWith, HasNoWords, IsDoneAs, Runs, RunsComparison, RunsJob, RunsFileTask, begins_with_help, AreFresh};
+ghost use Rattle.tsp_judge.specs.TaskRun.{outcome_of_check};
+ghost use Rattle.tsp_cli.specs.ProgramRun.{EndsFormCheck, IsComparedAs, AreOpened, IsFresh, EndsProgram, EndsRefused, EndsWith, HasNoWords, IsDoneAs, Runs, RunsComparison, RunsJob, RunsFileTask, begins_with_help, AreFresh};
 ghost use Rattle.tsp_cli.specs.declared.job.Verb.TheVariants as verbs;
 ghost use Rattle.tsp_cli.specs.RunEnd.{Prints, PrintsSome, version_text, status_of_run_end, Tells, TellsAfter, TellsAll, waiting_line};
 
 use crate::ends::{RunEnd, status_of_run_end, tell};
 use crate::explained::{Followed, TaskRun, end_count, explanation, fault_explanation};
+use crate::form_check::{CheckedTexts, FormCheck, check_texts, form_check_of, texts_of};
 use crate::grammar::VERSION;
 use crate::input::Open;
 use crate::job::{InputPath, Job, JobFault, TaskFault, Verb, job_of, task_of, unread};
-use crate::solution_run::run_solution;
+use crate::solution_run::{form_of, run_solution, tell_solved};
 use clap::Error as Refusal;
 use clap::error::ErrorKind;
 use std::alloc::{AllocError, Global};
@@ -23,26 +26,27 @@ use std::fmt::{self, Display, Formatter};
 use std::io::{self, Read, Write};
 use std::marker::PhantomData;
 use tsp_io::{Gives, Output, Takes, write_text};
-use tsp_judge::{Watched, WriteFault, compare, perform};
+use tsp_judge::{Judged, Outcome, RunError, Watched, WriteFault, compare, perform};
 use tsp_report::{Comparison, FileTask, Task};
 
-/// What a run knows of its surroundings.
+/// What a run knows about its host.
 #[derive(Clone, Copy)]
 pub struct HostContext {
     /// Whether standard error is a terminal: then every outcome but the line `yes` is explained.
     pub on_terminal: bool,
-    /// Whether a comparison counts there: it is a terminal, and standard output is another place.
+    /// Whether a comparison shows its progress there: standard error is a terminal, and standard
+    /// output is another place.
     pub counts: bool,
     /// The text of the build.
     pub build: &'static str,
 }
 
-/// Does what a command line asks for, and returns the exit status.
+/// Runs what a command line asks for, and returns the exit status.
 ///
-/// `line` has the words, the program's own name first. The answer goes to `out`; if there is none,
-/// the reason goes to `errors`, and the second part of the result says whether it got there. Files
-/// are opened through `files`, in the order in which they are read; a comparison opens each
-/// solution when its turn comes. With `--explain`, and whenever `errors` is a terminal, an
+/// `line` contains the words, the program's own name first. The answer goes to `out`; if there is
+/// none, the reason goes to `errors`, and the second part of the result says whether it got there.
+/// Files are opened through `files`, in the order in which they are read; a comparison opens each
+/// solution just before it reads it. With `--explain`, and whenever `errors` is a terminal, an
 /// explanation follows; a comparison explains each line that accepts no solution right after it,
 /// and on a terminal counts its solutions. The version, with the text of the build, and the help of
 /// the verb `help` go to `out`.
@@ -75,7 +79,7 @@ pub fn run<F: Gives + Drop, O: Open<F>, W: Takes, E: Write>(
     }
 }
 
-/// The end if `clap` refuses the words: the version and, by the verb `help`, help are printed.
+/// The end if `clap` refuses the words. Prints the version or, for the verb `help`, the help.
 fn end_of_refusal<W: Takes>(
     alloc: Global,
     refusal: Refusal,
@@ -104,7 +108,7 @@ fn begins_with_help(words: &[&str]) -> bool
     }
 }
 
-/// Tells why words that can't be had ask for nothing. The result is as that of `run`.
+/// Reports why the words of the command line can't be read. The result is like that of `run`.
 pub fn tell_unread<E: Write>(
     alloc: Global,
     error: &io::Error,
@@ -124,8 +128,8 @@ fn end<E: Write>(run_end: &RunEnd, errors: &mut E) -> (u8, io::Result<()>)
     (status_of_run_end(run_end), reported)
 }
 
-/// Does the job, and tells how that ended, with its explanation if that is wanted. The result is
-/// as that of `run`.
+/// Runs the job and reports how it ended, with an explanation if one is wanted. The result is like
+/// that of `run`.
 fn run_job<F: Gives + Drop, O: Open<F>, W: Takes, E: Write>(
     alloc: Global,
     job: &Job,
@@ -148,6 +152,13 @@ fn run_job<F: Gives + Drop, O: Open<F>, W: Takes, E: Write>(
             return (status_of_run_end(&RunEnd::NoTask(fault)), reported);
         }
     };
+    let form = match form_of(&job.form) {
+        Ok(form) => form,
+        Err(fault) => {
+            let reported = tell_fault_of_job(alloc, fault, errors, explain);
+            return (status_of_run_end(&RunEnd::NoTask(fault)), reported);
+        }
+    };
     let task_run = TaskRun {
         alloc,
         task: &task,
@@ -157,12 +168,15 @@ fn run_job<F: Gives + Drop, O: Open<F>, W: Takes, E: Write>(
         file: PhantomData,
     };
     match &task {
-        Task::Files(files) => run_file_task(&task_run, files, out, errors),
+        Task::Files(files) => match form_check_of(job, form, files) {
+            Some(check) => run_form_check(&task_run, check, out, errors),
+            None => run_file_task(&task_run, files, out, errors),
+        },
         Task::Compare(comparison) => run_comparison(&task_run, comparison, out, errors),
     }
 }
 
-/// Whether the job is to write a solution anew.
+/// Whether the verb is `solution`.
 fn asks_solution(job: &Job) -> bool
     ensures yes { result ≡ true → job.now.verb ≡ Some verbs.Solution }
     ensures no { result ≡ false → job.now.verb ≢ Some verbs.Solution }
@@ -180,7 +194,7 @@ fn is_explained(job: &Job, host_context: HostContext) -> bool
     job.explain || host_context.on_terminal
 }
 
-/// Tells why a job asks for nothing, and explains it if that is wanted.
+/// Reports why a job makes no task, with an explanation if one is wanted.
 pub(crate) fn tell_fault_of_job<E: Write>(
     alloc: Global,
     fault: TaskFault,
@@ -196,7 +210,7 @@ pub(crate) fn tell_fault_of_job<E: Write>(
     append(errors, fault_explanation(alloc, fault))
 }
 
-/// Does a task on its files, each opened in its place, and tells how that ended.
+/// Opens the files of a task, runs it, and reports how it ended.
 fn run_file_task<F: Gives + Drop, O: Open<F>, W: Takes, E: Write>(
     task_run: &TaskRun<'_, F, O>,
     task: &FileTask<InputPath<'_>>,
@@ -212,8 +226,39 @@ fn run_file_task<F: Gives + Drop, O: Open<F>, W: Takes, E: Write>(
     (status_of_run_end(&run_end), reported)
 }
 
-/// Compares solutions, and tells how that ended. The instance is opened in its place, and the
-/// certificate if one is named, and after them each solution in its own place.
+/// Checks a solution in some form, and reports how that ended.
+fn run_form_check<F: Gives + Drop, O: Open<F>, W: Takes, E: Write>(
+    task_run: &TaskRun<'_, F, O>,
+    check: FormCheck<'_>,
+    out: &mut Output<W>,
+    errors: &mut E,
+) -> (u8, io::Result<()>)
+    ensures { RunsJob (EndsFormCheck F.remaining F.gives (O.opens task_run.now.files.now) check.entry
+        (sink_of W.contents out.old out.new)) task_run.now.explain (E.contents errors.old) (E.contents errors.new) result }
+{
+    let alloc = task_run.alloc;
+    let texts = match texts_of(alloc, check, task_run.files) {
+        Ok(texts) => texts,
+        Err(fault) => return tell_solved(alloc, Err(fault), errors, task_run.explain),
+    };
+    let CheckedTexts { instance, written } = texts;
+    let judged = check_texts(alloc, check, &instance, &written, task_run.files, out);
+    drop(instance);
+    drop(written);
+    let run_end = RunEnd::Ended(outcome_of(judged));
+    let reported = tell_end(task_run, &run_end, out.error(), errors);
+    (status_of_run_end(&run_end), reported)
+}
+
+/// The outcome of a check.
+fn outcome_of(judged: Result<Judged, RunError>) -> Result<Outcome, RunError>
+    ensures { result ≡ outcome_of_check judged }
+{
+    Ok(Outcome::Judged(judged?))
+}
+
+/// Compares solutions, and reports how that ended. Opens the instance and the certificate, if one
+/// is named, and then one solution after the other.
 fn run_comparison<F: Gives + Drop, O: Open<F>, W: Takes, E: Write>(
     task_run: &TaskRun<'_, F, O>,
     comparison: &Comparison<'_, InputPath<'_>>,
@@ -236,8 +281,8 @@ fn run_comparison<F: Gives + Drop, O: Open<F>, W: Takes, E: Write>(
     (status_of_run_end(&run_end), reported)
 }
 
-/// Reports how a task ended, and explains it if that is wanted, with the system's words on a
-/// write that failed. If there is no memory for the explanation, it is left out.
+/// Reports how a task ended, with an explanation if one is wanted. `error` is the system's error of
+/// a failed write. If there is no memory for the explanation, it is left out.
 fn tell_end<F: Read + Drop, O: Open<F>, E: Write>(
     task_run: &TaskRun<'_, F, O>,
     run_end: &RunEnd,
@@ -283,9 +328,9 @@ fn texts<'a>(alloc: Global, words: &'a [String]) -> Result<Vec<&'a str>, AllocEr
     Ok(texts)
 }
 
-// ---- a task or a comparison with each file opened in its place
+// ---- a task or a comparison with its files opened
 
-/// The task with each file opened, and nothing read yet.
+/// The task with its files opened, and nothing read yet.
 fn opened<F: Read + Drop, O: Open<F>>(
     task: &FileTask<InputPath<'_>>,
     files: &O,
@@ -371,13 +416,13 @@ fn print_help<W: Takes>(
     }
 }
 
-// ---- the line for a person whose terminal is read, since no words were given
+// ---- the line that says that the terminal is read, because there were no words
 
-/// The line on a terminal that is read.
+/// The line for a user whose terminal is read.
 const WAITING: &str = "reading standard input; tsp --help tells more\n";
 
-/// Writes that standard input is read, if it is a terminal, as `reads_terminal` says, and no
-/// words follow the program's own name, which is the first of `line`. Else nothing is written.
+/// Writes that standard input is read, if it is a terminal (`reads_terminal`) and no words follow
+/// the program's own name, which is the first of `line`. Otherwise writes nothing.
 ///
 /// # Errors
 ///

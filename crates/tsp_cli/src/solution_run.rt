@@ -1,12 +1,13 @@
-//! The run of `tsp solution`: which solution a job asks for, and how it is read and written.
+//! The run of `tsp solution`: opens the files that a job asks for, and has tsp_solution read and
+//! write the solution. `running.rt` comes here for the verb `solution`. `specs/Solutions.antt` pins
+//! how it ends.
 
 ghost use Rattle.std.specs.Prelude.{◌≡◌, ◌↔◌, IsTrue, OnOk, Some};
 ghost use Rattle.tsp_cli.specs.Grammar.{text_in};
 ghost use Rattle.tsp_io.specs.states.Output.{sink_of};
-ghost use Rattle.tsp_solution.specs.SolutionRun.{IsSolutionRun};
-ghost use Rattle.tsp_cli.specs.ProgramRun.{EndsWith, RunsJob};
+ghost use Rattle.tsp_cli.specs.ProgramRun.{EndsWith, IsFresh, RunsJob};
 ghost use Rattle.tsp_cli.specs.RunEnd.{TellsAll, status_of_solved};
-ghost use Rattle.tsp_cli.specs.Solutions.{AreBothInput, GivesDepot, GivesForm, GivesNumbering, GivesSolution, IsInstanceAt, Lists};
+ghost use Rattle.tsp_cli.specs.Solutions.{AreBothInput, GivesDepot, GivesForm, GivesNumbering, GivesSolution, IsInstanceAt, IsInstanceOpened, IsWrittenAnew, Lists};
 ghost use Rattle.tsp_cli.specs.declared.ends.RunEnd.TheVariants.{Solved};
 ghost use Rattle.tsp_cli.specs.declared.job.Verb.TheVariants as verbs;
 
@@ -18,14 +19,14 @@ use std::alloc::Global;
 use std::io::{self, Write};
 use tsp_explain::push_lines;
 use tsp_format::MOST_NODES;
-use tsp_io::{Gives, Output, Takes, WriteFault, write_text};
+use tsp_io::{Gives, Output, Takes, Watched, write_text};
 use tsp_number::parse_whole;
 use tsp_solution::{
     Form, Hints, Numbering, SolutionFault, SolutionRunFault, table_of_forms, write_solution,
 };
 
-/// A solution that is to be written anew: its file, that of its instance if one is named, and what
-/// the words say of it.
+/// A solution to be rewritten: its file, the instance's if one is named, and what the words say
+/// about it.
 #[derive(Clone, Copy)]
 pub struct SolutionTask<'a> {
     pub solution: InputPath<'a>,
@@ -33,7 +34,7 @@ pub struct SolutionTask<'a> {
     pub hints: Hints,
 }
 
-/// The solution that a job asks for.
+/// The solution that a job asks to rewrite.
 ///
 /// # Errors
 ///
@@ -84,20 +85,23 @@ fn instance_of(path: &Option<String>) -> Option<InputPath<'_>>
     }
 }
 
-/// The form with a name, if there is a name.
-fn form_of(word: &Option<String>) -> Result<Option<Form>, TaskFault>
+/// The form with a name, if there is a name other than `auto`.
+pub(crate) fn form_of(word: &Option<String>) -> Result<Option<Form>, TaskFault>
     ensures { GivesForm word.now result }
 {
     let Some(word) = word else {
         return Ok(None);
     };
-    match Form::of_word(word) {
-        Some(form) => Ok(Some(form)),
-        None => Err(TaskFault::UnknownForm),
+    match word.as_str() {
+        "auto" => Ok(None),
+        name => match Form::of_word(name) {
+            Some(form) => Ok(Some(form)),
+            None => Err(TaskFault::UnknownForm),
+        },
     }
 }
 
-/// How nodes count whose first has the number of a word, if there is a word.
+/// How nodes are counted, if a word gives the number of the first one.
 fn numbering_of(word: &Option<String>) -> Result<Option<Numbering>, TaskFault>
     ensures { GivesNumbering word.now result }
 {
@@ -124,8 +128,8 @@ fn depot_of(word: &Option<String>) -> Result<Option<u32>, TaskFault>
     }
 }
 
-/// Writes the solution of a job, or lists the forms, and tells how that ended. The result is as that
-/// of `run`.
+/// Rewrites the solution of a job, or lists the forms, and reports how that ended. The result is
+/// like that of `run`.
 pub(crate) fn run_solution<F: Gives + Drop, O: Open<F>, W: Takes, E: Write>(
     alloc: Global,
     job: &Job,
@@ -139,10 +143,10 @@ pub(crate) fn run_solution<F: Gives + Drop, O: Open<F>, W: Takes, E: Write>(
         explain (E.contents errors.old) (E.contents errors.new) result }
 {
     if job.forms {
-        return end(alloc, list_forms(alloc, out), errors, explain);
+        return tell_solved(alloc, list_forms(out), errors, explain);
     }
     match solution_task_of(job) {
-        Ok(task) => end(alloc, solve(alloc, task, files, out), errors, explain),
+        Ok(task) => tell_solved(alloc, solve(alloc, task, files, out), errors, explain),
         Err(fault) => {
             let reported = tell_fault_of_job(alloc, fault, errors, explain);
             (status_of_run_end(&RunEnd::NoTask(fault)), reported)
@@ -150,38 +154,46 @@ pub(crate) fn run_solution<F: Gives + Drop, O: Open<F>, W: Takes, E: Write>(
     }
 }
 
-/// Opens the files of a solution, and writes it anew.
+/// Opens the files of a solution, and rewrites it.
 fn solve<F: Gives + Drop, O: Open<F>, W: Takes>(
     alloc: Global,
     task: SolutionTask<'_>,
     files: &O,
     out: &mut Output<W>,
 ) -> Result<(), SolutionRunFault>
-    ensures { IsSolutionRun (sink_of W.contents out.old out.new) result }
+    ensures { IsWrittenAnew F.remaining F.gives (IsFresh (O.opens files.now)) task.entry
+        (sink_of W.contents out.old out.new) result }
 {
     let mut solution = fresh(task.solution, files);
-    let mut instance = match task.instance {
-        Some(place) => Some(fresh(place, files)),
-        None => None,
-    };
+    let mut instance = opened_instance(task.instance, files);
     write_solution(alloc, &mut solution, &mut instance, task.hints, out)
 }
 
+/// Opens the file of the instance, if one is named.
+fn opened_instance<F: Gives + Drop, O: Open<F>>(
+    instance: Option<InputPath<'_>>,
+    files: &O,
+) -> Option<Watched<F>>
+    ensures { IsInstanceOpened (IsFresh (O.opens files.now)) instance.entry result }
+{
+    match instance {
+        Some(place) => Some(fresh(place, files)),
+        None => None,
+    }
+}
+
 /// Prints the table of the forms.
-fn list_forms<W: Takes>(alloc: Global, out: &mut Output<W>) -> Result<(), SolutionRunFault>
+fn list_forms<W: Takes>(out: &mut Output<W>) -> Result<(), SolutionRunFault>
     ensures { Lists (sink_of W.contents out.old out.new) result }
 {
-    let Ok(text) = table_of_forms(alloc) else {
-        return Err(SolutionRunFault::Write(WriteFault::OutOfMemory));
-    };
-    match write_text(out, &text) {
+    match write_text(out, table_of_forms().as_bytes()) {
         Ok(()) => Ok(()),
         Err(fault) => Err(SolutionRunFault::Write(fault)),
     }
 }
 
-/// Tells how a run ended, and explains a fault if that is wanted.
-fn end<E: Write>(
+/// Reports how a run ended, with an explanation of a fault if one is wanted.
+pub(crate) fn tell_solved<E: Write>(
     alloc: Global,
     solved: Result<(), SolutionRunFault>,
     errors: &mut E,
@@ -195,7 +207,7 @@ fn end<E: Write>(
     (status_of_run_end(&run_end), reported)
 }
 
-/// Tells how a run ended, and explains it.
+/// Reports and explains how a run ended.
 fn tell_end<E: Write>(
     alloc: Global,
     solved: Result<(), SolutionRunFault>,
@@ -211,7 +223,7 @@ fn tell_end<E: Write>(
     append(errors, explanation(alloc, solved))
 }
 
-/// What explains how a run ended, line by line.
+/// Explains line by line how a run ended.
 fn explanation(alloc: Global, solved: Result<(), SolutionRunFault>) -> Vec<u8> {
     let mut text = Vec::new(alloc);
     let _ = match solved {

@@ -1,4 +1,5 @@
--- Runs of `tsp bound`, `show` and `convert`, and instances that are open.
+-- For src/bound_run.rt, src/convert_run.rt and src/opened.rt: runs of `tsp bound`, `show` and `convert`, and instances
+-- that are open.
 use Rattle.tsp_judge.proofs.Prelude.{◌≡◌, ◌∙◌, length, Some, sym, Bool, true, false, Result, Ok, Err, refl, subst, inl, inr, Option, None, ℕ, List, IsTrue, ℤ, ReadTrace, IsUnread, Sink, IsUnwritten, Writes, Fields, IsFile, IsProblem, problem_of, routing_of, depots_of, bound_report_of, is_bound_yes, CertificateKind, AppliesToInstanceBy, AppliesToBounded, IsBoundVerdict, is_bounded, BoundsSolutionsBy, BoundsSolutions, HasNoSolutionBy, HasNoSolution, strict_reason}
 use Rattle.std.proofs.lemmas.Bool.{false≢true}
 use Rattle.tsp_io.specs.declared.piece.WriteFault.{WriteFault}
@@ -50,7 +51,7 @@ ends_unbounded strict by first second instance certificate sink (Relayout fault)
 
 -- ---- what an accepted bound says
 
--- there is one depot, where no reason applies
+-- there is one depot, if no reason applies
 depot_known : (by : CertificateKind) (instance certificate : Fields) → instance.kind ≡ Some kinds.Cvrp
     → ((reason : Reason) → AppliesToBounded by instance certificate reason → ⊥) → length (depots_of instance) ≡ 1
 depot_known by instance certificate cvrp none =

@@ -1,25 +1,24 @@
--- What a comparison has written after each solution, and what its lines mean.
-use Rattle.tsp_judge.proofs.Prelude.{◌≡◌, ◌||◌, ℕ, suc, ◌+◌, ◌<◌, ◌≤◌, List, [], ◌∷◌, ◌++◌, length, take, Option, true, false, Bool, refl, sym, ap, subst, ◌∙◌, append_assoc, append-nil, arith, inl, inr, add-one, ◌⊎◌, Appends-nil, Appends-trans, Appends-kept, max, Result, Ok, Err, IfOk, slice_index_or, Some, None, ℤ, IsTrue, ReadTrace, Sink, IsUnwritten, HasWritten, HasStopped, Writes, output_failed, sink_of, writer_of, read_trace_of, watched, has_failed, Fields, HasReads, IsReadOn, IsFile, most_taken, ReadFault, IsProblem, problem_of, routing_of, solution_line, IsSized, report_of, head_of, is_clear, is_yes, CertificateKind, AppliesToTouring, AppliesToRouting, AppliesToInstanceBy, AppliesToBounded, IsBoundVerdict, AppliesToCertificate, HasNoSolutionBy, IsCertifiedTourVerdict, IsCertifiedRoutesVerdict, IsCertifiedVerdictBy, IsCertifiedVerdict, IsKnownBound, IsVerdictFrom, IsJudgedWhole, strict_reason, IsKnownBoundAsked, IsKnownBoundAlone, IsKnownBoundBy, IsVerdictBy, IsVerdictWith}
+-- For src/compared.rt: what a comparison has written after each solution; and for src/laws.rt, what its lines mean.
+use Rattle.tsp_judge.proofs.Prelude.{◌≡◌, ◌||◌, ℕ, suc, ◌+◌, ◌<◌, ◌≤◌, List, [], ◌∷◌, ◌++◌, length, take, Option, true, false, Bool, refl, sym, ap, subst, ◌∙◌, append_assoc, append-nil, arith, inl, inr, add-one, ◌⊎◌, Appends-nil, Appends-trans, Appends-kept, max, Result, Ok, Err, IfOk, slice_index_or, Some, None, ℤ, IsTrue, ReadTrace, Sink, IsUnwritten, HasWritten, HasStopped, Writes, output_failed, sink_of, writer_of, read_trace_of, watched, has_failed, Fields, HasReads, IsReadOn, IsFile, most_taken, ReadFault, IsProblem, problem_of, routing_of, solution_line, IsSized, report_of, head_of, is_clear, is_yes, CertificateKind, AppliesToTouring, AppliesToRouting, AppliesToInstanceBy, AppliesToCertificate, HasNoSolutionBy, IsCertifiedTourVerdict, IsCertifiedRoutesVerdict, IsCertifiedVerdictBy, IsCertifiedVerdict, IsKnownBound, IsVerdictFrom, IsJudgedWhole, strict_reason, IsKnownBoundAsked, IsFoundWith, IsVerdictBy, IsVerdictWith}
 use Rattle.std.proofs.lemmas.Bool.{false≢true}
 use Rattle.std.specs.Io.KnownBytes.{Appends}
 use Rattle.std.specs.declared.io.Error.{Error}
 use Rattle.tsp_io.specs.declared.piece.WriteFault.{WriteFault}
 use Rattle.tsp_io.specs.declared.piece.WriteFault.TheVariants as write_faults
-use Rattle.tsp_io.specs.declared.output.Output.{Output}
+use Rattle.tsp_io.specs.declared.watched.Output.{Output}
 use Rattle.tsp_io.specs.declared.watched.Watched.{Watched}
 use Rattle.tsp_format.specs.declared.kinds.Kind.{Kind}
 use Rattle.tsp_format.specs.declared.kinds.Kind.TheVariants as kinds
 use Rattle.tsp_theory.specs.Tour.{BoundsTours, HasNoTour}
 use Rattle.tsp_routing.specs.PlanLinks.{BoundsPlans, HasNoPlan}
 use Rattle.tsp_report.specs.declared.verdict.KnownBound.{KnownBound}
-use Rattle.tsp_report.specs.declared.verdict.KnownBound.TheVariants as known_bounds
 use Rattle.tsp_report.specs.declared.verdict.BoundVerdict.TheVariants as bounds
 use Rattle.tsp_report.specs.declared.verdict.Reason.{Reason}
-use Rattle.tsp_report.specs.declared.verdict.Reason.TheVariants.{TooFewNodes, NotSymmetric, DepotCount, DepotDemand, FixedEdgesInRoutes}
 use Rattle.tsp_report.specs.declared.verdict.Verdict.{Verdict}
 use Rattle.tsp_report.specs.declared.verdict.Verdict.TheVariants as verdicts
-use Rattle.tsp_verdict.specs.Solutions.{tours_of, IsFirstReason, AppliesToRoutes, AppliesToTour}
+use Rattle.tsp_verdict.specs.Solutions.{tours_of}
 use Rattle.tsp_judge.proofs.Yeses.{sized, accepted, IsTspOrAtsp, type_of_tours, one_tour, only_routes}
+use Rattle.tsp_verdict.proofs.KnownBounds.{against_tour, against_routes}
 use Rattle.tsp_verdict.proofs.Unjudged.{clear_before, judged_whole}
 use Rattle.tsp_judge.specs.Accepted.{IsAccepted, IsBoundedTour, AreBoundedRoutes}
 use Rattle.tsp_judge.specs.CheckRun.{Given, IsUnreadIn, IsFileIn, ReadsFile, ReadsGiven}
@@ -58,7 +57,7 @@ unwritten_then contents a b c x h k = (h.0, k.1 ∙ h.1, Appends-kept _ _ _ x h.
 
 -- ---- one solution
 
--- the turn of a reader that was opened, and has not failed before
+-- the read trace of a reader that was opened, and has not failed before
 pub read_trace_at : {R : Type 0} (remaining : R → Option (List ℕ)) (gives : R → List ℕ → Result ℕ Error → List ℕ → R → Type 0) (opens : ℕ → R → Type 0) (place : ℕ) (reader : R)
     (old new : Watched R) (given : List ℕ) → opens place reader → watched old ≡ reader → has_failed old ≡ false → IsReadOn gives old new → length given ≤ most_taken
     → IsReadTraceAt remaining gives opens place (read_trace_of remaining old new given)
@@ -207,6 +206,15 @@ after_head contents a b c IsReadTrace paths common head (Err WrongKind) h k = ab
 after_head contents a b c IsReadTrace paths common head (Err (File file fault)) h k = absurd k
 after_head contents a b c IsReadTrace paths common head (Err (Relayout fault)) h k = absurd k
 
+-- the writer fails at the head
+pub head_stopped : (clear : Bool) (IsReadTrace : ℕ → ReadTrace → Type 0) (paths : List (List ℕ)) (common : ComparisonContext) (sink : Sink) (fault : WriteFault)
+    → Writes sink (head_of common.instance common.known_bound) (Err fault) → ComparesBy clear IsReadTrace paths common sink (Err (Write fault))
+head_stopped true IsReadTrace paths common sink write_faults.Device stops =
+    ([], tt, omega arith, subst (HasStopped sink) (sym (append-nil (head_of common.instance common.known_bound))) stops)
+head_stopped false IsReadTrace paths common sink write_faults.Device stops = stops
+head_stopped true IsReadTrace paths common sink write_faults.OutOfMemory stops = absurd stops
+head_stopped false IsReadTrace paths common sink write_faults.OutOfMemory stops = absurd stops
+
 -- ---- the files that are read once
 
 pub compare_first_stops : (strict : Bool) (IsReadTrace : ℕ → ReadTrace → Type 0) (paths : List (List ℕ)) (given : Given) (first : ReadTrace) (sink : Sink) (fault : RunFault) → ReadsFile 1 first (Err fault)
@@ -250,7 +258,7 @@ ends_comparing strict IsReadTrace paths given first common sink (Write fault) re
 ends_comparing strict IsReadTrace paths given first common sink OutOfMemory read c = inr (common, read, c)
 ends_comparing strict IsReadTrace paths given first common sink (Relayout fault) read c = inr (common, read, c)
 
--- where solutions are judged one by one, the known bound is the one without a look at lines that aren't judged
+-- if solutions are judged one by one, the known bound is the one without a look at lines that aren't judged
 pub clear_known_bound : (strict : Bool) (given : Option (CertificateKind × Fields)) (instance : Fields) (known_bound : KnownBound) → IsKnownBoundAsked strict given instance known_bound
     → is_clear known_bound ≡ true → IsKnownBound given instance known_bound
 clear_known_bound strict given instance known_bound asked clear =
@@ -366,13 +374,13 @@ bounded_line_of_routes common read_trace by certificate length bound count least
 
 -- ---- lines that aren't judged as a reason against all solutions
 
--- where all solutions are judged, so is every line of the instance
+-- if all solutions are judged, so is every line of the instance
 pub all_judged : (given : Option (CertificateKind × Fields)) (instance : Fields) (known_bound : KnownBound) → IsKnownBoundAsked true given instance known_bound
     → is_clear known_bound ≡ true → IsJudgedWhole instance
 all_judged given instance known_bound asked is =
     judged_whole true instance (clear_before (strict_reason true instance) asked.0 (sym (ap is_clear asked.2) ∙ is)).1 refl
 
--- and where none is judged, the head is the whole text
+-- and if none is judged, the head is the whole text
 pub none_judged : (clear : Bool) (IsReadTrace : ℕ → ReadTrace → Type 0) (paths : List (List ℕ)) (common : ComparisonContext) (sink : Sink) (status : ℕ)
     → (clear ≡ true → ⊥) → ComparesBy clear IsReadTrace paths common sink (Ok status)
     → HasWritten sink (head_of common.instance common.known_bound) × (status ≡ 1)
@@ -381,7 +389,7 @@ none_judged false IsReadTrace paths common sink status not by = by
 
 -- ---- the answer of a check
 
--- the first reason applies, and none where the solution is accepted
+-- the first reason applies, and none if the solution is accepted
 by_type : (kind : Option Kind) (instance solution : Fields) (accepted : Verdict) (reason : Reason) → is_yes accepted ≡ true → IsVerdictBy kind instance solution accepted
     → IsVerdictBy kind instance solution (verdicts.No reason) → ⊥
 by_type (Some kinds.Tsp) instance solution (verdicts.Tour length bound) reason is v refused = v.0 reason refused.applies
@@ -436,31 +444,19 @@ one_answer given instance solution (verdicts.Routes length routes least bound) (
 
 -- ---- a reason that applies whatever the solution
 
-against_tour : (instance solution : Fields) (reason : Reason) → AppliesToTouring instance reason → AppliesToTour instance solution reason
-against_tour instance solution TooFewNodes applies = applies
-against_tour instance solution (NotSymmetric i j) applies = applies
-against_tour instance solution reason applies = absurd applies
-
-against_routes : (instance solution : Fields) (reason : Reason) → AppliesToRouting instance reason → AppliesToRoutes instance solution reason
-against_routes instance solution TooFewNodes applies = applies
-against_routes instance solution DepotCount applies = applies
-against_routes instance solution DepotDemand applies = applies
-against_routes instance solution FixedEdgesInRoutes applies = applies
-against_routes instance solution reason applies = absurd applies
-
-none_alone : (kind : Option Kind) (instance solution : Fields) (reason : Reason) (verdict : Verdict) → IsKnownBoundAlone kind instance (known_bounds.No reason)
+none_alone : (kind : Option Kind) (instance solution : Fields) (reason : Reason) (verdict : Verdict) → AppliesToInstanceBy kind instance reason
     → IsVerdictBy kind instance solution verdict → is_yes verdict ≡ false
-none_alone (Some kinds.Tsp) instance solution reason (verdicts.Tour length bound) b v = absurd (v.0 reason (against_tour instance solution reason b.applies))
-none_alone (Some kinds.Tsp) instance solution reason (verdicts.Routes length routes least bound) b v = absurd v
-none_alone (Some kinds.Atsp) instance solution reason (verdicts.Tour length bound) b v = absurd (v.0 reason (against_tour instance solution reason b.applies))
-none_alone (Some kinds.Atsp) instance solution reason (verdicts.Routes length routes least bound) b v = absurd v
-none_alone (Some kinds.Cvrp) instance solution reason (verdicts.Tour length bound) b v = absurd v
-none_alone (Some kinds.Cvrp) instance solution reason (verdicts.Routes length routes least bound) b v = absurd (v.0 reason (against_routes instance solution reason b.applies))
-none_alone (Some kinds.Tour) instance solution reason verdict b v = absurd b
-none_alone (Some kinds.Potentials) instance solution reason verdict b v = absurd b
-none_alone (Some kinds.Branches) instance solution reason verdict b v = absurd b
-none_alone None instance solution reason verdict b v = absurd b
-none_alone kind instance solution reason (verdicts.No other) b v = refl
+none_alone (Some kinds.Tsp) instance solution reason (verdicts.Tour length bound) applies v = absurd (v.0 reason (against_tour instance solution reason applies))
+none_alone (Some kinds.Tsp) instance solution reason (verdicts.Routes length routes least bound) applies v = absurd v
+none_alone (Some kinds.Atsp) instance solution reason (verdicts.Tour length bound) applies v = absurd (v.0 reason (against_tour instance solution reason applies))
+none_alone (Some kinds.Atsp) instance solution reason (verdicts.Routes length routes least bound) applies v = absurd v
+none_alone (Some kinds.Cvrp) instance solution reason (verdicts.Tour length bound) applies v = absurd v
+none_alone (Some kinds.Cvrp) instance solution reason (verdicts.Routes length routes least bound) applies v = absurd (v.0 reason (against_routes instance solution reason applies))
+none_alone (Some kinds.Tour) instance solution reason verdict applies v = absurd v
+none_alone (Some kinds.Potentials) instance solution reason verdict applies v = absurd v
+none_alone (Some kinds.Branches) instance solution reason verdict applies v = absurd v
+none_alone None instance solution reason verdict applies v = absurd v
+none_alone kind instance solution reason (verdicts.No other) applies v = refl
 
 -- with a certificate, by the TYPE: the reason applies to each tour or to all routes, or to the certificate
 of_tours : (kind : Option Kind) (by : CertificateKind) (instance solution certificate : Fields) (reason : Reason) (verdict : Verdict)
@@ -491,44 +487,19 @@ none_certified (Some kinds.Potentials) by instance solution certificate reason v
 none_certified (Some kinds.Branches) by instance solution certificate reason verdict applies v = of_tours (Some kinds.Branches) by instance solution certificate reason verdict (λ s. s) applies v
 none_certified None by instance solution certificate reason verdict applies v = of_tours None by instance solution certificate reason verdict (λ s. s) applies v
 
--- a known bound with a reason, or without a solution, is what a bound without a solution says
-known_bound_refused : (kind : Option Kind) (by : CertificateKind) (instance certificate : Fields) (reason : Reason) → IsKnownBoundBy kind by instance certificate (known_bounds.No reason)
-    → IsFirstReason (AppliesToBounded by instance certificate) reason
-known_bound_refused (Some kinds.Tsp) by instance certificate reason b = b
-known_bound_refused (Some kinds.Atsp) by instance certificate reason b = b
-known_bound_refused (Some kinds.Cvrp) by instance certificate reason b = b
-known_bound_refused (Some kinds.Tour) by instance certificate reason b = b
-known_bound_refused (Some kinds.Potentials) by instance certificate reason b = b
-known_bound_refused (Some kinds.Branches) by instance certificate reason b = b
-known_bound_refused None by instance certificate reason b = b
+against_all : (given : Option (CertificateKind × Fields)) (instance solution : Fields) (reason : Reason) (verdict : Verdict)
+    → IsFoundWith given instance (Some (bounds.No reason)) → IsVerdictWith given None instance solution verdict → is_yes verdict ≡ false
+against_all None instance solution reason verdict b v = none_alone instance.kind instance solution reason verdict b.applies v
+against_all (Some given) instance solution reason verdict b v =
+    none_certified instance.kind given.0 instance solution given.1 reason verdict b.applies v
 
-known_bound_none : (kind : Option Kind) (by : CertificateKind) (instance certificate : Fields) → IsKnownBoundBy kind by instance certificate known_bounds.NoSolution
-    → IsBoundVerdict by instance certificate bounds.NoSolution
-known_bound_none (Some kinds.Tsp) by instance certificate b = b
-known_bound_none (Some kinds.Atsp) by instance certificate b = b
-known_bound_none (Some kinds.Cvrp) by instance certificate b = b
-known_bound_none (Some kinds.Tour) by instance certificate b = b
-known_bound_none (Some kinds.Potentials) by instance certificate b = b
-known_bound_none (Some kinds.Branches) by instance certificate b = b
-known_bound_none None by instance certificate b = b
-
-pub none_accepted : (given : Option (CertificateKind × Fields)) (instance solution : Fields) (reason : Reason) (verdict : Verdict) → IsKnownBound given instance (known_bounds.No reason)
+pub none_accepted : (given : Option (CertificateKind × Fields)) (instance solution : Fields) (known_bound : KnownBound) (reason : Reason)
+    (verdict : Verdict) → IsKnownBound given instance known_bound → known_bound.found ≡ Some (bounds.No reason)
     → IsVerdictWith given None instance solution verdict → is_yes verdict ≡ false
-none_accepted None instance solution reason verdict b v = none_alone instance.kind instance solution reason verdict b.1 v
-none_accepted (Some given) instance solution reason verdict b v =
-    let first = known_bound_refused instance.kind given.0 instance given.1 reason b.1 in
-    none_certified instance.kind given.0 instance solution given.1 reason verdict first.applies v
+none_accepted given instance solution known_bound reason verdict b is v =
+    against_all given instance solution reason verdict (subst (IsFoundWith given instance) is b.1.1) v
 
 -- ---- an instance without tours
-
-no_known_bound_alone : (kind : Option Kind) (instance : Fields) → IsKnownBoundAlone kind instance known_bounds.NoSolution → ⊥
-no_known_bound_alone (Some kinds.Tsp) instance b = b
-no_known_bound_alone (Some kinds.Atsp) instance b = b
-no_known_bound_alone (Some kinds.Cvrp) instance b = b
-no_known_bound_alone (Some kinds.Tour) instance b = b
-no_known_bound_alone (Some kinds.Potentials) instance b = b
-no_known_bound_alone (Some kinds.Branches) instance b = b
-no_known_bound_alone None instance b = b
 
 tours_without : (by : CertificateKind) (instance solution certificate : Fields) (verdict : Verdict) → HasNoTour (problem_of instance)
     → IsCertifiedTourVerdict by instance solution certificate verdict → is_yes verdict ≡ false
@@ -553,9 +524,14 @@ without_by (Some kinds.Potentials) by instance solution certificate verdict none
 without_by (Some kinds.Branches) by instance solution certificate verdict none v = tours_without by instance solution certificate verdict none v
 without_by None by instance solution certificate verdict none v = tours_without by instance solution certificate verdict none v
 
-pub none_without_tours : (given : Option (CertificateKind × Fields)) (instance solution : Fields) (verdict : Verdict) → IsKnownBound given instance known_bounds.NoSolution
+without_all : (given : Option (CertificateKind × Fields)) (instance solution : Fields) (verdict : Verdict)
+    → IsFoundWith given instance (Some bounds.NoSolution) → IsVerdictWith given None instance solution verdict → is_yes verdict ≡ false
+without_all None instance solution verdict b v = absurd b
+without_all (Some given) instance solution verdict b v =
+    without_by instance.kind given.0 instance solution given.1 verdict b.2 v
+
+pub none_without_tours : (given : Option (CertificateKind × Fields)) (instance solution : Fields) (known_bound : KnownBound) (verdict : Verdict)
+    → IsKnownBound given instance known_bound → known_bound.found ≡ Some bounds.NoSolution
     → IsVerdictWith given None instance solution verdict → is_yes verdict ≡ false
-none_without_tours None instance solution verdict b v = absurd (no_known_bound_alone instance.kind instance b.1)
-none_without_tours (Some given) instance solution verdict b v =
-    let found = known_bound_none instance.kind given.0 instance given.1 b.1 in
-    without_by instance.kind given.0 instance solution given.1 verdict found.2 v
+none_without_tours given instance solution known_bound verdict b is v =
+    without_all given instance solution verdict (subst (IsFoundWith given instance) is b.1.1) v

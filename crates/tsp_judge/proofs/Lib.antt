@@ -1,4 +1,5 @@
--- The files of lemmas of this crate. Crates above may import them.
+-- Lemmas on runs, by what they mean (Yeses), by their verb (Bounding, Comparing), and on certificates that may be named
+-- (NamedReaders). Proofs in tsp_c use some.
 mod Prelude
 pub mod Bounding
 pub mod Comparing

@@ -1,4 +1,5 @@
--- What the proofs of this crate use most of other crates, passed on from one place.
+-- Names of other crates, passed on to the files of this crate alone. It defines nothing: add or remove names freely;
+-- `tests/repository/names` sees that each is imported from here.
 pub use Rattle.std.proofs.Common.{Bool, Err, List, None, Ok, Option, Some, add-one, ap, append-nil, append_assoc, arith, eqb, false, inl, inr, length, refl, rules, subst, subst₂, suc, sym, take, true, ℕ, [], ◌++◌, ◌+◌, ◌<◌, ◌||◌, ◌∙◌, ◌∷◌, ◌≡◌, ◌≢◌, ◌⊎◌}
 pub use Rattle.std.proofs.KnownBytes.{Appends-kept, Appends-nil, Appends-trans, Keeps-refl}
 pub use Rattle.std.specs.Prelude.{IfOk, IsTrue, Result, codes, if◌then◌else◌, max, negsuc, pos, slice_index_or, unsigned_abs, unwrap_or, ℤ, ◌^◌, ◌≤ℤ◌, ◌≤◌}
@@ -15,5 +16,5 @@ pub use Rattle.tsp_report.specs.Report.{IsGapSized, IsSized, bound_report_of, he
 pub use Rattle.tsp_report.specs.Verdicts.{is_bound_yes, is_clear, is_yes}
 pub use Rattle.tsp_report.specs.declared.task.CertificateKind.{CertificateKind}
 pub use Rattle.tsp_verdict.specs.Certified.{AppliesToBounded, AppliesToCertificate, AppliesToCertificateBy, AppliesToInstanceBy, AppliesToRouting, AppliesToTouring, BoundsSolutions, BoundsSolutionsBy, HasNoSolution, HasNoSolutionBy, IsBoundFitting, IsBoundVerdict, IsCertifiedRoutesVerdict, IsCertifiedTourVerdict, IsCertifiedVerdict, IsCertifiedVerdictBy, is_bounded, kind_of}
-pub use Rattle.tsp_verdict.specs.SolutionVerdict.{HasLength, IsAsClaimed, IsKnownBound, IsKnownBoundAlone, IsKnownBoundAsked, IsKnownBoundBy, IsUnclaimedVerdict, IsVerdictAsked, IsVerdictBy, IsVerdictFrom, IsVerdictWith, is_judged}
+pub use Rattle.tsp_verdict.specs.SolutionVerdict.{HasLength, IsAsClaimed, IsFoundWith, IsKnownBound, IsKnownBoundAsked, IsUnclaimedVerdict, IsVerdictAsked, IsVerdictBy, IsVerdictFrom, IsVerdictWith, is_judged}
 pub use Rattle.tsp_verdict.specs.Strict.{IsJudgedWhole, strict_known_bound, strict_reason, strict_verdict}

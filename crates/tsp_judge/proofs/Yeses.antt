@@ -1,4 +1,4 @@
--- What a run that ends with `yes` means for the files that it has read.
+-- For src/check.rt and src/bound_run.rt: what a run that ends with `yes` means for the files that it has read.
 use Rattle.tsp_judge.proofs.Prelude.{◌≡◌, Result, Ok, ℕ, [], length, Bool, true, false, Option, Some, None, Err, refl, sym, subst, inl, inr, arith, ◌≢◌, ◌<◌, eqb, List, ◌∷◌, ap, ◌∙◌, ℤ, pos, negsuc, ◌≤◌, ◌^◌, unsigned_abs, ◌⊎◌, ◌≤ℤ◌, IsTrue, unwrap_or, if◌then◌else◌, ReadTrace, IsUnread, Sink, IsUnwritten, Fields, nodes_of, IsFile, most_taken, IsProblem, depot_of, problem_of, routing_of, depots_of, IsGapSized, IsSized, report_of, is_yes, CertificateKind, is_bounded, IsBoundFitting, IsCertifiedTourVerdict, IsCertifiedRoutesVerdict, IsCertifiedVerdictBy, kind_of, AppliesToCertificateBy, AppliesToCertificate, IsCertifiedVerdict, is_judged, IsVerdictBy, IsUnclaimedVerdict, IsVerdictWith, strict_verdict, IsVerdictAsked, HasLength, IsAsClaimed, strict_reason}
 use Rattle.std.proofs.lemmas.Bool.{false≢true, cases_lt}
 use Rattle.std.proofs.lemmas.Bool.Decides.{eqb_tells}
@@ -85,7 +85,7 @@ sized certificate (Some claim) instance solution (verdicts.Tour length bound) v 
 sized certificate (Some claim) instance solution (verdicts.Routes length routes least bound) v = unclaimed certificate instance solution (verdicts.Routes length routes least bound) v.0
 sized certificate (Some claim) instance solution (verdicts.No reason) v = tt
 
--- where lines that aren't judged are a reason too
+-- if lines that aren't judged are a reason too
 pub asked_sized : (strict : Bool) (certificate : Option (CertificateKind × Fields)) (claimed : Option ℤ) (instance solution : Fields) (verdict : Verdict)
     → IsVerdictAsked strict certificate claimed instance solution verdict → IsSized verdict
 asked_sized strict certificate claimed instance solution verdict asked =
@@ -281,7 +281,7 @@ served_by_none problem some plan = by_depot (eqb_tells problem.depot 1)
     by_depot (inl first) = none_served 2 ((omega arith, some), λ is. omega (arith, is, first.1))
     by_depot (inr other) = none_served 1 ((omega arith, omega (arith, some)), λ is. other.1 (sym is))
 
--- one depot, where no reason applies
+-- one depot, if no reason applies
 pub one_depot : (count : ℕ) → (count ≢ 1 → ⊥) → count ≡ 1
 one_depot count not = by_test (eqb_tells count 1)
   where

@@ -12,8 +12,8 @@ use Rattle.tsp_report.specs.declared.verdict.BoundVerdict.{BoundVerdict}
 use Rattle.tsp_report.specs.declared.verdict.BoundVerdict.TheVariants.{Bound, NoSolution, No}
 use Rattle.tsp_report.specs.declared.verdict.Verdict.TheVariants.{Tour, Routes}
 
--- The solution's one tour visits every node of the instance once and uses every fixed edge. Its length is the claimed
--- one, where one is claimed.
+-- The solution's only tour visits every node of the instance once and uses every fixed edge. If a length is claimed, it
+-- is the tour's.
 pub record IsOnlyTour (claimed : Option ℤ) (instance solution : Fields) (problem : Problem) (tour : List ℕ) : Type 0 where
   pub of_instance : IsProblemOf instance problem
   pub solution_type : solution.kind ≡ Some kinds.Tour
@@ -29,7 +29,7 @@ pub record IsAcceptedTour (claimed : Option ℤ) (instance solution : Fields) (r
   pub printed : report ≡ report_of instance (Tour (length_of problem.cost tour) None)
 
 -- The solution's routes serve every customer of the instance once and within the capacity. `least` is the least number
--- of routes that carry all demands: no plan of routes has fewer. Their length is the claimed one, where one is claimed.
+-- of routes that carry all demands: no plan of routes has fewer. If a length is claimed, it is that of the routes.
 pub record AreOnlyRoutes (claimed : Option ℤ) (instance solution : Fields) (problem : RoutingProblem) (routes : List (List ℕ))
     (least : ℕ) : Type 0 where
   pub of_instance : IsRoutingOf instance problem
@@ -49,7 +49,7 @@ pub record AreAcceptedRoutes (claimed : Option ℤ) (instance solution : Fields)
   pub printed : report ≡ report_of instance (Routes (plan_length problem.cost problem.depot routes) (length routes) least None)
 
 -- A tour with a certificate: it is the solution's only one; its length and the certificate's bound are printed. No tour
--- of the instance is shorter than the bound, so that where the length equals it no tour is shorter than this one.
+-- of the instance is shorter than the bound. So if the length equals the bound, no tour is shorter than this one.
 pub record IsTourWithBound (by : CertificateKind) (claimed : Option ℤ) (instance solution certificate : Fields) (report : List ℕ)
     : Type 0 where
   pub problem : Problem
@@ -63,8 +63,8 @@ pub record IsTourWithBound (by : CertificateKind) (claimed : Option ℤ) (instan
   pub optimal : length_of problem.cost tour ≡ bound → (other : List ℕ) → IsTour problem other
       → length_of problem.cost tour ≤ℤ length_of problem.cost other
 
--- Routes with a certificate: its bound is printed too. No plan of the instance whose routes each have a customer is
--- shorter than the bound. So where the length equals it, no such plan is shorter than this one, which is such a plan.
+-- Routes with a certificate: its bound is printed too. No plan of the instance without empty routes is shorter than the
+-- bound. So if the length equals the bound, no such plan is shorter than this one, which has no empty routes either.
 pub record AreRoutesWithBound (by : CertificateKind) (claimed : Option ℤ) (instance solution certificate : Fields) (report : List ℕ)
     : Type 0 where
   pub problem : RoutingProblem
@@ -81,7 +81,7 @@ pub record AreRoutesWithBound (by : CertificateKind) (claimed : Option ℤ) (ins
   pub optimal : plan_length problem.cost problem.depot routes ≡ bound → (other : List (List ℕ)) → IsFilledPlan problem other
       → plan_length problem.cost problem.depot routes ≤ℤ plan_length problem.cost problem.depot other
 
--- no tour of the instance is shorter than the bound, or no plan whose routes each have a customer
+-- no tour of the instance, or no plan without empty routes, is shorter than the bound
 abbrev pub BoundsAll : Fields → ℤ → Type 0
 BoundsAll instance bound = ((problem : Problem) × IsProblemOf instance problem × BoundsTours problem bound)
     ⊎ ((problem : RoutingProblem) × IsRoutingOf instance problem × BoundsPlans problem bound)
@@ -120,7 +120,7 @@ IsAcceptedAlone by instance certificate (No reason) report = ⊥
 
 -- ---- the meaning of the length and the bound on a line of `tsp compare`
 
--- The solution's one tour visits every node of the instance once, uses every fixed edge, and has this length. No tour
+-- The solution's only tour visits every node of the instance once, uses every fixed edge, and has this length. No tour
 -- of the instance is shorter than the bound.
 pub record IsBoundedTour (instance solution : Fields) (length_is bound : ℤ) : Type 0 where
   pub problem : Problem
@@ -131,8 +131,8 @@ pub record IsBoundedTour (instance solution : Fields) (length_is bound : ℤ) : 
   pub measured : length_is ≡ length_of problem.cost tour
   pub below_tours : (other : List ℕ) → IsTour problem other → bound ≤ℤ length_of problem.cost other
 
--- The solution's routes serve every customer of the instance once and within the capacity, each route has a customer, and
--- the routes have this length. No plan of the instance whose routes each have a customer is shorter than the bound.
+-- The solution's routes serve every customer of the instance once and within the capacity, none of them is empty, and
+-- they have this length. No plan of the instance without empty routes is shorter than the bound.
 pub record AreBoundedRoutes (instance solution : Fields) (length_is bound : ℤ) : Type 0 where
   pub problem : RoutingProblem
   pub of_instance : IsRoutingOf instance problem

@@ -1,5 +1,6 @@
 -- Circle 2 of docs/trust.md.
--- A run of `tsp bound`: the files that are read, the bound, the report, and the meaning of its line `yes`.
+-- A run of `tsp bound`: the files that are read, the bound, the report, and what its line `yes` means (`SaysBound`).
+-- `run_bound` in src/bound_run.rt promises `IsBoundRunOf`.
 use Rattle.tsp_judge.specs.Prelude.{ℕ, List, Bool, true, false, Result, Ok, Err, IsTrue, ReadTrace, IsUnread, Sink, IsUnwritten, HasWritten, HasStopped, Fields, IsFile, StopsAt, bound_report_of, is_bound_yes, CertificateKind, NoneAgainstInstance, is_bounded, NoneWithoutMemory, IsBoundAsked, IsJudgedWhole}
 use Rattle.std.specs.Prelude.{◌≡◌, ◌⊎◌}
 use Rattle.tsp_io.specs.declared.piece.WriteFault.TheVariants as write_faults
@@ -11,9 +12,9 @@ use Rattle.tsp_judge.specs.declared.run_status.RunFault.TheVariants.{File, Wrong
 use Rattle.tsp_judge.specs.CheckRun.{IsSomeFile}
 
 -- The result for an instance and a certificate that were read. Ok: this is the bound, or the first reason against them,
--- and the whole report was written. WrongKind: tours of the instance have no bound by such a certificate. OutOfMemory:
--- no reason applies to the instance, nor one to the certificate that is found without memory. Of both nothing is
--- written. Where the writer fails, a prefix of the report was written.
+-- and the whole report was written. WrongKind: the certificate can't bound solutions of the instance's TYPE.
+-- OutOfMemory: no reason applies to the instance, and none that is found without memory applies to the certificate. In
+-- these two cases nothing is written. If the writer fails, a prefix of the report was written.
 abbrev pub BoundsFiles : CertificateKind → Bool → Fields → Fields → Sink → Result BoundVerdict RunFault → Type 0
 BoundsFiles by strict instance certificate sink (Ok found) = IsTrue (is_bounded by instance.kind)
     × IsBoundAsked strict by instance certificate found
@@ -26,7 +27,8 @@ BoundsFiles by strict instance certificate sink (Err (Write write_faults.Device)
     × HasStopped sink (bound_report_of instance found))
 BoundsFiles by strict instance certificate sink (Err other) = ⊥
 
--- Why a run has no bound and no reason. The first file that isn't valid decides, in order, and nothing is written then.
+-- Why a run has no bound and no reason. The first file, in order, that isn't valid ends the run, and then nothing is
+-- written.
 abbrev pub EndsUnbounded : CertificateKind → Bool → ReadTrace → ReadTrace → Sink → RunFault → Type 0
 EndsUnbounded by strict first second sink (File file fault) = IsUnwritten sink
     × (((file ≡ 1) × StopsAt fault first × IsUnread second)
@@ -40,8 +42,8 @@ IsBoundRun by strict first second sink (Ok bounded) = IsFile first bounded.insta
     × BoundsFiles by strict bounded.instance bounded.certificate sink (Ok bounded.found)
 IsBoundRun by strict first second sink (Err fault) = EndsUnbounded by strict first second sink fault
 
--- At `yes` the bytes that were read parse to these files, the whole report was written, and it means that the bound is
--- one. Where lines that aren't judged are a reason, each is judged.
+-- At `yes`, the bytes that were read parse to these files, the whole report was written, and it means that the bound
+-- holds. With `strict`, the verdict ignores no line of the instance.
 pub record SaysBound (by : CertificateKind) (strict : Bool) (first second : ReadTrace) (sink : Sink) (found : BoundVerdict) : Type 0 where
   pub instance : Fields
   pub certificate : Fields

@@ -1,5 +1,6 @@
 -- Circle 2 of docs/trust.md.
--- A run of `tsp check`: the files that are read, the verdict, the report, and the meaning of its line `yes`.
+-- A run of `tsp check`: the files that are read, the verdict, the report, and what its line `yes` means (`SaysYes`).
+-- `run` in src/check.rt promises `IsRunOf`.
 use Rattle.tsp_judge.specs.Prelude.{ℕ, List, Bool, true, false, Result, Ok, Err, Option, None, Some, IsTrue, ℤ, ReadTrace, IsUnread, Sink, IsUnwritten, HasWritten, HasStopped, Fields, IsFile, StopsAt, report_of, is_yes, CertificateKind, Verdict, is_judged, NoneBeforeRepeatsOn, IsVerdictAsked, TakesAtMost, read_trace_of, most_taken, IsReadOn, IsJudgedWhole}
 use Rattle.std.specs.Prelude.{◌≡◌, ◌⊎◌}
 use Rattle.tsp_io.specs.declared.piece.WriteFault.TheVariants as write_faults
@@ -23,11 +24,11 @@ ReadsFile number read_trace (Ok file) = IsFile read_trace file
 ReadsFile number read_trace (Err (File place fault)) = (place ≡ number) × StopsAt fault read_trace
 ReadsFile number read_trace (Err other) = ⊥
 
--- A certificate may be given, with the turn of its reader.
+-- A certificate, if one is given, and the read trace of its reader.
 abbrev pub Given : Type 0
 Given = Option (CertificateKind × ReadTrace)
 
--- Q of the certificate that is named and the turn of its reader, or of none
+-- Q holds for the certificate and the read trace of its reader, or for None if no certificate is named.
 abbrev pub TakesNamed : {R : Type 0} → (R → Option (List ℕ)) → Option (CertificateKind × Watched R) → Option (CertificateKind × Watched R)
     → (Given → Type 0) → Type 0
 TakesNamed remaining None None Q = Q None
@@ -35,7 +36,7 @@ TakesNamed remaining (Some named) (Some left) Q = TakesAtMost most_taken (read_t
     (λ read_trace. Q (Some (named.0, read_trace)))
 TakesNamed remaining _ _ Q = ⊥
 
--- Where a certificate is named, some reads were asked of its reader, which has failed where the last read has.
+-- If a certificate is named, its reader was asked some reads, and has failed if the last read failed.
 abbrev pub IsNamedReadOn : {R : Type 0} → (R → List ℕ → Result ℕ Error → List ℕ → R → Type 0) → Option (CertificateKind × Watched R)
     → Option (CertificateKind × Watched R) → Type 0
 IsNamedReadOn gives None None = Unit {0}
@@ -76,9 +77,10 @@ IsFaultOfRun given first second file fault = ((file ≡ 1) × StopsAt fault firs
 
 -- ---- the verdict
 
--- The result for files that were read. Ok: this is the verdict, and the whole report was written. WrongKind: solutions
--- of the instance's TYPE aren't judged so. OutOfMemory: none of the reasons applies that are found without memory. Of
--- both nothing is written, and writing takes no memory. Where the writer fails, a prefix of the report was written.
+-- The result for files that were read. Ok: this is the verdict, and the whole report was written. WrongKind: the
+-- certificate can't bound solutions of the instance's TYPE. OutOfMemory: no reason applies that is found without
+-- memory. In these two cases nothing is written. If the writer fails, a prefix of the report was written. Writing takes
+-- no memory.
 abbrev pub JudgesFiles : Option (CertificateKind × Fields) → Option ℤ → Bool → Fields → Fields → Sink → Result Verdict RunFault
     → Type 0
 JudgesFiles certificate claimed strict instance solution sink (Ok verdict) = IsTrue (is_judged certificate instance.kind)
@@ -101,7 +103,7 @@ WritesReport sink report (Err other) = ⊥
 
 -- ---- the run
 
--- Why a run has no verdict. The first file, in order, that isn't valid decides, and then nothing is written.
+-- Why a run has no verdict. The first file, in order, that isn't valid ends the run, and then nothing is written.
 abbrev pub EndsWithout : Given → Option ℤ → Bool → ReadTrace → ReadTrace → Sink → RunFault → Type 0
 EndsWithout given claimed strict first second sink (File file fault) = IsUnwritten sink × IsFaultOfRun given first second file fault
 EndsWithout given claimed strict first second sink fault = (instance solution : Fields) × (certificate : Option (CertificateKind × Fields))
@@ -123,15 +125,15 @@ IsCheckAnswer given claimed strict first second sink (Ok answer) = (instance sol
     × JudgesFiles certificate claimed strict instance solution sink (Ok verdict) × (answer ≡ is_yes verdict)
 IsCheckAnswer given claimed strict first second sink (Err fault) = EndsWithout given claimed strict first second sink fault
 
--- whether the solution is accepted, where there is a verdict
+-- whether the solution is accepted, if there is a verdict
 abbrev pub acceptance : Result Judged RunFault → Result Bool RunFault
 acceptance (Ok judged) = Ok (is_yes judged.verdict)
 acceptance (Err fault) = Err fault
 
 -- ---- the meaning of the line `yes`
 
--- At `yes` the bytes that were read parse to these files, the whole report was written, and it means that the solution
--- is accepted. Where lines that aren't judged are a reason, each is judged.
+-- At `yes`, the bytes that were read parse to these files, the whole report was written, and it means that the solution
+-- is accepted. With `strict`, the verdict ignores no line of the instance.
 pub record SaysYes (given : Given) (claimed : Option ℤ) (strict : Bool) (first second : ReadTrace) (sink : Sink) : Type 0 where
   pub instance : Fields
   pub solution : Fields

@@ -1,5 +1,6 @@
 -- A run of `tsp compare`: an instance and a certificate that are read once, solutions that are opened, judged and
--- reported one after the other, and the lines that a follower gets.
+-- reported one after the other, and the lines that a follower gets. In no circle of docs/trust.md: what `optimal` in a
+-- line means is in Accepted.antt, and laws tie the two.
 use Rattle.tsp_judge.specs.Prelude.{ℕ, suc, max, Bool, true, false, List, [], length, Option, None, Some, Result, Ok, Err, IsTrue, slice_index_or, zero, ReadTrace, Sink, IsUnwritten, HasWritten, HasStopped, Fields, HasReads, IsFile, StopsAt, most_taken, IsProblem, head_of, solution_line, report_of, is_yes, is_clear, CertificateKind, Verdict, NoneOfKnownBoundWithoutMemory, HasKnownBound, is_judged, NoneBeforeRepeatsOn, IsVerdictWith, IsKnownBoundAsked}
 use Rattle.std.specs.Prelude.{◌≡◌, ◌≢◌, ◌⊎◌, ◌<◌, ◌≤◌, ◌∷◌, ◌++◌, ◌-◌}
 use Rattle.std.specs.declared.io.Error.{Error}
@@ -26,8 +27,8 @@ IsFaultOfCompare given first file fault = ((file ≡ 1) × StopsAt fault first �
 
 -- ---- one solution
 
--- the turn of a reader that was opened for the solution at this place, counted from 0; the reader has failed where its
--- last read returned an error
+-- the read trace of a reader that was opened for the solution at this place, counted from 0; the reader has failed if
+-- its last read returned an error
 pub record IsReadTraceAt {R : Type 0} (remaining : R → Option (List ℕ)) (gives : R → List ℕ → Result ℕ Error → List ℕ → R → Type 0)
     (opens : ℕ → R → Type 0) (place : ℕ) (read_trace : ReadTrace)
     : Type 0 where
@@ -38,15 +39,15 @@ pub record IsReadTraceAt {R : Type 0} (remaining : R → Option (List ℕ)) (giv
   pub asked : (count : ℕ) × (after : R) × HasReads gives count reader after read_trace.failed
   pub few : length read_trace.given ≤ most_taken
 
--- What is found of the solution that a reader delivers: the verdict of a check of the three files, and its meaning
--- where the solution is accepted; or the fault of the file.
+-- What is found about the solution that a reader delivers: the verdict of a check of the three files, and its meaning
+-- if the solution is accepted; or the fault of the file.
 abbrev pub IsFoundIn : ComparisonContext → ReadTrace → Result Verdict ReadFault → Type 0
 IsFoundIn common read_trace (Ok verdict) = (solution : Fields) × IsFile read_trace solution
     × IsVerdictWith common.certificate None common.instance solution verdict × HasKnownBound verdict common.known_bound
     × (is_yes verdict ≡ true → IsAccepted common.certificate None common.instance solution (report_of common.instance verdict))
 IsFoundIn common read_trace (Err fault) = StopsAt fault read_trace × (fault ≢ read_faults.OutOfMemory)
 
--- Memory is refused for the solution: to read it, or to judge it, and then no reason applies that is found without.
+-- Memory is refused for reading the solution, or for judging it; then no reason applies that is found without memory.
 abbrev pub IsRefusedIn : ComparisonContext → ReadTrace → Type 0
 IsRefusedIn common read_trace = StopsAt read_faults.OutOfMemory read_trace
     ⊎ ((solution : Fields) × IsFile read_trace solution × NoneBeforeRepeatsOn common.instance solution)
@@ -100,7 +101,7 @@ largest_status (found ∷ rest) = max (status_of_found found) (largest_status re
 
 -- The result for the solutions with these paths; `before` is the text before their lines. Ok: the line of each was
 -- written, and the result is the largest status. OutOfMemory: the lines of the solutions before were written, and
--- nothing else. Where the writer fails, a prefix of such a text was written.
+-- nothing else. If the writer fails, a prefix of such a text was written.
 abbrev pub ComparesAll : (ℕ → ReadTrace → Type 0) → List (List ℕ) → ComparisonContext → List ℕ → Sink → Result ℕ RunFault → Type 0
 ComparesAll IsReadTrace paths common before sink (Ok status) = (found : List (Result Verdict ReadFault))
     × AreFound IsReadTrace common 0 found × (length found ≡ length paths) × HasWritten sink (before ++ all_solution_lines found paths)
@@ -113,7 +114,7 @@ ComparesAll IsReadTrace paths common before sink (Err (Write write_faults.Device
     × AreFound IsReadTrace common 0 found × (length found ≤ length paths) × HasStopped sink (before ++ all_solution_lines found paths)
 ComparesAll IsReadTrace paths common before sink (Err other) = ⊥
 
--- Where a reason applies whatever the solution, the head of the comparison is the whole text.
+-- If a reason applies to every solution, the head of the comparison is the whole text.
 abbrev pub ComparesNone : List ℕ → Sink → Result ℕ RunFault → Type 0
 ComparesNone head sink (Ok status) = HasWritten sink head × (status ≡ 1)
 ComparesNone head sink (Err (Write write_faults.Device)) = HasStopped sink head
@@ -125,15 +126,14 @@ ComparesBy true IsReadTrace paths common sink ended =
     ComparesAll IsReadTrace paths common (head_of common.instance common.known_bound) sink ended
 ComparesBy false IsReadTrace paths common sink ended = ComparesNone (head_of common.instance common.known_bound) sink ended
 
--- the same, where the known bound is that of the instance and the certificate, with lines that aren't judged as a reason or
--- not
+-- the same; the known bound is that of the instance and the certificate, with or without `strict`
 abbrev pub ComparesOn : Bool → (ℕ → ReadTrace → Type 0) → List (List ℕ) → ComparisonContext → Sink → Result ℕ RunFault → Type 0
 ComparesOn strict IsReadTrace paths common sink ended = IsKnownBoundAsked strict common.certificate common.instance common.known_bound
     × ComparesBy (is_clear common.known_bound) IsReadTrace paths common sink ended
 
 -- ---- the run
 
--- the instance is of a TYPE that isn't judged so, or memory is refused for the bound
+-- the certificate can't bound solutions of the instance's TYPE, or memory is refused for the bound
 abbrev pub LacksKnownBound : Option (CertificateKind × Fields) → Fields → RunFault → Type 0
 LacksKnownBound certificate instance WrongKind = is_judged certificate instance.kind ≡ false
 LacksKnownBound certificate instance OutOfMemory = IsTrue (is_judged certificate instance.kind)
@@ -174,12 +174,12 @@ abbrev pub AreReported : {E : Type 0} → (ℕ → E → E → Type 0) → ℕ �
 AreReported tells zero old new = new ≡ old
 AreReported {E = E} tells (suc count) old new = (next : E) × AreReported tells count old next × tells count next new
 
--- of all lines, or of none where a reason applies whatever the solution
+-- of all lines, or of none if a reason applies whatever the solution
 abbrev pub AreAllReported : {E : Type 0} → Bool → (ℕ → E → E → Type 0) → ℕ → E → E → Type 0
 AreAllReported true tells count old new = AreReported tells count old new
 AreAllReported false tells count old new = new ≡ old
 
--- How many lines the follower gets at most where the comparison ends early. The line at which the writer fails, or
+-- How many lines the follower gets at most if the comparison ends early. The line at which the writer fails, or
 -- memory is refused, isn't among them. At another fault no solution is compared.
 abbrev pub most_reported : RunFault → ℕ → ℕ
 most_reported (Write fault) count = count - 1

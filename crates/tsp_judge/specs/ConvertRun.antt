@@ -1,4 +1,5 @@
--- Runs of `tsp show` and `tsp convert`.
+-- Runs of `tsp show` and `tsp convert`: the file that is read, and the bytes that are written. They print no `yes`, so
+-- this is in no circle of docs/trust.md.
 use Rattle.tsp_judge.specs.Prelude.{Result, Ok, Err, Option, None, Some, ReadTrace, Sink, IsUnwritten, HasWritten, HasStopped, Fields, IsFile, StopsAt}
 use Rattle.std.specs.Prelude.{◌≡◌}
 use Rattle.tsp_io.specs.declared.piece.WriteFault.TheVariants as write_faults
@@ -11,8 +12,8 @@ use Rattle.tsp_file.specs.Rules.{fault_of}
 use Rattle.tsp_file.specs.declared.relayout.RelayoutFault.{RelayoutFault}
 use Rattle.tsp_report.specs.Show.{shown}
 
--- The result of `show`. Ok: all its lines were written. Where the file isn't valid, nothing is written. Memory may be
--- lacking for reading; writing takes none. Where the writer fails, a prefix of the lines was written.
+-- The result of `show`. Ok: all its lines were written. If the file isn't valid, nothing is written. Memory may run out
+-- during reading; writing takes none. If the writer fails, a prefix of the lines was written.
 abbrev pub IsShowRun : ReadTrace → Sink → Result (Unit {0}) RunFault → Type 0
 IsShowRun read_trace sink (Ok done) = (file : Fields) × IsFile read_trace file × HasWritten sink (shown file)
 IsShowRun read_trace sink (Err (File place fault)) = (place ≡ 1) × StopsAt fault read_trace × IsUnwritten sink
@@ -21,7 +22,7 @@ IsShowRun read_trace sink (Err other) = ⊥
 
 -- ---- a run of `tsp convert`
 
--- The file in the wanted layout, or why it can't have it. Where no layout is wanted, it stays as it is.
+-- The file in the wanted layout, or why it can't have it. If no layout is wanted, it stays as it is.
 abbrev pub Becomes : Option Layout → Fields → Result Fields RelayoutFault → Type 0
 Becomes None old (Ok new) = new ≡ old
 Becomes None old (Err fault) = ⊥
@@ -35,9 +36,9 @@ pub record IsConverted (to : Option Layout) (read_trace : ReadTrace) (new : Fiel
   pub becomes : Becomes to old (Ok new)
   pub valid : fault_of new ≡ None
 
--- The result of a conversion. Ok: the canonical text of the new file was written. Where the file isn't valid, or can't
--- have the layout, nothing is written. Memory may be lacking for reading, or for the layout; writing takes none. Where
--- the writer fails, a prefix of the text was written.
+-- The result of a conversion. Ok: the canonical text of the new file was written. If the file isn't valid, or can't
+-- have the layout, nothing is written. Memory may run out during reading or for the layout; writing takes none. If the
+-- writer fails, a prefix of the text was written.
 abbrev pub IsConvertRun : Option Layout → ReadTrace → Sink → Result (Unit {0}) RunFault → Type 0
 IsConvertRun to read_trace sink (Ok done) = (new : Fields) × IsConverted to read_trace new × HasWritten sink (text_of new)
 IsConvertRun to read_trace sink (Err (File place fault)) = (place ≡ 1) × StopsAt fault read_trace × IsUnwritten sink

@@ -1,4 +1,5 @@
--- The files of definitions of this crate. Crates above may import them.
+-- Definitions of runs (CheckRun, BoundRun, CompareRun, ConvertRun, TaskRun, RunStatus), of open instances (Open), and
+-- of what `yes` means (Accepted). tsp_c and tsp_cli state their contracts by them.
 pub mod Prelude
 pub mod Accepted
 pub mod RunStatus

@@ -1,5 +1,5 @@
--- An instance that stays open between calls, and the results of opening it, binding a certificate to it, and judging a
--- solution, over the bytes of texts.
+-- An instance that stays open between calls: the results of opening it, binding a certificate to it, and judging a
+-- solution, all given as texts. src/opened.rt promises them, for the handles of tsp_c. In no circle of docs/trust.md.
 use Rattle.tsp_judge.specs.Prelude.{ℕ, false, List, Option, None, Some, Result, Ok, Err, IsTrue, ℤ, Fields, Reads, IsProblem, CertificateKind, Verdict, IsBoundVerdict, NoneAgainstInstance, is_bounded, NoneWithoutMemory, is_judged, NoneBeforeRepeatsOn, IsVerdictWith}
 use Rattle.std.specs.Prelude.{◌≡◌}
 use Rattle.tsp_file.specs.Rules.{is_instance}
@@ -8,12 +8,12 @@ use Rattle.tsp_report.specs.declared.verdict.BoundVerdict.{BoundVerdict}
 use Rattle.tsp_judge.specs.declared.run_status.RunFault.{RunFault}
 use Rattle.tsp_judge.specs.declared.run_status.RunFault.TheVariants.{File, WrongKind, OutOfMemory}
 
--- an instance, and the certificate that is bound to it, where one is
+-- an instance, and the certificate that is bound to it, if one is
 pub record Open : Type 0 where
   pub instance : Fields
   pub certificate : Option (CertificateKind × Fields)
 
--- ---- a text, which has this number among those of a call
+-- ---- a text, with its number in a fault
 
 -- the fault is the first one of the text with this number, or is that memory was refused
 abbrev pub IsTextFault : ℕ → List ℕ → RunFault → Type 0
@@ -33,7 +33,7 @@ pub record IsOpened (text : List ℕ) (opened : Open) : Type 0 where
   pub of_type : IsTrue (is_instance opened.instance.kind)
   pub alone : opened.certificate ≡ None
 
--- the text isn't valid, or is no instance
+-- the text isn't valid, or isn't an instance
 abbrev pub IsUnopened : List ℕ → RunFault → Type 0
 IsUnopened text WrongKind = (file : Fields) × ParsesTo text file × (is_instance file.kind ≡ false)
 IsUnopened text fault = IsTextFault 1 text fault
@@ -50,7 +50,7 @@ pub record IsBoundTo (by : CertificateKind) (text : List ℕ) (old new : Open) (
   pub of_type : IsTrue (is_bounded by old.instance.kind)
   pub judged : IsBoundVerdict by old.instance certificate found
 
--- The text isn't valid; or its certificate gives tours of the instance no bound; or memory was refused.
+-- The text isn't valid, its certificate can't bound solutions of the instance's TYPE, or memory was refused.
 abbrev pub IsUnbound : CertificateKind → List ℕ → Open → RunFault → Type 0
 IsUnbound by text opened WrongKind = (certificate : Fields) × ParsesTo text certificate
     × (is_bounded by opened.instance.kind ≡ false)

@@ -1,4 +1,5 @@
--- What the definitions and contracts of this crate use most of other crates, passed on from one place.
+-- Names of other crates, passed on to the files of this crate alone. It defines nothing: add or remove names freely;
+-- `tests/repository/names` sees that each is imported from here.
 pub use Rattle.std.specs.Prelude.{Bool, Err, IsTrue, List, MatchResult, None, Ok, Option, Result, Some, codes, decimal, false, length, max, option_map, pos, slice_index_or, suc, true, zero, ℕ, ℤ, []}
 pub use Rattle.tsp_cost.specs.Problems.{IsProblem, IsProblemOf, IsRoutingOf}
 pub use Rattle.tsp_file.specs.Fields.{Fields}

@@ -1,4 +1,5 @@
--- A task done on its readers, and solutions compared by a task's readers.
+-- A task that is run on its readers, and a comparison. It only combines what the other files here say about each run;
+-- tsp_cli states its contracts by it. In no circle of docs/trust.md.
 use Rattle.tsp_judge.specs.Prelude.{ℕ, List, Bool, true, Result, Ok, Err, Option, Sink, is_yes, is_bound_yes, TakesAtMost, read_trace_of, most_taken, IsReadOn}
 use Rattle.std.specs.Prelude.{◌≡◌}
 use Rattle.tsp_judge.specs.declared.bound_run.Bounded.{Bounded}
@@ -59,7 +60,7 @@ IsDone remaining (Bound instance certificate strict) (Bound instance_left certif
     × IsBoundRunOf certificate.0 strict first second sink ended))
 IsDone remaining _ _ sink outcome = ⊥
 
--- Some reads were asked of each reader of a task, which has failed where the last read has.
+-- Each reader of a task was asked some reads, and has failed if the last read failed.
 abbrev pub AreReadOn : {R : Type 0} → (R → List ℕ → Result ℕ Error → List ℕ → R → Type 0) → FileTask (Watched R) → FileTask (Watched R) → Type 0
 AreReadOn gives (Show file) (Show left) = IsReadOn gives file left
 AreReadOn gives (Convert file to) (Convert left same) = IsReadOn gives file left
@@ -71,13 +72,13 @@ AreReadOn gives (Bound instance certificate strict) (Bound instance_left certifi
     × IsReadOn gives certificate.1 certificate_left.1
 AreReadOn gives _ _ = ⊥
 
--- the same of the readers of a comparison, without those of the solutions
+-- the same for the readers of a comparison, without those of the solutions
 abbrev pub AreComparedOn : {R : Type 0} → (R → List ℕ → Result ℕ Error → List ℕ → R → Type 0) → Comparison (Watched R)
     → Comparison (Watched R) → Type 0
 AreComparedOn gives old new = IsReadOn gives old.instance new.instance × IsNamedReadOn gives old.certificate new.certificate
 
--- The solutions are compared with these readers: that of the instance, and that of the certificate where one is named.
--- The reader of each solution is one that opening its index gives.
+-- The solutions are compared with these readers: that of the instance, and that of the certificate, if there is one.
+-- The reader of each solution comes from opening its index.
 abbrev pub IsCompared : {R : Type 0} → (R → Option (List ℕ)) → (R → List ℕ → Result ℕ Error → List ℕ → R → Type 0)
     → (ℕ → R → Type 0) → List (List ℕ) → Comparison (Watched R) → Comparison (Watched R) → Sink → Result Compared RunFault → Type 0
 IsCompared remaining gives opens names old new sink answer = TakesAtMost most_taken (read_trace_of remaining old.instance new.instance)

@@ -1,6 +1,5 @@
-//! The calls for other programs, as example_check makes them: `run_check` and the like. Each is a
-//! case of the run of a verb, such as `run` in `check.rt`, and its fault is a plain `RunFault`.
-//! Also the runs of a check and a comparison without a certificate.
+//! Calls for other Rattle programs, such as `run_check`. Each is a special case of a verb's run,
+//! such as `run` in `check.rt`, and returns its fault as a plain `RunFault`.
 
 ghost use Rattle.tsp_judge.specs.Prelude.{None, Some, false, TakesAtMost, FailsByWrite, sink_of, read_trace_of, IsReadOn, most_taken};
 ghost use Rattle.std.specs.Prelude.{◌≡◌};
@@ -18,17 +17,17 @@ use tsp_verdict::CertificateKind;
 
 /// Judges a solution of an instance, and writes the report.
 ///
-/// The result is `true` if the solution is a tour of the instance, or for TYPE CVRP a plan of
-/// routes, and `false` if the report has the line `no` with its first reason; the whole report
-/// was written then. Each file is read whole before the next, and the first file that is none
-/// decides. Nothing is written before the verdict exists.
+/// Returns `true` if the solution is a tour of the instance, or, for a CVRP, a plan of routes, and
+/// `false` if the report has the line `no` with the first reason. In both cases the whole report
+/// was written. Each file is read completely before the next. The first one that isn't valid ends
+/// the run. Nothing is written before the verdict exists.
 ///
 /// # Errors
 ///
-/// `File` if a file is none, or can't be read; `WrongKind` if both are files and the first is
-/// of TYPE TOUR, POTENTIALS or BRANCHES; `OutOfMemory` if the judgement runs out of memory, and
-/// then no reason up to `NodeOutOfRange`, in the order of its TYPE, applies to the second; `Write`
-/// if the writer fails. Of each file at most 4,096 bytes past `MOST_FILE_BYTES` are read.
+/// `File` if a file isn't valid or can't be read. `WrongKind` if both are valid, but the first
+/// isn't an instance. `OutOfMemory` if memory runs out while the solution is judged; then no reason
+/// up to `NodeOutOfRange`, in the order for the TYPE, applies to it. `Write` if the writer fails.
+/// From each file, at most 4,096 bytes past `MOST_FILE_BYTES` are read.
 pub fn run_check<I: Gives, S: Gives, W: Takes>(
     alloc: Global,
     inst: &mut Watched<I>,
@@ -45,26 +44,24 @@ pub fn run_check<I: Gives, S: Gives, W: Takes>(
     acceptance(run(alloc, inst, sol, &mut none, None, false, out))
 }
 
-/// Judges a tour of an instance of TYPE TSP or ATSP with a certificate of a bound, and writes the
-/// report.
+/// Judges a tour for a TSP or an ATSP with a potentials file, and writes the report.
 ///
-/// The result is `true` if the second file's one tour visits every node once and uses every
-/// fixed edge and the third file's potentials give a bound, and `false` if the report has the
-/// line `no` with its first reason; the whole report was written then. At `Ok(true)` no tour of the
-/// instance is shorter than the printed bound, so that a tour whose length equals it, which the
-/// report calls optimal, is a shortest one. Under TYPE TSP the bound is that of a least 1-tree
-/// under potentials of nodes (Held and Karp, 1970), under TYPE ATSP that of duals of the assignment
-/// problem.
+/// Returns `true` if the second file's only tour visits every node once and uses every fixed edge,
+/// and the third file's potentials give a bound. Returns `false` if the report has the line `no`
+/// with the first reason. In both cases the whole report was written. At `Ok(true)`, no tour of the
+/// instance is shorter than the printed bound, so a tour of this length, which the report calls
+/// optimal, is a shortest one. For a TSP, the bound is that of a minimum 1-tree under node
+/// potentials (Held and Karp, 1970); for an ATSP, that of duals of the assignment problem.
 ///
-/// Each file is read whole before the next, and the first file that is none decides. Nothing is
-/// written before the verdict exists.
+/// Each file is read completely before the next. The first one that isn't valid ends the run.
+/// Nothing is written before the verdict exists.
 ///
 /// # Errors
 ///
-/// `File` if a file is none, or can't be read; `WrongKind` if all three are files and the
-/// first is of TYPE CVRP, TOUR, POTENTIALS or BRANCHES; `OutOfMemory` if the judgement runs out
-/// of memory, and then no reason up to `NodeOutOfRange` applies to the tour; `Write` if the
-/// writer fails. Of each file at most 4,096 bytes past `MOST_FILE_BYTES` are read.
+/// `File` if a file isn't valid or can't be read. `WrongKind` if all three are valid, but the first
+/// is neither a TSP nor an ATSP. `OutOfMemory` if memory runs out while the files are judged; then
+/// no reason up to `NodeOutOfRange` applies to the tour. `Write` if the writer fails. From each
+/// file, at most 4,096 bytes past `MOST_FILE_BYTES` are read.
 pub fn run_bound_check<I: Gives, S: Gives, P: Gives, W: Takes>(
     alloc: Global,
     inst: &mut Watched<I>,
@@ -84,26 +81,26 @@ pub fn run_bound_check<I: Gives, S: Gives, P: Gives, W: Takes>(
     acceptance(run_by(alloc, inst, sol, by, pot, out))
 }
 
-/// Judges a tour of an instance of TYPE TSP or ATSP with a tree of cases, and writes the report.
+/// Judges a tour for a TSP or an ATSP with a branches file, and writes the report.
 ///
-/// The result is `true` if the second file's one tour visits every node once and uses every
-/// fixed edge and the third file's leaves give a bound, and `false` if the report has the line
-/// `no` with its first reason; the whole report was written then. At `Ok(true)` no tour of the
-/// instance is shorter than the printed bound, so that a tour whose length equals it, which the
-/// report calls optimal, is a shortest one. The bound is the least of those of the leaves, each for
-/// tours in which the pairs decided above it are neighbours, or aren't: for a TSP that of a least
-/// 1-tree, for an ATSP that of the least arc from each node, under the leaf's potentials and
-/// families of sets, such as combs (Grötschel and Padberg, 1979).
+/// Returns `true` if the second file's only tour visits every node once and uses every fixed edge,
+/// and the third file's leaves give a bound. Returns `false` if the report has the line `no` with
+/// the first reason. In both cases the whole report was written. At `Ok(true)`, no tour of the
+/// instance is shorter than the printed bound, so a tour of this length, which the report calls
+/// optimal, is a shortest one. The bound is the smallest one of a leaf. A leaf's bound holds for
+/// the tours that keep the decisions above it: for a TSP it is that of a minimum 1-tree, for an
+/// ATSP that of the least arc from each node, under the leaf's potentials and its multipliers of
+/// families such as combs (Grötschel and Padberg, 1979).
 ///
-/// Each file is read whole before the next, and the first file that is none decides. Nothing is
-/// written before the verdict exists.
+/// Each file is read completely before the next. The first one that isn't valid ends the run.
+/// Nothing is written before the verdict exists.
 ///
 /// # Errors
 ///
-/// `File` if a file is none, or can't be read; `WrongKind` if all three are files and the
-/// first isn't of TYPE TSP or ATSP; `OutOfMemory` if the judgement runs out of memory, and then
-/// no reason up to `NodeOutOfRange` applies to the tour; `Write` if the writer fails. Of each
-/// file at most 4,096 bytes past `MOST_FILE_BYTES` are read.
+/// `File` if a file isn't valid or can't be read. `WrongKind` if all three are valid, but the first
+/// is neither a TSP nor an ATSP. `OutOfMemory` if memory runs out while the files are judged; then
+/// no reason up to `NodeOutOfRange` applies to the tour. `Write` if the writer fails. From each
+/// file, at most 4,096 bytes past `MOST_FILE_BYTES` are read.
 pub fn run_branch_check<I: Gives, S: Gives, B: Gives, W: Takes>(
     alloc: Global,
     inst: &mut Watched<I>,
@@ -123,17 +120,17 @@ pub fn run_branch_check<I: Gives, S: Gives, B: Gives, W: Takes>(
     acceptance(run_by(alloc, inst, sol, by, tree, out))
 }
 
-/// Writes what a file is: its name, its TYPE and number of nodes, of an instance the weight type,
-/// the length of the list 1, 2, .., n and the number of fixed pairs, of tours how many nodes each
-/// has, of potentials their scale, of a tree of cases its scale and how many families and leaves it
-/// has, and the unknown keywords.
+/// Writes what a file contains: its name, its TYPE, its number of nodes, and its unknown keywords.
+/// For an instance, also the weight type, the length of the tour 1, 2, .., n and the number of
+/// fixed pairs; for tours, how many nodes each has; for potentials, their scale; for branches, the
+/// scale and how many families and leaves there are.
 ///
-/// The file is read whole before anything is written, and writing takes no memory.
+/// The file is read completely before anything is written, and writing takes no memory.
 ///
 /// # Errors
 ///
-/// `File` if the bytes are no file, or can't be read; `Write` if the writer fails. Nothing
-/// is written but at `Write`. At most 4,096 bytes past `MOST_FILE_BYTES` are read.
+/// `File` if the file isn't valid or can't be read; then nothing is written. `Write` if the writer
+/// fails. At most 4,096 bytes past `MOST_FILE_BYTES` are read.
 pub fn run_show<R: Gives, W: Takes>(
     alloc: Global,
     r: &mut Watched<R>,
@@ -149,15 +146,14 @@ pub fn run_show<R: Gives, W: Takes>(
 
 /// Writes the canonical text of a file, with its weights in the layout `to` if one is given.
 ///
-/// The file is read whole, and the weights are in their layout, before anything is written. The
-/// text isn't held in memory as a whole.
+/// The file is read completely, and its weights are put into the layout, before anything is
+/// written. The text is never in memory as a whole.
 ///
 /// # Errors
 ///
-/// `File` if the bytes are no file, or can't be read; `Relayout` if the weights can't
-/// go into the layout, or there is no memory for that; `Write` if the writer fails.
-/// `OutOfMemory` is never returned. Nothing is written but at `Write`. At most 4,096 bytes past
-/// `MOST_FILE_BYTES` are read.
+/// `File` if the file isn't valid or can't be read, and `Relayout` if the weights can't go into the
+/// layout or there is no memory for that; in both cases nothing is written. `Write` if the writer
+/// fails. `OutOfMemory` is never returned. At most 4,096 bytes past `MOST_FILE_BYTES` are read.
 pub fn run_convert<R: Gives, W: Takes>(
     alloc: Global,
     r: &mut Watched<R>,
@@ -182,8 +178,7 @@ fn acceptance(ended: Result<Judged, RunError>) -> Result<bool, RunFault>
     Ok(answer)
 }
 
-/// Judges a solution of an instance with a certificate whose reader is lent: `run` with it, without
-/// a claim.
+/// Does what `run` does, for a borrowed reader of the certificate, and without a claimed length.
 ///
 /// # Errors
 ///

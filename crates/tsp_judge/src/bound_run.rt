@@ -1,4 +1,6 @@
-//! The run of `tsp bound`, from the bytes read to the bytes written.
+//! The run of `tsp bound`: reads an instance and a certificate, finds the bound, and writes the
+//! report. `task_run.rt` and tsp_c call `run_bound`, whose contract says what `yes` means here
+//! (`specs/BoundRun.antt`).
 
 ghost use Rattle.tsp_judge.specs.Prelude.{ReadTrace, TakesAtMost, FailsByWrite, sink_of, read_trace_of, IsReadOn, IsFile, most_taken};
 ghost use Rattle.tsp_judge.specs.BoundRun.{BoundsFiles, IsBoundRunOf};
@@ -15,8 +17,8 @@ use tsp_verdict::{BoundVerdict, CertificateKind, is_bounded, judge_bound, strict
 /// The files that a run has read, and the bound that it found.
 #[derive(Drop)]
 pub struct Bounded {
-    /// The bound, or that the instance has no solution, or the first reason against the files: what
-    /// the report says.
+    /// What the report says: the bound, that the instance has no solution, or the first reason
+    /// against the files.
     pub found: BoundVerdict,
     /// The first file.
     pub instance: Instance,
@@ -26,24 +28,23 @@ pub struct Bounded {
 
 /// Runs `tsp bound`: reads both files, finds the bound, writes the report.
 ///
-/// Returns the bound, along with the files. No tour of the instance is shorter than the bound, or
-/// for a CVRP no plan whose routes each have a customer. There is no bound if a tree of cases shows
-/// that there are no such solutions. If the report has the line `no`, the result has its reason,
-/// the first that applies: `TooFewNodes` and `NotSymmetric` for tours, or `TooFewNodes`,
-/// `DepotCount`, `DepotDemand` and `FixedEdgesInRoutes` for routes; then those against the
-/// certificate; and with `strict`, `NotJudged` or `NotUsed` for a line of the instance that isn't
-/// judged.
+/// Returns the bound, along with the files. No tour of the instance is shorter than the bound, or,
+/// for a CVRP, no plan without empty routes. There is no bound if a tree of cases shows that no
+/// such solution exists. If the report has the line `no`, the result has the first reason that
+/// applies: `TooFewNodes` and `NotSymmetric` for tours, or `TooFewNodes`, `DepotCount`,
+/// `DepotDemand` and `FixedEdgesInRoutes` for routes; then those against the certificate; and with
+/// `strict`, `NotJudged` or `NotUsed` if the verdict ignores a line of the instance.
 ///
-/// Each file is read whole before the next, and the first file that is none decides. Nothing is
-/// written before the bound exists.
+/// Each file is read completely before the next. The first one that isn't valid ends the run.
+/// Nothing is written before the bound exists.
 ///
 /// # Errors
 ///
-/// `File` if a file is none, or can't be read; `WrongKind` if both are files and tours of the
-/// first one's TYPE have no bound by the certificate; `OutOfMemory` if the judgement runs out of
-/// memory, and then no reason applies to the instance, nor one to the certificate that is found
-/// without memory; `Write` if the writer fails. Of each file at most 4,096 bytes past
-/// `MOST_FILE_BYTES` are read.
+/// `File` if a file isn't valid or can't be read. `WrongKind` if both are valid, but the first
+/// isn't an instance, or is a CVRP and the certificate holds potentials. `OutOfMemory` if memory
+/// runs out while the files are judged; then no reason applies to the instance, and none that is
+/// found without memory applies to the certificate. `Write` if the writer fails. From each file, at
+/// most 4,096 bytes past `MOST_FILE_BYTES` are read.
 pub fn run_bound<I: Gives, C: Gives, W: Takes>(
     alloc: Global,
     inst: &mut Watched<I>,
@@ -63,7 +64,7 @@ pub fn run_bound<I: Gives, C: Gives, W: Takes>(
     bound_read(alloc, by, instance, certificate, strict, out)
 }
 
-/// The run of `tsp bound` on files that were read.
+/// Runs `tsp bound` on files that have been read.
 ///
 /// # Errors
 ///

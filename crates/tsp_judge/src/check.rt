@@ -1,5 +1,6 @@
-//! The run of `tsp check`, from the bytes read to the bytes written: the files are read, then
-//! judged.
+//! The run of `tsp check`: reads the files, judges the solution, and writes the report.
+//! `task_run.rt`, tsp_c and `api.rt` call `run`, whose contract says what `yes` means
+//! (`specs/CheckRun.antt`).
 
 ghost use Rattle.tsp_judge.specs.Prelude.{option_map, ReadTrace, TakesAtMost, FailsByWrite, sink_of, read_trace_of, IsReadOn, IsFile, most_taken, is_judged, report_of, IsSized};
 ghost use Rattle.std.specs.Prelude.{◌≡◌};
@@ -16,23 +17,23 @@ use tsp_verdict::{CertificateKind, Verdict, is_bounded, judge, strict_verdict};
 
 /// Runs `tsp check`: reads the files, judges the solution, writes the report.
 ///
-/// Returns the verdict, along with the files. If `certificate` names one, the verdict may have a
-/// bound: no tour of the instance is shorter, or for a CVRP no plan whose routes each have a
-/// customer. With `claimed`, a solution of another length is rejected with `LengthClaimed`: after
-/// all other reasons against the solution, and before those against the certificate. With `strict`,
-/// an instance with a line that isn't judged is rejected with `NotJudged` or `NotUsed`, after all
-/// other reasons.
+/// Returns the verdict, along with the files. With a certificate, the verdict of an accepted
+/// solution has a bound: no tour of the instance is shorter, or, for a CVRP, no plan without empty
+/// routes. With `claimed`, a solution of another length is rejected with `LengthClaimed`: after all
+/// other reasons against the solution, and before those against the certificate. With `strict`, a
+/// solution is rejected with `NotJudged` or `NotUsed` if the instance has a line that the verdict
+/// ignores: after all other reasons.
 ///
-/// Each file is read whole before the next, and the first file that is none decides. Nothing is
-/// written before the verdict exists.
+/// Each file is read completely before the next. The first one that isn't valid ends the run.
+/// Nothing is written before the verdict exists.
 ///
 /// # Errors
 ///
-/// `File` if a file is none, or can't be read; `WrongKind` if all are files and solutions of
-/// the first one's TYPE aren't judged so: TYPE TOUR, POTENTIALS or BRANCHES, and with potentials
-/// CVRP too; `OutOfMemory` if the judgement runs out of memory, and then no reason up to
-/// `NodeOutOfRange`, in the order of its TYPE, applies to the second; `Write` if the writer fails.
-/// From each reader, at most 4,096 bytes past `MOST_FILE_BYTES` are read.
+/// `File` if a file isn't valid or can't be read. `WrongKind` if all are valid, but the first isn't
+/// an instance, or is a CVRP and the certificate holds potentials. `OutOfMemory` if memory runs out
+/// while the solution is judged; then no reason up to `NodeOutOfRange`, in the order for the TYPE,
+/// applies to it. `Write` if the writer fails. From each reader, at most 4,096 bytes past
+/// `MOST_FILE_BYTES` are read.
 pub fn run<I: Gives, S: Gives, C: Gives, W: Takes>(
     alloc: Global,
     inst: &mut Watched<I>,
@@ -56,7 +57,7 @@ pub fn run<I: Gives, S: Gives, C: Gives, W: Takes>(
     judge_read(alloc, instance, solution, certificate, claimed, strict, out)
 }
 
-/// Reads the file of the certificate, which has this number, if one is named.
+/// Reads the certificate, if there is one. `number` is the file's number in a fault.
 pub(crate) fn read_certificate<C: Gives>(
     alloc: Global,
     number: u32,
@@ -72,7 +73,7 @@ pub(crate) fn read_certificate<C: Gives>(
     Ok(Some((*by, file)))
 }
 
-/// The run of `tsp check` on files that were read.
+/// Runs `tsp check` on files that have been read.
 ///
 /// # Errors
 ///
@@ -112,7 +113,7 @@ pub(crate) fn judge_read<W: Takes>(
     }
 }
 
-// ---- judges the files of a check and writes the report
+// ---- judge the files of a check, and write the report
 
 /// The files that a run has read, and the verdict on them.
 #[derive(Drop)]
@@ -127,7 +128,7 @@ pub struct Judged {
     pub certificate: Option<(CertificateKind, File)>,
 }
 
-/// Judges a solution of an instance, with a certificate or without, and writes the report.
+/// Judges a solution, with or without a certificate, and writes the report.
 fn judge_files<W: Takes>(
     alloc: Global,
     instance: &Instance,
@@ -154,7 +155,7 @@ fn judge_files<W: Takes>(
 ///
 /// # Requires
 ///
-/// A bound of at most 2^126, as each verdict has.
+/// A bound of at most 2^126, as every verdict has.
 ///
 /// # Errors
 ///
@@ -173,7 +174,7 @@ pub fn report_verdict<W: Takes>(
     }
 }
 
-/// Whether solutions of the instance are judged, with this certificate or with none.
+/// Whether solutions of the instance can be judged, with this certificate or without one.
 pub(crate) fn is_judged(certificate: &Option<(CertificateKind, File)>, instance: &Instance) -> bool
     ensures { result ≡ is_judged certificate.now instance.now.kind }
 {
@@ -196,13 +197,13 @@ pub(crate) fn lent(
     }
 }
 
-// ---- reads a file of a run, and adds its number to a fault
+// ---- read a file of a run, and add its number to a fault
 
-/// Reads one of the files of a run. Its number, from 1 on, goes into a fault.
+/// Reads one of a run's files. Its number, counted from 1, goes into a fault.
 ///
 /// # Errors
 ///
-/// `File` with this number, if the file is none, or can't be read.
+/// `File` with this number if the file isn't valid or can't be read.
 pub(crate) fn read_file<R: Gives>(
     alloc: Global,
     number: u32,

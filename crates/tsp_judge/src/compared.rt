@@ -1,5 +1,5 @@
-//! The run of `tsp compare`, from the bytes read to the bytes written: each solution is read,
-//! judged, and dropped.
+//! The run of `tsp compare`: reads, judges and drops one solution after the other. `task_run.rt`
+//! calls it. The laws `lines_of_..` in `laws.rt` say what a line means.
 
 ghost use Rattle.tsp_judge.specs.Prelude.{max, false, true, [], length, MatchResult, ℕ, List, slice_index_or, ReadTrace, TakesAtMost, FailsByWrite, output_failed, sink_of, read_trace_of, IsReadOn, IsFile, most_taken, IsProblem, IsKnownBound, IsKnownBoundAsked, is_clear};
 ghost use Rattle.std.specs.Prelude.{◌≡◌, ◌<◌};
@@ -18,37 +18,37 @@ use tsp_verdict::{
     CertificateKind, KnownBound, Verdict, judge_known_bound, judge_next, strict_known_bound,
 };
 
-/// What a comparison came to.
+/// The result of a comparison.
 #[derive(Drop)]
 pub struct Compared {
-    /// What the solutions were judged by. If its known bound is a reason, none was opened.
+    /// The files by which the solutions were judged. If the known bound is a reason, no solution
+    /// was opened.
     pub common: ComparisonContext,
-    /// The exit status: the largest of those of the solutions.
+    /// The exit status: the largest one of a solution.
     pub status: u8,
 }
 
-/// Judges solutions of an instance, writes a line for each, and returns the largest of their
-/// statuses.
+/// Judges solutions of an instance, writes a line for each, and returns the largest status.
 ///
-/// The instance and the certificate, if one is named, are read and judged once. The head of the
-/// text says what they are. If a reason applies to one of them, it ends the text, and no solution
-/// is opened. Otherwise each solution in turn is opened, read, and judged as a check of
-/// the three files does. Its line is written, the follower tells of it, and it is dropped. A
-/// solution that is no file, or can't be read, has a line with its fault, and the others follow.
-/// Only a read that returns an error makes a line with `device`.
-/// The follower tells of each line once, in order.
+/// The instance and the certificate, if there is one, are read and judged once. The head of the
+/// text says what they are. If a reason applies to one of them, the text ends with the reason, and
+/// no solution is opened. Otherwise each solution is opened, read, and judged as a check of the
+/// three files would judge it. Its line is written, the follower is told, and the solution is
+/// dropped. If a solution isn't valid or can't be read, its line has the fault, and the comparison
+/// goes on. A line has the fault `device` only if a read returned an error. The follower is told of
+/// each line once, in order.
 ///
-/// With `strict`, an instance with a line that isn't judged has the reason `NotJudged` or `NotUsed`,
-/// after all others that apply to it or to the certificate.
+/// With `strict`, the reason `NotJudged` or `NotUsed` applies if the verdict ignores a line of the
+/// instance: after all others against the instance or the certificate.
 ///
 /// # Errors
 ///
-/// `File` if the instance (1) or the certificate (2) is none, or can't be read; `WrongKind`
-/// if both are files and solutions of the first one's TYPE aren't judged so. Then nothing is
-/// written. `OutOfMemory` if the judgement runs out of memory, or the reading of a solution
-/// does: the head and the lines of the solutions before were written. `Write` if the writer
-/// fails, after a prefix of the text. From each reader, at most 4,096 bytes past `MOST_FILE_BYTES`
-/// are read.
+/// `File` if the instance (1) or the certificate (2) isn't valid or can't be read. `WrongKind` if
+/// both are valid, but the first isn't an instance, or is a CVRP and the certificate holds
+/// potentials. In these cases nothing is written. `OutOfMemory` if memory runs out while files are
+/// judged or a solution is read; if that happens at a solution, the head and the lines of the
+/// earlier solutions were written. `Write` if the writer fails, after a prefix of the text. From
+/// each reader, at most 4,096 bytes past `MOST_FILE_BYTES` are read.
 pub fn run_compare<I: Gives, C: Gives, R: Gives + Drop, E, S: Solutions<R> + Follow<E>, W: Takes>(
     alloc: Global,
     inst: &mut Watched<I>,
@@ -71,11 +71,11 @@ pub fn run_compare<I: Gives, C: Gives, R: Gives + Drop, E, S: Solutions<R> + Fol
     compare_read(alloc, instance, certificate, solutions, strict, out, to)
 }
 
-/// The run of `tsp compare` on an instance and a certificate that were read.
+/// Runs `tsp compare` on an instance and a certificate that have been read.
 ///
 /// # Errors
 ///
-/// All but `File`, as [`run_compare`] says.
+/// Those of [`run_compare`], except `File`.
 pub(crate) fn compare_read<R: Gives + Drop, E, S: Solutions<R> + Follow<E>, W: Takes>(
     alloc: Global,
     instance: File,
@@ -179,13 +179,13 @@ fn compare_one<R: Gives + Drop, S: Solutions<R>, W: Takes>(
     }
 }
 
-// ---- what all solutions of a comparison are judged by
+// ---- the files by which all solutions of a comparison are judged
 
-/// The files that all solutions of a comparison are judged by, and the known bound that these give.
+/// The files by which all solutions of a comparison are judged, and the known bound that they give.
 #[derive(Drop)]
 pub struct ComparisonContext {
-    /// What all of them have in common, found before any is read: the bound of the certificate, the
-    /// least number of routes, or the reason for which none is opened.
+    /// What is known before any solution is read: the bound of the certificate, the least number of
+    /// routes, or the reason why no solution is opened.
     pub known_bound: KnownBound,
     /// The first file.
     pub instance: Instance,
@@ -196,9 +196,9 @@ pub struct ComparisonContext {
 /// The verdict on one solution, or the fault of its file.
 #[derive(Drop)]
 pub enum Found {
-    /// It is a file, and this is the verdict on it.
+    /// The file is valid, and this is the verdict on it.
     Solution { verdict: Verdict, solution: File },
-    /// It is none, or can't be read.
+    /// The file isn't valid or can't be read.
     Fault(ReadFault),
 }
 
@@ -214,7 +214,7 @@ impl Found {
     }
 }
 
-/// The exit status of what is found of a solution: that of a check of it.
+/// The exit status for a solution: that of a check.
 fn status_of_found(found: Result<Verdict, ReadFault>) -> u8
     ensures { result ≡ status_of_found found }
 {
@@ -224,12 +224,13 @@ fn status_of_found(found: Result<Verdict, ReadFault>) -> u8
     }
 }
 
-/// Judges an instance and a certificate for all solutions. With `strict`, lines of the instance that
-/// aren't judged are a reason against all of them.
+/// Judges an instance and a certificate for all solutions. With `strict`, a line of the instance
+/// that the verdict ignores is a reason against all of them.
 ///
 /// # Errors
 ///
-/// `WrongKind` if the solutions aren't judged so, and `OutOfMemory`.
+/// `WrongKind` if the certificate can't bound solutions of this TYPE (`is_bounded`), and
+/// `OutOfMemory`.
 fn comparison_context_of(
     alloc: Global,
     instance: Instance,
@@ -254,11 +255,11 @@ fn comparison_context_of(
     }
 }
 
-/// Reads a solution, and judges it.
+/// Reads and judges a solution.
 ///
 /// # Errors
 ///
-/// `OutOfMemory`, to read it or to judge it.
+/// `OutOfMemory`, while reading or judging.
 fn find<R: Gives>(
     alloc: Global,
     common: &ComparisonContext,
@@ -284,14 +285,14 @@ fn find<R: Gives>(
     }
 }
 
-// ---- the traits of the solutions of a comparison and of who explains its lines
+// ---- the traits for the solutions of a comparison, and for whoever explains its lines
 
-/// The solutions of a comparison, each of which is opened when it is to be read.
+/// The solutions of a comparison. Each is opened just before it is read.
 pub trait Solutions<R> {
     /// The path of each, in order, as it is printed.
     ghost names: { Self → List (List ℕ) };
 
-    /// Whether this is what opening the solution at a place may give.
+    /// Whether opening the solution at a place may give this reader.
     ghost opens: { Self → ℕ → R → Type 0 };
 
     /// How many there are.
@@ -303,19 +304,20 @@ pub trait Solutions<R> {
         requires { index < length (names self.now) }
         ensures { result.now ≡ slice_index_or (names self.now) index [] };
 
-    /// The solution at a place, opened to be read.
+    /// Opens the solution at a place.
     fn open(&self, index: usize) -> R
         requires { index < length (names self.now) }
         ensures { opens self.now index result };
 }
 
-/// Who follows a comparison, line by line, and tells of it: to explain a line, or to show how far
-/// it has come. It tells an `E`.
+/// A follower of a comparison, which is told of each line, and may write to an `E`: to explain the
+/// line, or to show the progress.
 pub trait Follow<E> {
-    /// What telling of the line of the solution at a place, counted from 0, may do to an `E`.
+    /// What the line of the solution at a place, counted from 0, may make the follower do to an
+    /// `E`.
     ghost tells: { Self → ℕ → E → E → Type 0 };
 
-    /// Tells of the line of the solution at a place, counted from 0, which was written.
+    /// The line of the solution at a place, counted from 0, was written.
     fn written(&self, to: &mut E, common: &ComparisonContext, index: usize, found: &Found)
         ensures { tells self.now index to.old to.new };
 }

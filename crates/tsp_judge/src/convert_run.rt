@@ -1,4 +1,5 @@
-//! The runs of `tsp show` and `tsp convert`, from the bytes read to the bytes written.
+//! The runs of `tsp show` and `tsp convert`. `task_run.rt` and tsp_c call them, and
+//! `specs/ConvertRun.antt` pins every byte that they write.
 
 ghost use Rattle.tsp_judge.specs.Prelude.{TakesAtMost, FailsByWrite, sink_of, read_trace_of, IsReadOn, most_taken};
 ghost use Rattle.tsp_judge.specs.ConvertRun.{Becomes, IsConvertRun, IsShowRun};
@@ -11,7 +12,7 @@ use tsp_format::Layout;
 use tsp_io::{Gives, Output, Takes, Watched};
 use tsp_report::write_shown;
 
-/// Shows a file, as `run_show` says.
+/// Like `run_show`, but returns a `RunError`.
 ///
 /// # Errors
 ///
@@ -33,7 +34,7 @@ pub fn show_file<R: Gives, W: Takes>(
     }
 }
 
-/// Converts a file, as `run_convert` says.
+/// Like `run_convert`, but returns a `RunError`.
 ///
 /// # Errors
 ///
@@ -62,7 +63,7 @@ pub fn convert_file<R: Gives, W: Takes>(
     }
 }
 
-/// The file with its weights in a layout, or as it is if none is given.
+/// The file with its weights in a layout; unchanged if none is given.
 fn in_layout(alloc: Global, file: File, to: Option<Layout>) -> Result<File, RelayoutFault>
     ensures { Becomes to file result }
 {

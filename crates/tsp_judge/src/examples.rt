@@ -1,5 +1,7 @@
 //! Laws that state values of the definitions in `specs/`, worked out by hand: runs of each verb and
-//! their reports, lines of comparisons, exit statuses, and which file a fault is of.
+//! their reports, lines of comparisons, exit statuses, and which file a fault is of. No code calls
+//! them. If someone makes the same mistake in a definition and in the code, every contract still
+//! holds, but one of these laws fails.
 
 ghost use Rattle.tsp_judge.specs.Prelude.{ℕ, List, [], true, false, None, Some, Ok, Err, pos, codes, Bool, Option, ℤ, decimal, Result, Sink, HasStopped, HasWritten, IsUnwritten, ReadTrace, IsUnread, TakesAtMost, Fields, IsReadOn, StopsAt, most_taken, kind_of, is_bounded, IsKnownBound, head_of, is_bound_yes, is_clear, is_yes, CertificateKind, read_trace_of};
 ghost use Rattle.std.specs.Prelude.{◌≡◌, ◌∷◌, ◌++◌, ◌+◌};
@@ -15,7 +17,6 @@ ghost use Rattle.tsp_verdict.specs.Examples.{instance_with, with_unknown};
 ghost use Rattle.tsp_report.specs.declared.task.CertificateKind.TheVariants as certificates;
 ghost use Rattle.tsp_report.specs.declared.task.Comparison.{Comparison};
 ghost use Rattle.tsp_report.specs.declared.task.FileTask.TheVariants as file_tasks;
-ghost use Rattle.tsp_report.specs.declared.verdict.KnownBound.TheVariants as known_bounds;
 ghost use Rattle.tsp_report.specs.declared.verdict.BoundVerdict.TheVariants as bounds;
 ghost use Rattle.tsp_report.specs.declared.verdict.Reason.{Reason};
 ghost use Rattle.tsp_report.specs.declared.verdict.Reason.TheVariants as reasons;
@@ -48,8 +49,8 @@ pub fn examples_of_largest_statuses()
     ensures device { largest_status (Err read_faults.Device ∷ Err read_faults.TooLong ∷ []) ≡ 5 }
 {}
 
-/// Which verdicts accept, and after which known bounds solutions are judged one by one: all but a reason,
-/// which ends the text, and the status is 1 then.
+/// Which verdicts accept, and after which known bounds solutions are judged one by one: after all
+/// but a reason, which ends the text with the status 1.
 pub fn examples_of_known_bounds()
     ensures tour { is_yes (verdicts.Tour (pos 14) None) ≡ true }
     ensures routes { is_yes (verdicts.Routes (pos 20) 3 2 None) ≡ true }
@@ -57,16 +58,16 @@ pub fn examples_of_known_bounds()
     ensures bounded { is_bound_yes (bounds.Bound (pos 12)) ≡ true }
     ensures without_tours { is_bound_yes bounds.NoSolution ≡ true }
     ensures unbounded { is_bound_yes (bounds.No reasons.TooFewNodes) ≡ false }
-    ensures clear { is_clear (known_bounds.Tours None) ≡ true }
-    ensures clear_by_a_bound { is_clear (known_bounds.Tours (Some (pos 12))) ≡ true }
-    ensures clear_without_tours { is_clear known_bounds.NoSolution ≡ true }
-    ensures clear_for_routes { is_clear (known_bounds.Routes 2 None) ≡ true }
-    ensures reason { is_clear (known_bounds.No reasons.TooFewNodes) ≡ false }
+    ensures clear { is_clear (record { least = None; found = None }) ≡ true }
+    ensures clear_by_a_bound { is_clear (record { least = None; found = Some (bounds.Bound (pos 12)) }) ≡ true }
+    ensures clear_without_tours { is_clear (record { least = None; found = Some bounds.NoSolution }) ≡ true }
+    ensures clear_for_routes { is_clear (record { least = Some 2; found = None }) ≡ true }
+    ensures reason { is_clear (record { least = None; found = Some (bounds.No reasons.TooFewNodes) }) ≡ false }
     ensures status { (head : List ℕ) (sink : Sink) → HasWritten sink head → ComparesNone head sink (Ok 1) }
     ensures no_other_status { (head : List ℕ) (sink : Sink) → ¬ ComparesNone head sink (Ok 2) }
 {}
 
-/// How the writing of a report ends: it was written, or the writer failed. Nothing else ends it.
+/// How writing a report ends: it was written, or the writer failed.
 pub fn examples_of_written_reports()
     ensures written { (sink : Sink) (report : List ℕ) → HasWritten sink report → WritesReport sink report (Ok tt) }
     ensures stopped { (sink : Sink) (report : List ℕ) → HasStopped sink report
@@ -76,22 +77,22 @@ pub fn examples_of_written_reports()
     ensures no_memory { (sink : Sink) (report : List ℕ) → ¬ WritesReport sink report (Err run_faults.OutOfMemory) }
 {}
 
-/// One solution of an instance with an unknown keyword: compared with `strict` it isn't judged, and
-/// the reason ends the text. Without `strict` it is.
+/// One solution of an instance with an unknown keyword: with `strict` it isn't judged, and the
+/// reason ends the text. Without `strict` it is judged.
 pub fn examples_of_strict_comparisons()
     ensures not_judged { (common : ComparisonContext) (sink : Sink) (status : ℕ)
-        → common.instance ≡ with_unknown kinds.Atsp 4 → common.known_bound ≡ known_bounds.Tours None
+        → common.instance ≡ with_unknown kinds.Atsp 4 → common.known_bound ≡ record { least = None; found = None }
         → ¬ ComparesOn true (λ place read_trace. StopsAt read_faults.TooLong read_trace) (codes "a.tour" ∷ []) common sink (Ok status) }
     ensures reason { (common : ComparisonContext) (sink : Sink)
-        → common.instance ≡ with_unknown kinds.Atsp 4 → common.known_bound ≡ known_bounds.No reasons.NotJudged
-        → IsKnownBound common.certificate common.instance (known_bounds.Tours None)
-        → HasWritten sink (head_of (with_unknown kinds.Atsp 4) (known_bounds.No reasons.NotJudged))
+        → common.instance ≡ with_unknown kinds.Atsp 4 → common.known_bound ≡ record { least = None; found = Some (bounds.No reasons.NotJudged) }
+        → IsKnownBound common.certificate common.instance (record { least = None; found = None })
+        → HasWritten sink (head_of (with_unknown kinds.Atsp 4) (record { least = None; found = Some (bounds.No reasons.NotJudged) }))
         → ComparesOn true (λ place read_trace. StopsAt read_faults.TooLong read_trace) (codes "a.tour" ∷ []) common sink (Ok 1) }
     ensures judged { (common : ComparisonContext) (sink : Sink) (read_trace : ReadTrace)
-        → common.instance ≡ with_unknown kinds.Atsp 4 → common.known_bound ≡ known_bounds.Tours None
-        → IsKnownBound common.certificate common.instance (known_bounds.Tours None)
+        → common.instance ≡ with_unknown kinds.Atsp 4 → common.known_bound ≡ record { least = None; found = None }
+        → IsKnownBound common.certificate common.instance (record { least = None; found = None })
         → StopsAt read_faults.TooLong read_trace
-        → HasWritten sink (head_of (with_unknown kinds.Atsp 4) (known_bounds.Tours None)
+        → HasWritten sink (head_of (with_unknown kinds.Atsp 4) (record { least = None; found = None })
         ++ all_solution_lines (Err read_faults.TooLong ∷ []) (codes "a.tour" ∷ []))
         → ComparesOn false (λ place read_trace. StopsAt read_faults.TooLong read_trace) (codes "a.tour" ∷ []) common sink (Ok 2) }
 {}
@@ -106,7 +107,8 @@ pub fn examples_of_lines_of_solutions()
         (codes "a" ∷ codes "b" ∷ []) ≡ codes "no TourCount a\ndevice b\n" }
 {}
 
-/// Which file a fault is of: the first that is none. The certificate is the second one.
+/// Which file a fault belongs to: the first one that isn't valid. The certificate is the second
+/// file.
 pub fn examples_of_faulty_files_of_comparisons()
     ensures first { (given : Given) (fault : ReadFault) (first : ReadTrace) → StopsAt fault first → IsUnreadIn given
         → IsFaultOfCompare given first 1 fault }
@@ -116,8 +118,8 @@ pub fn examples_of_faulty_files_of_comparisons()
     ensures no_third { (given : Given) (fault : ReadFault) (first : ReadTrace) → ¬ IsFaultOfCompare given first 3 fault }
 {}
 
-/// Each solution is read from the reader that is opened for its place. Here that of place k holds
-/// the byte k.
+/// Each solution is read from the reader that was opened for its place. Here, the reader of place k
+/// holds the byte k.
 pub fn examples_of_opened_solutions()
     ensures first { (read_trace : ReadTrace)
         → IsReadTraceAt (λ reader. Some (reader ∷ [])) (λ reader room given left after. reader ≡ after)
@@ -171,8 +173,8 @@ pub fn examples_of_fault_texts()
     ensures relayout { run_fault_text (run_faults.Relayout relayout_faults.NotExplicit) ≡ codes "relayout: NotExplicit" }
 {}
 
-/// Which file a fault of a check is of, with a certificate or without: the first that is none, and
-/// no later one is read.
+/// Which file a fault of a check belongs to, with or without a certificate: the first one that
+/// isn't valid. No later one is read.
 pub fn examples_of_faulty_files()
     ensures first { (given : Given) (claimed : Option ℤ) (strict : Bool) (fault : ReadFault) (first second : ReadTrace) (sink : Sink)
         → IsUnwritten sink → StopsAt fault first → IsUnread second → IsUnreadIn given
@@ -193,7 +195,7 @@ pub fn examples_of_faulty_files()
         → ¬ IsRun given claimed strict first second sink (Err (run_faults.File 0 fault)) }
 {}
 
-/// Which file a fault of a bound is of. The certificate is the second file.
+/// Which file a fault of a bound belongs to. The certificate is the second file.
 pub fn examples_of_faulty_files_of_bounds()
     ensures first { (by : CertificateKind) (strict : Bool) (fault : ReadFault) (first second : ReadTrace) (sink : Sink) → IsUnwritten sink
         → StopsAt fault first → IsUnread second → IsBoundRun by strict first second sink (Err (run_faults.File 1 fault)) }
@@ -203,7 +205,7 @@ pub fn examples_of_faulty_files_of_bounds()
         → ¬ IsBoundRun by strict first second sink (Err (run_faults.File 3 fault)) }
 {}
 
-/// A fault of the one file of `show` and of `convert` is of file 1, and no kind is wrong there.
+/// A fault of the only file of `show` and `convert` belongs to file 1, and no TYPE is wrong there.
 pub fn examples_of_runs_over_one_file()
     ensures shown { (fault : ReadFault) (read_trace : ReadTrace) (sink : Sink) → StopsAt fault read_trace → IsUnwritten sink
         → IsShowRun read_trace sink (Err (run_faults.File 1 fault)) }
@@ -218,8 +220,8 @@ pub fn examples_of_runs_over_one_file()
         → ¬ IsConvertRun to read_trace sink (Err run_faults.WrongKind) }
 {}
 
-/// A first file that can't be judged is of the wrong kind, which is no reason of a line `no`. One
-/// that can be judged isn't.
+/// A first file that can't be judged is of the wrong kind, which isn't a reason in a line `no`. A
+/// file that can be judged isn't of the wrong kind.
 pub fn examples_of_wrong_kinds()
     ensures tours { (claimed : Option ℤ) (strict : Bool) (solution : Fields) (sink : Sink) → IsUnwritten sink
         → JudgesFiles None claimed strict (instance_with kinds.Tour 4 []) solution sink (Err run_faults.WrongKind) }
@@ -242,7 +244,7 @@ pub fn examples_of_wrong_kinds()
         → ¬ BoundsFiles certificates.Potentials strict (instance_with kinds.Cvrp 4 []) certificate sink (Ok (bounds.No reason)) }
 {}
 
-/// A solution that is rejected, or an instance or certificate without a bound, is no accepted one.
+/// A rejected solution isn't accepted, and neither is an instance or a certificate without a bound.
 pub fn examples_of_outcomes()
     ensures done { is_yes_outcome outcomes.Done ≡ true }
     ensures accepted { (judged : Judged) (length : ℤ) → judged.verdict ≡ verdicts.Tour length None
@@ -255,8 +257,8 @@ pub fn examples_of_outcomes()
         → is_yes_outcome (outcomes.Bounded bounded) ≡ false }
 {}
 
-/// A check that is done is a run with the claim and the certificate of its task, and a bound one by
-/// its certificate.
+/// The task of a check is run with its claim and its certificate, and that of a bound with its
+/// certificate.
 pub fn examples_of_done_tasks<R: Read>()
     ensures claimed { (instance solution instance_left solution_left : Watched R) (claimed : Option ℤ) (strict : Bool) (sink : Sink)
         (outcome : Result Outcome RunFault)
@@ -278,8 +280,8 @@ pub fn examples_of_done_tasks<R: Read>()
         × IsBoundRunOf by strict first second sink ended }
 {}
 
-/// Which reader has which file: a fault of the instance's is one of file 1, and of the certificate
-/// of a comparison one of file 2; and a file is put into the layout of its task.
+/// Which reader has which file: a fault of the instance belongs to file 1, and a fault of the
+/// certificate of a comparison to file 2. A file is put into the layout of its task.
 pub fn examples_of_readers<R: Gives>()
     ensures instance { (instance solution instance_left solution_left : Watched R) (sink : Sink) (fault : ReadFault)
         → TakesAtMost most_taken (read_trace_of R.remaining instance instance_left) (StopsAt fault)
@@ -300,8 +302,8 @@ pub fn examples_of_readers<R: Gives>()
         → IsCompared R.remaining R.gives (λ index reader. index ≡ index) names old new sink (Err (run_faults.File 2 fault)) }
 {}
 
-/// Each reader of a task or a comparison is asked, that of the certificate too. Files aren't taken
-/// for each other's.
+/// Each reader of a task or a comparison is asked, including the certificate's. No file is taken
+/// for another.
 pub fn examples_of_asked_readers<R: Gives>()
     ensures solution { (instance solution instance_left solution_left : Watched R) (claimed same : Option ℤ) (strict also : Bool)
         → AreReadOn R.gives (file_tasks.Check instance solution None claimed strict) (file_tasks.Check instance_left solution_left None same also)
@@ -316,8 +318,9 @@ pub fn examples_of_asked_readers<R: Gives>()
         → IsReadOn R.gives c z }
 {}
 
-/// Which writers were left so by a failed write: one that took nothing of a byte, and none whose
-/// writes all take a byte. The write is the one that led to this writer, not one that led to another.
+/// Which writers a failed write may leave behind: one whose write took nothing, but none whose
+/// writes all take a byte. The write must be the one that led to this writer, not one that led to
+/// another.
 pub fn examples_of_failed_outputs()
     ensures nothing_taken { (left : ℕ) → LeftByFailedWrite (λ before text answer after.
         (before ≡ 7) × (text ≡ 1 ∷ []) × (answer ≡ Ok 0) × (after ≡ left)) left }

@@ -1,4 +1,5 @@
-//! Explains the outcome or the fault of a task to a person, by the names of its files.
+//! Explains the outcome or the fault of a task to the user. tsp_cli and tsp_c call it after a run.
+//! Contracts say only that text is appended, so you can change the words freely.
 
 ghost use Rattle.std.specs.Io.{StartsWith};
 
@@ -14,14 +15,14 @@ use tsp_explain::{
 use tsp_file::File;
 use tsp_io::WriteFault;
 use tsp_report::{CertificateKind, FileTask, Role, Task};
-use tsp_verdict::{BoundVerdict, KnownBound, Verdict};
+use tsp_verdict::{BoundVerdict, Verdict};
 
-/// Appends what explains the line `no`, from the files that were judged, and after `yes` whether a
-/// comment of the solution claims another length.
+/// Explains a line `no` by the files that were judged. After `yes`, says whether a comment in the
+/// solution claims another length.
 ///
 /// # Errors
 ///
-/// Out of memory; part of the explanation may be appended then.
+/// Out of memory. Part of the explanation may have been appended.
 pub fn explain_outcome<'a>(
     alloc: Global,
     text: &mut Vec<u8>,
@@ -53,11 +54,11 @@ pub fn explain_outcome<'a>(
     }
 }
 
-/// Appends what explains why no solution of a comparison was opened, if none was.
+/// If no solution of a comparison was opened, explains why.
 ///
 /// # Errors
 ///
-/// Out of memory; part of the explanation may be appended then.
+/// Out of memory. Part of the explanation may have been appended.
 pub fn explain_known_bound<'a>(
     alloc: Global,
     text: &mut Vec<u8>,
@@ -66,7 +67,7 @@ pub fn explain_known_bound<'a>(
 ) -> Result<(), AllocError>
     ensures { StartsWith text.new.items text.old.items }
 {
-    let KnownBound::No(reason) = common.known_bound else {
+    let Some(BoundVerdict::No(reason)) = common.known_bound.found else {
         return Ok(());
     };
     let files = Files {
@@ -78,7 +79,7 @@ pub fn explain_known_bound<'a>(
     explain_bound(alloc, text, files, BoundVerdict::No(reason))
 }
 
-/// A solution that is compared.
+/// A solution in a comparison.
 #[derive(Clone, Copy)]
 pub struct Solution<'a> {
     /// What the user calls its file.
@@ -87,11 +88,11 @@ pub struct Solution<'a> {
     pub verdict: Verdict,
 }
 
-/// Appends what explains the verdict on a solution that is compared, as `explain_outcome` does.
+/// Explains the verdict on a solution in a comparison, as `explain_outcome` does.
 ///
 /// # Errors
 ///
-/// Out of memory; part of the explanation may be appended then.
+/// Out of memory. Part of the explanation may have been appended.
 pub fn explain_solution<'a>(
     alloc: Global,
     text: &mut Vec<u8>,
@@ -110,13 +111,12 @@ pub fn explain_solution<'a>(
     explain_verdict(alloc, text, files, solution.verdict)
 }
 
-/// Appends what explains a fault. `again` is the file that has it, to be read once more, if it
-/// can be; for files of the wrong kind, the first one. `error` is what the system said of a write
-/// that failed.
+/// Explains a fault. `again` is the faulty file, if it can be read once more; for files of the
+/// wrong kind, the first one. `error` is the system's error of a failed write.
 ///
 /// # Errors
 ///
-/// Out of memory; part of the explanation may be appended then.
+/// Out of memory. Part of the explanation may have been appended.
 pub fn explain_fault<R: Read + Drop>(
     alloc: Global,
     text: &mut Vec<u8>,
@@ -144,7 +144,7 @@ pub fn explain_fault<R: Read + Drop>(
     }
 }
 
-/// Appends what explains that a text could not be written, and what the system said of that.
+/// Explains that a text could not be written, with the system's error.
 fn explain_write(
     alloc: Global,
     text: &mut Vec<u8>,
@@ -160,7 +160,7 @@ fn explain_write(
     }
 }
 
-/// What the file with this number is given for, and what it is called.
+/// The role of the file with this number, and its name.
 fn named<'a>(names: &Task<'_, &'a str>, number: u32) -> (Option<Role>, &'a str) {
     match names.file(number) {
         Some((given, name)) => (given, *name),
@@ -168,7 +168,7 @@ fn named<'a>(names: &Task<'_, &'a str>, number: u32) -> (Option<Role>, &'a str) 
     }
 }
 
-/// What the files are called by what they are given for. `solution` is the one that is compared.
+/// The names of the files by their roles. `solution` is the one in a comparison.
 fn names_of<'a>(names: &Task<'_, &'a str>, solution: &'a str) -> Names<'a> {
     let mut all = Names {
         instance: "",
@@ -194,7 +194,7 @@ fn file_of(certificate: &Option<(CertificateKind, File)>) -> Option<&File> {
     }
 }
 
-/// Whether tours are bounded, and no solution is judged.
+/// Whether a bound is wanted, and no solution is judged.
 fn is_bound<F>(task: &Task<'_, F>) -> bool {
     matches!(task, Task::Files(FileTask::Bound { .. }))
 }

@@ -1,11 +1,12 @@
-//! The calls behind the verbs of the program, from readers to a writer.
+//! What each verb does, given readers for its files and a writer for its output.
 //!
 //! A check reads an instance, a solution and a certificate, and writes a report. Its contract says
-//! what the line `yes` means. [`perform`] does a task by the call of its verb. It opens no files,
-//! and knows no command line: that is tsp_cli's.
+//! what the line `yes` means. [`perform`] runs the verb of a task. This crate opens no files and
+//! knows no command line: tsp_cli does that.
 //!
-//! Each run says at its clause `cause` why its writer failed, if it did: the last write returned an
-//! error, or took nothing of a text. No run flushes its writer, since a `W: Takes` can only write.
+//! The clause `cause` of each run says why its writer failed, if it did: the last write returned an
+//! error, or took no byte of a text. No run flushes its writer, because a `W: Takes` can only
+//! write.
 //!
 //! As example_check does it, with two texts in memory:
 //!

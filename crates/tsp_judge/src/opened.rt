@@ -1,4 +1,5 @@
-//! An instance that stays open between calls, with the certificate that is bound to it, if any.
+//! `Opened`: an instance that stays open between calls, along with the certificate bound to it, if
+//! any. Each handle of tsp_c holds one. By `specs/Open.antt`, it is judged as its text would be.
 
 ghost use Rattle.tsp_judge.specs.Open.{ReadsText};
 
@@ -11,9 +12,8 @@ use tsp_read::file_of_bytes;
 use tsp_report::{BoundVerdict, CertificateKind, KnownBound, Verdict};
 use tsp_verdict::{is_bounded, judge_bound, judge_next, known_bound_alone, known_bound_of};
 
-/// An instance, the certificate that is bound to it, if one is, and what is known of all
-/// solutions by the two: that is found once, when the certificate is bound or the instance is
-/// opened.
+/// An instance, the certificate bound to it, if any, and what the two say about all solutions,
+/// which is found once: when the certificate is bound, or the instance is opened.
 #[derive(Drop)]
 pub struct Opened {
     instance: Instance,
@@ -36,11 +36,11 @@ impl Opened {
     ghost use Rattle.std.specs.Prelude.{◌≡◌, MatchResult};
     ghost use Rattle.tsp_judge.specs.Open.{IsOpened, IsUnopened, IsBoundTo, IsUnbound, IsHeldVerdict, IsNotJudged};
 
-    /// Opens the instance that a text is. No certificate is bound to it.
+    /// Opens the instance that this text contains. No certificate is bound to it.
     ///
     /// # Errors
     ///
-    /// `File` with the number 1 if the text is no file; `WrongKind` if the file is no
+    /// `File` with the number 1 if the text isn't valid, and `WrongKind` if its file isn't an
     /// instance.
     pub fn of(alloc: Global, text: &[u8]) -> Result<Opened, RunError>
         ensures { MatchResult result
@@ -67,14 +67,14 @@ impl Opened {
         &self.instance
     }
 
-    /// Binds the certificate that a text is, in the place of the one before, and returns what it
-    /// gives the instance. If that is a reason, solutions are rejected with it that are accepted
-    /// on their own.
+    /// Binds the certificate that this text contains, replacing an earlier one, and returns its
+    /// bound for the instance. If a reason applies to the certificate, solutions that would
+    /// otherwise be accepted are rejected with it.
     ///
     /// # Errors
     ///
-    /// `File` with the number 2 if the text is no file; `WrongKind` if solutions of the
-    /// instance have no bound by the certificate; `OutOfMemory`. In each case nothing has changed.
+    /// `File` with the number 2 if the text isn't valid, `WrongKind` if the certificate can't bound
+    /// solutions of the instance's TYPE, and `OutOfMemory`. In each case nothing has changed.
     pub fn bind(
         &mut self,
         alloc: Global,
@@ -98,12 +98,12 @@ impl Opened {
         Ok(found)
     }
 
-    /// The verdict on the solution that a text is, with the certificate that is bound, if one
-    /// is, and with the length that is claimed, if one is.
+    /// The verdict on the solution that this text contains, with the bound certificate and the
+    /// claimed length, if there are any.
     ///
     /// # Errors
     ///
-    /// `File` with the number 2 if the text is no file; `OutOfMemory`.
+    /// `File` with the number 2 if the text isn't valid, and `OutOfMemory`.
     pub fn judge(
         &self,
         alloc: Global,
@@ -122,11 +122,11 @@ impl Opened {
     }
 }
 
-/// Reads the file that a text is, which has this number among those of a call.
+/// Reads the file that this text contains. `number` is its number in a fault.
 ///
 /// # Errors
 ///
-/// `File` with the number if the text is none.
+/// `File` with this number if the text isn't valid.
 pub fn read_text(alloc: Global, number: u32, text: &[u8]) -> Result<File, RunError>
     ensures { ReadsText number text.now result }
 {

@@ -1,5 +1,6 @@
 //! Why a run ended early (`RunFault`, which the runs of this crate return in a `RunError`), and the
-//! exit status of a run (`Status`).
+//! exit status of a run (`Status`). `specs/RunStatus.antt` pins the words and the numbers. Never
+//! change a number: users rely on them, and `bindings/c/tsp.h` repeats them.
 
 ghost use Rattle.std.specs.Prelude.{◌≡◌};
 ghost use Rattle.tsp_text.specs.declared.fault.ReadFault.TheVariants as read_faults;
@@ -23,10 +24,10 @@ pub enum RunFault {
     WrongKind,
     /// The output could not be written.
     Write(WriteFault),
-    /// Only in checks, comparisons and bounds: out of memory for the judgement.
+    /// Only in checks, comparisons and bounds: memory ran out while files were judged.
     OutOfMemory,
-    /// Of converting alone: the weights of the file can't go into the layout that is wanted, or
-    /// there is no memory for that.
+    /// Only in conversions: the weights can't go into the wanted layout, or there is no memory for
+    /// that.
     Relayout(RelayoutFault),
 }
 
@@ -49,10 +50,10 @@ impl fmt::Display for RunFault {
 
 // ---- why a run ends early
 
-/// Why a run ends early. Contracts see the fault.
+/// Why a run ended early. Contracts see only the fault.
 ///
-/// Out of memory has a cause: a [`ReadError`] or a [`Refused`], which only a call that was refused
-/// memory makes.
+/// `OutOfMemory` can only be made from a [`ReadError`] or a [`Refused`], and only a call that was
+/// refused memory makes those.
 #[derive(Clone, Copy, Debug, Drop)]
 pub struct RunError {
     ending: RunFault,
@@ -107,7 +108,7 @@ impl RunError {
         }
     }
 
-    /// The fault of an instance that isn't judged, or not with this certificate.
+    /// The first file can't be judged, or not with this certificate.
     pub fn wrong_kind() -> RunError
         ensures { result ≡ WrongKind }
     {
@@ -125,7 +126,7 @@ impl RunError {
         }
     }
 
-    /// The weights don't go into the layout.
+    /// The weights can't go into the layout.
     pub(crate) fn not_relaid(fault: RelayoutFault) -> RunError
         ensures { result ≡ Relayout fault }
     {
@@ -150,18 +151,18 @@ impl From<RunError> for RunFault {
 pub enum Status {
     /// Done, and no solution is rejected.
     Yes = 0,
-    /// The solution is rejected, or a file's weights can't be put into the layout; or a file hasn't
-    /// the section that is asked for.
+    /// The solution is rejected, the weights can't go into the layout, or the file lacks the
+    /// section that a call asks for.
     No = 1,
-    /// A file has a fault, or the first is of the wrong kind.
+    /// A file has a fault, or the first one is of the wrong kind.
     NotJudged = 2,
     /// Out of memory, anywhere.
     OutOfMemory = 3,
-    /// The words, or the numbers of a call, ask for nothing that there is.
+    /// The arguments make no sense: the words of a command line, or the numbers of a call.
     Refused = 4,
-    /// A device failed, in or out.
+    /// A read or a write failed.
     Device = 5,
-    /// The buffer of a call for C has too few places.
+    /// A C call's buffer is too small.
     TooSmall = 6,
 }
 

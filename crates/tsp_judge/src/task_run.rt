@@ -1,4 +1,5 @@
-//! Does a task by the run of its verb, and compares solutions by the readers of a task.
+//! `perform` runs a show, convert, check or bound task on open readers; `compare` runs a
+//! comparison. tsp_cli runs every task by these two calls. A new verb is added here.
 
 ghost use Rattle.tsp_judge.specs.Prelude.{FailsByWrite, length, sink_of};
 ghost use Rattle.std.specs.Prelude.{◌≡◌};
@@ -25,7 +26,7 @@ pub enum Outcome {
     Bounded(Bounded),
 }
 
-/// Whether the outcome is no refusal.
+/// Whether nothing is rejected.
 pub fn is_yes_outcome(outcome: &Outcome) -> bool
     ensures { result ≡ is_yes_outcome outcome.now }
 {
@@ -36,9 +37,9 @@ pub fn is_yes_outcome(outcome: &Outcome) -> bool
     }
 }
 
-/// Does a task by the run of its verb: reads its files, writes what comes of it.
+/// Runs the verb of a task: reads its files, and writes the result.
 ///
-/// The outcome has the files that were judged.
+/// The outcome contains the files that were judged.
 ///
 /// # Errors
 ///
@@ -82,8 +83,8 @@ pub fn perform<R: Gives, W: Takes>(
     }
 }
 
-/// Compares solutions, each opened when it is to be read, by files that are read from these
-/// readers, and writes a line for each, of which the follower of the solutions tells `to`.
+/// Compares solutions by the instance and the certificate from these readers, and writes a line for
+/// each. Each solution is opened just before it is read. The follower may write to `to`.
 ///
 /// # Errors
 ///

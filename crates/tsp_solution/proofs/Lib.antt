@@ -1,1 +1,2 @@
--- This crate has no files of lemmas.
+-- Lemmas on the run of `tsp solution`. No other crate imports them.
+mod Instances

@@ -1,4 +1,6 @@
-//! The tours of a text, by its form.
+//! The tours of a text, by the form that was named or else the first that fits. `tour_file.rt`
+//! calls it for a text that isn't a file of TYPE TOUR, and it calls the reader of each form, in the
+//! order of `tsp solution --forms`. Its answers are tested, not proved.
 
 use crate::edges::{begins_as_edges, read_edges};
 use crate::fault::{FormFault, SolutionFault};
@@ -88,6 +90,25 @@ fn found_in_lines(alloc: Global, text: &[u8], hints: Hints) -> Result<ListedTour
 /// The form that a line of a text shows: a walk, or else a route of CVRPLIB, of LKH-3, or what R
 /// prints.
 fn form_of_lines(text: &[u8]) -> Option<Form> {
+    let found = if has_mark_of_routes(text) {
+        form_of_routes(text)
+    } else {
+        None
+    };
+    match found {
+        None if after_index(without_space(text)).is_some() => Some(Form::RTour),
+        _ => found,
+    }
+}
+
+/// Whether a text has a byte that each walk has, or each line of routes: a look at every line takes
+/// much longer.
+fn has_mark_of_routes(text: &[u8]) -> bool {
+    text.iter().any(|byte| matches!(*byte, b'>' | b':' | b'#'))
+}
+
+/// The form of the walks or routes in a text, if a line has one.
+fn form_of_routes(text: &[u8]) -> Option<Form> {
     let mut found = None;
     'lines: for line in text.split(|byte| *byte == b'\n') {
         if is_walk(line) {
@@ -100,10 +121,7 @@ fn form_of_lines(text: &[u8]) -> Option<Form> {
             _ => found,
         };
     }
-    match found {
-        None if after_index(without_space(text)).is_some() => Some(Form::RTour),
-        _ => found,
-    }
+    found
 }
 
 /// What follows blanks and ends of lines.

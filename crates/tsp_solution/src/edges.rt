@@ -1,5 +1,6 @@
-//! The edges of a tour of Concorde: the number of nodes twice, then the two ends of an edge in each
-//! line, with its weight or without.
+//! Reads the edges of a Concorde tour: the number of nodes twice, then the two ends of an edge in
+//! each line, with or without its weight. `by_form.rt` calls it; its answers are tested, not
+//! proved.
 
 use crate::fault::{FormFault, SolutionFault};
 use crate::word_place::{Place, is_mark, number_of};

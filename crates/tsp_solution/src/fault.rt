@@ -1,7 +1,8 @@
-//! Why a text isn't read as a solution.
+//! Why a text can't be read as a solution. Every reader of a form returns one of these faults.
+//! `specs/FaultTexts.antt` pins their printed names.
 
 ghost use Rattle.std.specs.Prelude.{◌≡◌};
-ghost use Rattle.tsp_solution.specs.FaultTexts.{form_fault_text};
+ghost use Rattle.tsp_solution.specs.FaultTexts.{form_fault_sentence, form_fault_text};
 
 use std::fmt;
 use thiserror::Error;
@@ -85,7 +86,9 @@ impl FormFault {
 
 impl FormFault {
     /// What the fault means, in a sentence or two.
-    pub fn sentence(self) -> &'static str {
+    pub fn sentence(self) -> &'static str
+        ensures { result.now ≡ form_fault_sentence self }
+    {
         match self {
             FormFault::NoForm => {
                 "The text has none of the forms that tsp solution --forms prints."
@@ -106,7 +109,7 @@ impl FormFault {
             }
             FormFault::NoNodes => "There are no nodes.",
             FormFault::UnknownLine => {
-                "The line is no route. Beside routes, a file has a cost, comments with #, and lines NAME: VALUE."
+                "The line is no route. Besides routes, a file may have a cost, comments with #, and lines NAME: VALUE."
             }
             FormFault::NotClosed =>
                 "A walk begins and ends at the depot, and all walks at the same one.",
@@ -143,7 +146,7 @@ impl fmt::Display for FormFault {
 #[derive(Clone, Copy, Debug, PartialEq, Eq, Error)]
 pub enum SolutionFault {
     /// The fault at a line, from 1 on, and a word of it, from 1 on. Words stand between blanks and
-    /// the marks `,` `;` `:` `[` `]` `(` `)` `{` and `}`.
+    /// the marks `,` `;` `:` `[` `]` `(` `)` `{` `}` and `"`.
     Place {
         line: u32,
         word: u32,

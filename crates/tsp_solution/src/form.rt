@@ -1,10 +1,9 @@
-//! The forms in which programs write solutions, in the order in which they are told apart.
+//! The forms in which programs write solutions, in the order in which `by_form.rt` tries them.
+//! `specs/Forms.antt` pins their names, which are words of the command line, and their numbers,
+//! which C programs use.
 
 ghost use Rattle.std.specs.Prelude.{◌≡◌};
-ghost use Rattle.tsp_solution.specs.Forms.{form_word, IsFormOf};
-
-use std::alloc::Global;
-use tsp_io::{Refused, push};
+ghost use Rattle.tsp_solution.specs.Forms.{form_word, forms_table, IsFormOf};
 
 /// A form in which a program writes a solution.
 #[derive(Clone, Copy, Debug, PartialEq, Eq)]
@@ -32,20 +31,6 @@ pub enum Form {
 }
 
 impl Form {
-    /// Each form, in the order in which they are told apart.
-    pub const ALL: [Form; 10] = [
-        Form::Tour,
-        Form::Json,
-        Form::OrTools,
-        Form::Cvrplib,
-        Form::LkhRoutes,
-        Form::RTour,
-        Form::ConcordeEdges,
-        Form::ConcordeTour,
-        Form::Table,
-        Form::List,
-    ];
-
     /// The name of the form.
     pub fn word(self) -> &'static str
         ensures { result.now ≡ form_word self }
@@ -61,38 +46,6 @@ impl Form {
             Form::ConcordeTour => "concorde",
             Form::Table => "table",
             Form::List => "list",
-        }
-    }
-
-    /// What tells the form from those after it.
-    pub fn mark(self) -> &'static str {
-        match self {
-            Form::Tour => "a line TYPE or TOUR_SECTION",
-            Form::Json => "begins with { or [, and is JSON",
-            Form::OrTools => "a line of nodes with -> between them",
-            Form::Cvrplib => "a line that begins with Route and has a colon",
-            Form::LkhRoutes => "a line with (#",
-            Form::RTour => "begins with [1]",
-            Form::ConcordeEdges => "a first line of two equal numbers",
-            Form::ConcordeTour => "a first line with the number of nodes",
-            Form::Table => "lines of two numbers, one of them the position",
-            Form::List => "other numbers",
-        }
-    }
-
-    /// What is read of the form.
-    pub fn content(self) -> &'static str {
-        match self {
-            Form::Tour => "a file of TYPE TOUR; with --of, LKH-3's copies of the depot too",
-            Form::Json => "a list of nodes or routes, alone or in an object, such as VRPLIB's",
-            Form::OrTools => "what OR-Tools' examples print; nodes count from 0",
-            Form::Cvrplib => "routes of CVRPLIB and PyVRP; customers count from 1",
-            Form::LkhRoutes => "LKH-3's MTSP_SOLUTION_FILE; needs --of",
-            Form::RTour => "a tour that R printed; nodes count from 1",
-            Form::ConcordeEdges => "the edges of Concorde's tour; nodes count from 0",
-            Form::ConcordeTour => "Concorde's tour; nodes count from 0",
-            Form::Table => "nodes by position, below a line of names or without one",
-            Form::List => "a list of nodes, such as Concorde's cycles and numpy's",
         }
     }
 
@@ -116,38 +69,33 @@ impl Form {
     }
 }
 
-/// The width of the column of names.
-const WIDTH: usize = 16;
-
 /// The table of the forms: for each a line with its name and what tells it, and one with what is
 /// read of it.
-///
-/// # Errors
-///
-/// Out of memory.
-pub fn table_of_forms(alloc: Global) -> Result<Vec<u8>, Refused> {
-    let mut text = Vec::new(alloc);
-    'forms: for form in &Form::ALL {
-        push_row(&mut text, form.word(), form.mark())?;
-        push_row(&mut text, "", form.content())?;
-    }
-    Ok(text)
+pub fn table_of_forms() -> &'static str
+    ensures { result.now ≡ forms_table }
+{
+    TABLE
 }
 
-/// Adds a line of two columns.
-fn push_row(text: &mut Vec<u8>, name: &str, words: &str) -> Result<(), Refused> {
-    push_words(text, name)?;
-    'blanks: for _ in name.len()..WIDTH {
-        push(text, b' ')?;
-    }
-    push_words(text, words)?;
-    push(text, b'\n')
-}
-
-/// Adds words.
-fn push_words(text: &mut Vec<u8>, words: &str) -> Result<(), Refused> {
-    'bytes: for byte in words.as_bytes() {
-        push(text, *byte)?;
-    }
-    Ok(())
-}
+const TABLE: &str = "\
+tour            a line TYPE or TOUR_SECTION
+                a file of TYPE TOUR; with --of, LKH-3's copies of the depot too
+json            begins with { or [, and is JSON
+                a list of nodes or routes, alone or in an object, such as VRPLIB's
+ortools         a line of nodes with -> between them
+                what OR-Tools' examples print; nodes count from 0
+cvrplib         a line that begins with Route and has a colon
+                routes of CVRPLIB and PyVRP; customers count from 1
+lkh             a line with (#
+                LKH-3's MTSP_SOLUTION_FILE; needs --of
+r               begins with [1]
+                what R prints for as.integer(tour); nodes count from 1
+concorde-edges  a first line of two equal numbers
+                the edges of Concorde's tour; nodes count from 0
+concorde        a first line with the number of nodes
+                Concorde's tour; nodes count from 0
+table           lines of two numbers, one of them the position
+                nodes by position, below a line of names or without one
+list            other numbers
+                a list of nodes, such as Concorde's cycles and numpy's
+";

@@ -1,8 +1,14 @@
-//! What is known of a solution besides its text.
+//! `Hints`: what is known about a solution besides its text, such as its form, how nodes are
+//! counted, and the shape of its instance. tsp_cli and tsp_c fill it in, `run.rt` and `in_memory.rt`
+//! add the shape, and `by_form.rt`, `meaning.rt` and `tour_file.rt` read it. What a hint means for
+//! the nodes of a solution is tested, not proved.
 
 ghost use Rattle.std.specs.Prelude.{◌≡◌, option_map};
+ghost use Rattle.tsp_solution.specs.SolutionRun.{GivesShape, first_depot, no_hints, instance_shape_of};
 
+use crate::fault::{FormFault, SolutionFault};
 use crate::form::Form;
+use crate::word_place::Place;
 use tsp_file::File;
 use tsp_format::Kind;
 
@@ -25,8 +31,10 @@ pub struct InstanceShape {
 }
 
 impl InstanceShape {
-    /// The shape of an instance, or `None` if the file is none.
-    pub fn of(instance: &File) -> Option<InstanceShape> {
+    /// The shape of an instance, or `None` if the file isn't one.
+    pub fn of(instance: &File) -> Option<InstanceShape>
+        ensures { result ≡ instance_shape_of instance.now }
+    {
         let nodes = instance.dimension()?;
         match instance.kind() {
             Kind::Tsp | Kind::Atsp => Some(InstanceShape { nodes, depot: None }),
@@ -40,14 +48,16 @@ impl InstanceShape {
 }
 
 /// The first depot of an instance of routes, which is node 1 if none is listed.
-fn first_depot(instance: &File) -> u32 {
+fn first_depot(instance: &File) -> u32
+    ensures { result ≡ first_depot instance.now.depots }
+{
     match instance.depots() {
         Some([depot, ..]) => *depot,
         _ => 1,
     }
 }
 
-/// What is known of a solution besides its text.
+/// What is known about a solution besides its text.
 #[derive(Clone, Copy, Debug, PartialEq, Eq)]
 pub struct Hints {
     /// Its form, or `None` to find that out.
@@ -62,12 +72,33 @@ pub struct Hints {
 
 impl Hints {
     /// Nothing is known.
-    pub fn none() -> Hints {
+    pub fn none() -> Hints
+        ensures { result ≡ no_hints }
+    {
         Hints {
             form: None,
             numbering: None,
             depot: None,
             shape: None,
+        }
+    }
+
+    /// The hints with the shape of an instance.
+    ///
+    /// # Errors
+    ///
+    /// `NotAnInstance` at the first word if the file has no shape.
+    pub(crate) fn with_shape(self, shape: Option<InstanceShape>) -> Result<Hints, SolutionFault>
+        ensures { GivesShape self shape result }
+    {
+        match shape {
+            Some(shape) => Ok(Hints {
+                form: self.form,
+                numbering: self.numbering,
+                depot: self.depot,
+                shape: Some(shape),
+            }),
+            None => Err(Place::first().fault(FormFault::NotAnInstance)),
         }
     }
 

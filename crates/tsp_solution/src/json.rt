@@ -1,4 +1,5 @@
-//! The one list of a text in JSON: nodes, or routes as lists of nodes.
+//! Reads the only list in a JSON text: nodes, or routes as lists of nodes. `by_form.rt` calls it;
+//! its answers are tested, not proved.
 
 use crate::fault::{FormFault, SolutionFault};
 use crate::json_tokens::{JsonToken, JsonTokens};

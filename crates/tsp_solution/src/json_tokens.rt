@@ -1,4 +1,4 @@
-//! The tokens of JSON, and where they stand.
+//! Cuts JSON into tokens with their places, for `json.rt`. Its answers are tested, not proved.
 
 use crate::word_place::Place;
 use tsp_format::is_blank;

@@ -1,4 +1,6 @@
-//! Nodes from the numbers of a solution: which node a number is, and where the depot is left out.
+//! Turns the numbers of a solution into nodes: which node a number stands for, and where the depot
+//! is left out. `by_form.rt` comes here with the numbers of each form; its answers are tested, not
+//! proved.
 
 use crate::fault::{FormFault, SolutionFault};
 use crate::hints::{Hints, Numbering};
@@ -17,7 +19,7 @@ pub(crate) struct ListedTours {
 }
 
 impl ListedTours {
-    /// Tours of which nothing is said.
+    /// Tours about which nothing more is known.
     pub(crate) fn of(tours: Vec<Vec<u32>>) -> ListedTours {
         ListedTours {
             tours,

@@ -1,4 +1,5 @@
-//! Numbers as a text lists them: in groups, of which each is a tour or a route.
+//! The numbers of a text in groups, one for each tour or route. All readers of forms except
+//! `edges.rt` return their numbers in this way, and `meaning.rt` turns them into nodes.
 
 use crate::fault::{FormFault, SolutionFault};
 use crate::word_place::Place;

@@ -1,5 +1,5 @@
-//! Lines of numbers: a list of nodes, a table of nodes and their positions, a tour that R printed,
-//! or a tour of Concorde.
+//! Reads lines of numbers: a list of nodes, a table of nodes and their positions, a tour that R
+//! printed, or a Concorde tour. `by_form.rt` calls it; its answers are tested, not proved.
 
 use crate::fault::{FormFault, SolutionFault};
 use crate::number_groups::NumberGroups;
@@ -28,6 +28,8 @@ pub(crate) struct Rows {
     are_pairs: bool,
     /// Whether a line of names comes before the numbers.
     has_names: bool,
+    /// The place of that line, if it has more names than a table has columns.
+    too_many: Option<Place>,
 }
 
 /// Reads the lines of numbers of a text. If it is `printed` by R, each may begin with the index of
@@ -64,6 +66,7 @@ impl Rows {
             are_single: true,
             are_pairs: true,
             has_names: false,
+            too_many: None,
         }
     }
 
@@ -73,14 +76,8 @@ impl Rows {
         if rest.starts_with(b"#") {
             return Ok(());
         }
-        let names = count_names(rest);
-        if names > 0 && self.rows == 0 && !self.has_names {
-            self.has_names = true;
-            return if names > MOST_COLUMNS {
-                Err(Place::of_line(line).fault(FormFault::TooManyColumns))
-            } else {
-                Ok(())
-            };
+        if self.rows == 0 && !self.has_names && self.take_names(rest, line) {
+            return Ok(());
         }
         let before = self.count;
         match after_index(rest) {
@@ -89,6 +86,16 @@ impl Rows {
         }
         self.count_row(self.count.saturating_sub(before));
         Ok(())
+    }
+
+    /// Takes a line of names, or returns `false` if it is none.
+    fn take_names(&mut self, bytes: &[u8], line: u32) -> bool {
+        let names = count_names(bytes);
+        self.has_names = names > 0;
+        if names > MOST_COLUMNS {
+            self.too_many = Some(Place::of_line(line));
+        }
+        self.has_names
     }
 
     /// Takes the words of a line, of which the first stands at this place.
@@ -108,6 +115,9 @@ impl Rows {
                 ) if self.count == 0 => return Err(place.fault(FormFault::NoForm)),
                 found => found?,
             };
+            if let Some(names) = self.too_many {
+                return Err(names.fault(FormFault::TooManyColumns));
+            }
             self.list.push(number, place)?;
             self.count = self.count.saturating_add(1);
             place = place.next();

@@ -1,5 +1,6 @@
-//! Routes of CVRPLIB's .sol files and of LKH-3's MTSP_SOLUTION_FILE, a line for each, and the routes
-//! of a tour with copies of the depot.
+//! Reads the routes in CVRPLIB's .sol files and in LKH-3's MTSP_SOLUTION_FILE, a line for each
+//! route, and the routes of a tour with copies of the depot. `by_form.rt` calls it; its answers are
+//! tested, not proved.
 
 use crate::fault::{FormFault, SolutionFault};
 use crate::number_groups::NumberGroups;

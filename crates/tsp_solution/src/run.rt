@@ -1,14 +1,18 @@
-//! The run of `tsp solution`: from the bytes of a solution, and of its instance if one is named, to
-//! the canonical text of a file of TYPE TOUR.
+//! The run of `tsp solution`: reads a solution, and its instance if one is named, and writes the
+//! canonical text of a file of TYPE TOUR. tsp_cli calls it, and `specs/SolutionRun.antt` pins how
+//! it ends.
 
-ghost use Rattle.std.specs.Prelude.{◌≡◌, ◌+◌, length, vec_len, OnOk};
-ghost use Rattle.tsp_solution.specs.SolutionRun.{IsSolutionRun};
+ghost use Rattle.std.specs.Prelude.{◌≡◌, ◌++◌, MatchResult, IfErr, OnOk, false};
+ghost use Rattle.tsp_solution.specs.SolutionRun.{GivesHints, IsInstanceReadOn, IsSolutionRun, IsReadWhole, StopsText, TakesInstance, WritesRead};
+ghost use Rattle.tsp_solution.specs.declared.fault.SolutionFault.TheVariants.{OutOfMemory};
 ghost use Rattle.tsp_io.specs.states.Output.{FailsByWrite, sink_of};
+ghost use Rattle.tsp_io.specs.Streams.{TakesAtMost};
+ghost use Rattle.tsp_io.specs.states.Watched.{has_failed, read_trace_of};
+ghost use Rattle.tsp_read.specs.Reads.{IsReadOn, most_taken};
 
-use crate::fault::{FormFault, SolutionFault};
+use crate::fault::SolutionFault;
 use crate::hints::{Hints, InstanceShape};
 use crate::tour_file::solution_of;
-use crate::word_place::Place;
 use std::alloc::Global;
 use std::fmt;
 use std::io::Read;
@@ -47,7 +51,8 @@ impl fmt::Display for SolutionRunFault {
 /// Reads a solution, and writes it as a file of TYPE TOUR.
 ///
 /// The solution is read whole, then the instance if there is one, whose shape replaces that of the
-/// hints. Nothing is written before the file is known.
+/// hints. Nothing is written before the file is known. From each reader, at most 4,096 bytes past
+/// `MOST_FILE_BYTES` are read.
 ///
 /// # Errors
 ///
@@ -60,23 +65,42 @@ pub fn write_solution<R: Gives, I: Gives, W: Takes>(
     hints: Hints,
     out: &mut Output<W>,
 ) -> Result<(), SolutionRunFault>
-    ensures text { IsSolutionRun (sink_of W.contents out.old out.new) result }
+    ensures answer { TakesAtMost most_taken (read_trace_of R.remaining solution.old solution.new) (λ first.
+        TakesInstance I.remaining instance.old instance.new (λ second.
+        IsSolutionRun hints first second (sink_of W.contents out.old out.new) result)) }
+    ensures asked { IsReadOn R.gives solution.old solution.new × IsInstanceReadOn I.gives instance.old instance.new }
     ensures cause { FailsByWrite W.takes out.new }
 {
     let text = match read_text(alloc, solution) {
         Ok(text) => text,
         Err(fault) => return Err(SolutionRunFault::File { file: 1, fault }),
     };
-    let hints = match with_shape(alloc, instance, hints) {
-        Ok(hints) => hints,
+    let known = match hints_for(alloc, instance, hints) {
+        Ok(known) => known,
         Err(fault) => {
             drop(text);
             return Err(SolutionRunFault::File { file: 2, fault });
         }
     };
-    let found = solution_of(alloc, &text, hints);
+    let written = write_read(alloc, &text, known, out);
     drop(text);
-    let file = match found {
+    written
+}
+
+/// Writes the solution that a text is, by what is known about it, as a file of TYPE TOUR.
+///
+/// # Errors
+///
+/// `File` with the number 1 and the fault of the text; `Write`.
+pub(crate) fn write_read<W: Takes>(
+    alloc: Global,
+    text: &[u8],
+    known: Hints,
+    out: &mut Output<W>,
+) -> Result<(), SolutionRunFault>
+    ensures { WritesRead known text.now (sink_of W.contents out.old out.new) result }
+{
+    let file = match solution_of(alloc, text, known) {
         Ok(file) => file,
         Err(fault) => return Err(SolutionRunFault::File { file: 1, fault }),
     };
@@ -89,11 +113,19 @@ pub fn write_solution<R: Gives, I: Gives, W: Takes>(
 }
 
 /// The hints with the shape of an instance, if there is one.
-fn with_shape<I: Gives>(
+///
+/// # Errors
+///
+/// `File` with the fault of the instance; `NotAnInstance` at its first word if it is a file of
+/// another TYPE.
+fn hints_for<I: Gives>(
     alloc: Global,
     instance: &mut Option<Watched<I>>,
     hints: Hints,
-) -> Result<Hints, SolutionFault> {
+) -> Result<Hints, SolutionFault>
+    ensures answer { TakesInstance I.remaining instance.old instance.new (λ second. GivesHints hints second result) }
+    ensures asked { IsInstanceReadOn I.gives instance.old instance.new }
+{
     let Some(reader) = instance else {
         return Ok(hints);
     };
@@ -103,15 +135,7 @@ fn with_shape<I: Gives>(
     };
     let shape = InstanceShape::of(&file);
     drop(file);
-    match shape {
-        Some(_) => Ok(Hints {
-            form: hints.form,
-            numbering: hints.numbering,
-            depot: hints.depot,
-            shape,
-        }),
-        None => Err(Place::first().fault(FormFault::NotAnInstance)),
-    }
+    hints.with_shape(shape)
 }
 
 /// Reads all bytes of a reader, if there are no more than a file may have.
@@ -119,11 +143,29 @@ fn with_shape<I: Gives>(
 /// # Errors
 ///
 /// `Device` if a read fails, or had failed before; `TooLong`; `OutOfMemory`.
-fn read_text<R: Gives>(alloc: Global, reader: &mut Watched<R>) -> Result<Vec<u8>, SolutionFault> {
-    let mut text = Vec::new(alloc);
+pub fn read_text<R: Gives>(alloc: Global, reader: &mut Watched<R>) -> Result<Vec<u8>, SolutionFault>
+    ensures answer { TakesAtMost most_taken (read_trace_of R.remaining reader.old reader.new) (λ read_trace.
+        MatchResult result (λ text. IsReadWhole read_trace × (text.items ≡ read_trace.given)) (λ fault. StopsText fault read_trace)) }
+    ensures asked { IsReadOn R.gives reader.old reader.new }
+{
     if reader.failed() {
         return Err(SolutionFault::File(ReadFault::Device));
     }
+    read_pieces(alloc, reader)
+}
+
+/// Reads all bytes of a reader that hasn't failed, in pieces.
+///
+/// # Errors
+///
+/// Those of `read_text`.
+fn read_pieces<R: Gives>(alloc: Global, reader: &mut Watched<R>) -> Result<Vec<u8>, SolutionFault>
+    requires sound { has_failed reader.old ≡ false }
+    ensures answer { TakesAtMost most_taken (read_trace_of R.remaining reader.old reader.new) (λ read_trace.
+        MatchResult result (λ text. IsReadWhole read_trace × (text.items ≡ read_trace.given)) (λ fault. StopsText fault read_trace)) }
+    ensures asked { IsReadOn R.gives reader.old reader.new }
+{
+    let mut text = Vec::new(alloc);
     let mut piece = [0u8; PIECE_BYTES];
     'pieces: while text.len() <= MOST_FILE_BYTES {
         let Ok(count) = reader.read(&mut piece) else {
@@ -141,7 +183,8 @@ fn read_text<R: Gives>(alloc: Global, reader: &mut Watched<R>) -> Result<Vec<u8>
 
 /// Adds a piece to a text.
 fn append(text: &mut Vec<u8>, piece: &[u8]) -> Result<(), SolutionFault>
-    ensures { OnOk result (vec_len text.new ≡ vec_len text.old + length piece.now) }
+    ensures added { OnOk result (text.new.items ≡ text.old.items ++ piece.now) }
+    ensures refused { IfErr result (λ fault. fault ≡ OutOfMemory) }
 {
     match text.extend_from_slice(piece) {
         Ok(()) => Ok(()),

@@ -1,4 +1,6 @@
-//! The public call: the file of TYPE TOUR that a text is read as.
+//! `solution_of`: the file of TYPE TOUR as which a text is read. `run.rt` calls it. By its
+//! contract, a file of TYPE TOUR stays unchanged, unless it has LKH-3's copies of the depot; that
+//! other forms are understood correctly is only tested.
 
 ghost use Rattle.std.specs.Prelude.{◌≡◌, ◌⊎◌, IfOk, IfSome, Some, None, Err, Ok, true, nat_le};
 ghost use Rattle.std.specs.List.{list_all};
@@ -46,7 +48,7 @@ pub fn solution_of(alloc: Global, text: &[u8], hints: Hints) -> Result<File, Sol
     file_of(alloc, found)
 }
 
-/// Reads a file of TYPE TOUR, or returns `None` if the text is none and may have another form.
+/// Reads a file of TYPE TOUR, or returns `None` if the text isn't one and may have another form.
 ///
 /// # Errors
 ///
@@ -88,17 +90,21 @@ fn without_mark(text: &[u8]) -> &[u8] {
 /// Whether a line begins with a keyword that files of TYPE TOUR have.
 fn has_keywords(text: &[u8]) -> bool {
     'lines: for line in text.split(|byte| *byte == b'\n') {
-        let line = without_blanks(line);
-        if line.starts_with(b"TOUR_SECTION") {
-            return true;
-        }
-        if let Some(rest) = line.strip_prefix(b"TYPE".as_slice())
-            && without_blanks(rest).starts_with(b":")
+        if let [b'T', ..] = without_blanks(line)
+            && begins_with_keyword(without_blanks(line))
         {
             return true;
         }
     }
     false
+}
+
+/// Whether a line begins with one of these keywords.
+fn begins_with_keyword(line: &[u8]) -> bool {
+    match line.strip_prefix(b"TYPE".as_slice()) {
+        Some(rest) => without_blanks(rest).starts_with(b":"),
+        None => line.starts_with(b"TOUR_SECTION"),
+    }
 }
 
 // ---- a file of TYPE TOUR, with copies of the depot or without
@@ -131,7 +137,7 @@ fn with_routes(alloc: Global, file: File, hints: Hints) -> Result<File, Solution
     }
 }
 
-/// The one tour of a file, if it has nodes above those of the instance; else `None`.
+/// The one tour of a file, if it has nodes above those of the instance; otherwise `None`.
 fn trip_of(file: &File, nodes: u32) -> Option<&[u32]>
     ensures { IfSome file.now.tours (λ tours. are_within nodes tours ≡ true) → result ≡ None }
 {

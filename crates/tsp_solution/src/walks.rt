@@ -1,4 +1,5 @@
-//! What OR-Tools' examples print: for each vehicle a walk such as `0 -> 5 -> 0`, and distances.
+//! Reads what OR-Tools' examples print: for each vehicle a walk such as `0 -> 5 -> 0`, and
+//! distances. `by_form.rt` calls it; its answers are tested, not proved.
 
 use crate::fault::{FormFault, SolutionFault};
 use crate::number_groups::{NumberGroups, is_closed_at};

@@ -1,4 +1,8 @@
-//! Lines and words of a text, and where they stand.
+//! Cuts a text into lines and words with their places, for the readers of all forms. The places are
+//! printed with faults.
+
+ghost use Rattle.std.specs.Prelude.{◌≡◌};
+ghost use Rattle.tsp_solution.specs.declared.fault.SolutionFault.TheVariants.{Place as PlaceFault};
 
 use crate::fault::{FormFault, SolutionFault};
 use tsp_format::is_blank;
@@ -17,12 +21,16 @@ pub(crate) struct Place {
 
 impl Place {
     /// The first word of a text.
-    pub(crate) fn first() -> Place {
+    pub(crate) fn first() -> Place
+        ensures { (result.line ≡ 1) × (result.word ≡ 1) }
+    {
         Place::of_line(1)
     }
 
     /// The first word of a line.
-    pub(crate) fn of_line(line: u32) -> Place {
+    pub(crate) fn of_line(line: u32) -> Place
+        ensures { (result.line ≡ line) × (result.word ≡ 1) }
+    {
         Place { line, word: 1 }
     }
 
@@ -35,7 +43,9 @@ impl Place {
     }
 
     /// A fault at this place.
-    pub(crate) fn fault(self, fault: FormFault) -> SolutionFault {
+    pub(crate) fn fault(self, fault: FormFault) -> SolutionFault
+        ensures { result ≡ PlaceFault self.line self.word fault }
+    {
         SolutionFault::Place {
             line: self.line,
             word: self.word,
@@ -49,11 +59,11 @@ pub(crate) fn is_mark(byte: u8) -> bool {
     is_blank(byte) || is_list_mark(byte)
 }
 
-/// Whether a byte is a comma or a bracket, or the like.
+/// Whether a byte is a comma, a bracket or a quotation mark, or the like.
 fn is_list_mark(byte: u8) -> bool {
     matches!(
         byte,
-        b',' | b';' | b':' | b'[' | b']' | b'(' | b')' | b'{' | b'}'
+        b',' | b';' | b':' | b'[' | b']' | b'(' | b')' | b'{' | b'}' | b'"'
     )
 }
 

@@ -1,4 +1,5 @@
--- Opened files that aren't a standard stream.
+-- Opened files that aren't a standard stream: src/main.rt promises that it opens each file so. If a standard stream was
+-- closed before the start, the system gives its number to the next file, which would be read as standard input.
 use Rattle.std.specs.Prelude.{ℤ, pos, ◌<ℤ◌}
 use Rattle.std.specs.Fd.{file_raw_fd}
 use Rattle.std.specs.declared.fs.File.{File}

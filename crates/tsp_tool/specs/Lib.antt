@@ -1,2 +1,2 @@
--- The files of definitions of this crate. Crates above may import them.
+-- The definition of files that aren't a standard stream, for src/main.rt. No crate is above this one.
 pub mod Beside

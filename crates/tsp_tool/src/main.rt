@@ -1,7 +1,7 @@
-//! The program `tsp`, which shows, converts, checks, compares and bounds TSPLIB 95 files.
+//! The program `tsp`, which opens files and streams, and leaves the rest to tsp_cli.
 //!
-//! It has the calls of the host alone: the words of the command line, the opening of files, and the
-//! streams. All else is tsp_cli's. What a task writes goes to standard output.
+//! Only host calls are here: the command line, opening files, and the streams. tsp_cli does the
+//! rest. What a task writes goes to standard output.
 #![tactic(auto)]
 
 ghost use Rattle.std.specs.Prelude.{◌↔◌, IfOk, IsTrue};
@@ -45,8 +45,8 @@ fn main(rt: HostRuntime) -> ExitCode {
     ExitCode::from(status)
 }
 
-/// The words of the command line, the program's own name first. The error is out of memory, or a
-/// word that is no text.
+/// The words of the command line, the program's own name first. Fails if memory runs out, or if a
+/// word isn't text.
 fn words_of_line(rt: &HostRuntime) -> io::Result<Vec<String>> {
     let words = env::args(rt)?.collect(rt.alloc())?;
     Ok(words)
@@ -68,7 +68,7 @@ impl Open<InputFile<Stdin, File>> for Host<'_> {
         }
     }
 
-    /// A pipe or a device gives its bytes once, and to open one could wait for ever.
+    /// A pipe or a device gives its bytes only once, and opening one could wait for ever.
     fn open_again(&self, path: &str) -> Option<InputFile<Stdin, File>> {
         match fs::metadata(self.rt, path) {
             Ok(found) if found.is_file() || found.is_dir() => {
@@ -80,10 +80,10 @@ impl Open<InputFile<Stdin, File>> for Host<'_> {
     }
 }
 
-/// The file at a path, opened to be read, under another number than a standard stream has.
+/// Opens the file at a path, with a descriptor that isn't a standard stream's.
 ///
-/// If a standard stream was closed before the program started, the system gives its number to
-/// the next file. That file would then be read as standard input.
+/// If a standard stream was closed before the program started, the system gives its number to the
+/// next file, which would then be read as standard input.
 fn opened(rt: &HostRuntime, path: &str) -> io::Result<File>
     ensures { IfOk result IsBesideStreams }
 {
@@ -98,8 +98,7 @@ fn opened(rt: &HostRuntime, path: &str) -> io::Result<File>
     Err(io::Error::from(ErrorKind::Unsupported))
 }
 
-/// Whether the number of the file's descriptor is above those of the standard streams, which are 0
-/// to 2.
+/// Whether the file's descriptor is above those of the standard streams, 0 to 2.
 fn is_beside_streams(file: &File) -> bool
     ensures { IsTrue result ↔ IsBesideStreams file.now }
 {

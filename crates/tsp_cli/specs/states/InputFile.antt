@@ -1,4 +1,5 @@
--- A file to be read that is standard input, an opened file, or missing, and what a read of it does.
+-- A file to be read that is standard input, an opened file, or missing, and what a read of it does. For src/input.rt,
+-- and for the files that tsp_tool opens.
 use Rattle.std.specs.Prelude.{◌≡◌, ℕ, ℤ, Bool, true, false, List, Option, None, Some, Result, Err}
 use Rattle.std.specs.IoError.{error_kind, raw_os_error}
 use Rattle.std.specs.declared.io.Error.{Error}
@@ -16,7 +17,7 @@ is_missing (Input input) = false
 is_missing (Opened file) = false
 is_missing (Missing error) = true
 
--- the bytes that it has left, where these are known
+-- the bytes that it has left, if these are known
 abbrev pub remaining_of : {I F : Type 0} → (I → Option (List ℕ)) → (F → Option (List ℕ)) → InputFile I F → Option (List ℕ)
 remaining_of of_input of_file (Input input) = of_input input
 remaining_of of_input of_file (Opened file) = of_file file
@@ -33,7 +34,7 @@ IsInputFileOf (input_paths.Path path) (Missing error) = Unit {0}
 
 -- ---- what a read does
 
--- the other error has the same number of the system; where that has none, it is of the same kind
+-- the other error has the same number of the system; if that has none, it is of the same kind
 abbrev pub HasSystemCode : Option ℤ → Error → Error → Type 0
 HasSystemCode (Some code) error other = raw_os_error other ≡ Some code
 HasSystemCode None error other = error_kind other ≡ error_kind error

@@ -7,6 +7,6 @@ use Rattle.tsp_cli.proofs.explained.send_what_goes.Given as goal
 abbrev pub invariant-parts : goal.invariant-parts
 invariant-parts g l = (text : List ℕ) × Appends (g.E.Write.contents l.initial.to) (g.E.Write.contents l.to) text
 
--- the loop goes on only where the writer took one or more bytes of `rest`
+-- the loop goes on only if the writer took one or more bytes of `rest`
 abbrev pub decreases-parts : goal.decreases-parts
 decreases-parts g l = length l.rest

@@ -5,7 +5,7 @@ use Rattle.tsp_judge.proofs.Yeses.{none_taken}
 use Rattle.tsp_judge.proofs.Bounding.{bound_first_stops, bound_second_stops, bound_fault_of}
 use Rattle.tsp_judge.proofs.bound_run.run_bound.Goals as goal
 
--- plan: by the first file that is none (`bound_first_stops`, `bound_second_stops`); else both are files
+-- plan: by the first file that isn't valid (`bound_first_stops`, `bound_second_stops`); else both are files
 pub returns-in_err-instance-clause-answer : goal.returns-in_err-instance-clause-answer
 returns-in_err-instance-clause-answer g c =
     let same : c.from_residual.result ≡ Err c.in_err-instance.field-0.0 = propagated _ _ c.from_residual.ensures.1 in

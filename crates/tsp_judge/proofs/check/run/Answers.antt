@@ -4,7 +4,7 @@ use Rattle.tsp_judge.proofs.Yeses.{none_taken, first_stops, second_stops, third_
 use Rattle.tsp_judge.proofs.NamedReaders.{named_by, named_unread, named_unasked}
 use Rattle.tsp_judge.proofs.check.run.Goals as goal
 
--- plan: by the first file that is none (`first_stops`, `second_stops`, `third_stops`); else all are files
+-- plan: by the first file that isn't valid (`first_stops`, `second_stops`, `third_stops`); else all are files
 pub returns-in_err-instance-clause-answer : goal.returns-in_err-instance-clause-answer
 returns-in_err-instance-clause-answer g c =
     let same : c.from_residual.result ≡ Err c.in_err-instance.field-0.0 = propagated _ _ c.from_residual.ensures.1 in

@@ -10,7 +10,7 @@ use Rattle.tsp_judge.proofs.Comparing.{ends_lacking, ends_comparing, clear_known
 use Rattle.tsp_judge.proofs.compared.compare_read.Goals as goal
 
 -- plan: by how it ends: of the wrong kind, without a known bound (`ends_lacking`), or with the comparison (`ends_comparing`);
--- where solutions are judged, the known bound is that of the files (`clear_known_bound`)
+-- if solutions are judged, the known bound is that of the files (`clear_known_bound`)
 pub compare_with-requires-clause-known_bound : goal.compare_with-requires-clause-known_bound
 compare_with-requires-clause-known_bound g c = λ clear.
     let common = c.in_ok-common.common in

@@ -1,7 +1,7 @@
 -- The goals of `compare_with` in src/compared.rt, which writes the head, and then the lines of the solutions: what it
 -- ensures.
-use Rattle.tsp_judge.proofs.Prelude.{◌≡◌, true, false, length, refl, arith, rules, sym, subst, sink_of, HasWritten, Fields, is_clear, head_of}
-use Rattle.tsp_judge.proofs.Comparing.{after_head}
+use Rattle.tsp_judge.proofs.Prelude.{◌≡◌, true, false, length, refl, arith, rules, sym, subst, Err, sink_of, HasWritten, Writes, Fields, is_clear, head_of}
+use Rattle.tsp_judge.proofs.Comparing.{after_head, head_stopped}
 use Rattle.tsp_judge.specs.CompareRun.{IsReadTraceAt, ComparesBy, AreAllReported, IsFollowedBy}
 use Rattle.tsp_judge.proofs.compared.compare_with.Goals as goal
 
@@ -14,6 +14,12 @@ returns-clause-text g c =
     (sink_of g.W.Takes.contents c.args.out.now c.compare_all.new.out) c.compare_all.result) (sym clear)
     (after_head g.W.Takes.contents c.args.out.now c.write_head.new.out c.compare_all.new.out (IsReadTraceAt g.R.Read.remaining g.R.Gives.gives (g.S.Solutions.opens c.args.solutions.now))
     (g.S.Solutions.names c.args.solutions.now) c.args.common.now (head_of c.args.common.now.instance c.args.common.now.known_bound) c.compare_all.result written c.compare_all.ensures.text)
+
+pub returns-in-Err-clause-text : goal.returns-in-Err-clause-text
+returns-in-Err-clause-text g c =
+    let stops = subst (λ (f : Fields). Writes (sink_of g.W.Takes.contents c.args.out.now c.write_head.new.out) (head_of f c.args.common.now.known_bound) (Err c.in-Err.fault)) c.file.ensures.value c.in-Err.ensures in
+    rw c.unwritten.ensures (head_stopped (is_clear c.args.common.now.known_bound) (IsReadTraceAt g.R.Read.remaining g.R.Gives.gives (g.S.Solutions.opens c.args.solutions.now))
+    (g.S.Solutions.names c.args.solutions.now) c.args.common.now _ c.in-Err.fault stops)
 
 pub returns-in-Err-clause-reported : goal.returns-in-Err-clause-reported
 returns-in-Err-clause-reported g c = (0, omega arith, refl)

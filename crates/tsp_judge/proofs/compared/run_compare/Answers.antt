@@ -5,7 +5,7 @@ use Rattle.tsp_judge.proofs.NamedReaders.{named_by, named_unread, named_unasked}
 use Rattle.tsp_judge.proofs.Comparing.{compare_first_stops, compare_second_stops}
 use Rattle.tsp_judge.proofs.compared.run_compare.Goals as goal
 
--- plan: by the first file that is none (`compare_first_stops`, `compare_second_stops`); else both are files
+-- plan: by the first file that isn't valid (`compare_first_stops`, `compare_second_stops`); else both are files
 pub returns-in_err-instance-clause-text : goal.returns-in_err-instance-clause-text
 returns-in_err-instance-clause-text g c =
     let same : c.from_residual.result ≡ Err c.in_err-instance.field-0.0 = propagated _ _ c.from_residual.ensures.1 in

@@ -3,7 +3,7 @@ use Rattle.tsp_judge.proofs.Prelude.{◌≡◌, List, [], ◌∷◌, ◌++◌, �
 use Rattle.tsp_format.specs.declared.kinds.Kind.TheVariants as kinds
 use Rattle.tsp_read.specs.declared.ReadFault.TheVariants as read_faults
 use Rattle.tsp_report.specs.declared.verdict.KnownBound.{KnownBound}
-use Rattle.tsp_report.specs.declared.verdict.KnownBound.TheVariants as known_bounds
+use Rattle.tsp_report.specs.declared.verdict.BoundVerdict.TheVariants as bounds
 use Rattle.tsp_report.specs.declared.verdict.Reason.TheVariants as reasons
 use Rattle.tsp_report.specs.declared.verdict.Verdict.{Verdict}
 use Rattle.tsp_verdict.specs.Examples.{with_unknown}
@@ -20,15 +20,18 @@ returns-clause-not_judged c = λ common sink status instance_is bound_is compare
     unknown common.instance.others (codes "VEHICLES", codes "5") [] (ap (λ f. f.others) instance_is)
     (all_judged common.certificate common.instance common.known_bound compared.0 (ap is_clear bound_is)).0
 
+abbrev unknown_yet : KnownBound
+unknown_yet = record { least = None; found = None }
+
 head : (instance other : Fields) (known_bound same : KnownBound) → instance ≡ other → known_bound ≡ same → head_of instance known_bound ≡ head_of other same
 head instance other known_bound same e f = ap (λ i. head_of i known_bound) e ∙ ap (λ k. head_of other k) f
 
 pub returns-clause-reason : goal.returns-clause-reason
 returns-clause-reason c = λ common sink instance_is bound_is known written.
     let refused = ap (λ f. strict_reason true f) instance_is in
-    let same = ap (λ b. strict_known_bound b (known_bounds.Tours None)) refused in
-    let text = head common.instance (with_unknown kinds.Atsp 4) common.known_bound (known_bounds.No reasons.NotJudged) instance_is bound_is in (
-      (known_bounds.Tours None, known, bound_is ∙ sym same),
+    let same = ap (λ b. strict_known_bound b unknown_yet) refused in
+    let text = head common.instance (with_unknown kinds.Atsp 4) common.known_bound (record { least = None; found = Some (bounds.No reasons.NotJudged) }) instance_is bound_is in (
+      (unknown_yet, known, bound_is ∙ sym same),
       subst (λ b. ComparesBy b (λ place read_trace. StopsAt read_faults.TooLong read_trace) (codes "a.tour" ∷ []) common sink (Ok 1)) (sym (ap is_clear bound_is))
           (subst (HasWritten sink) (sym text) written, refl),
     )
@@ -39,8 +42,8 @@ not_memory e = cc
 pub returns-clause-judged : goal.returns-clause-judged
 returns-clause-judged c = λ common sink read_trace instance_is bound_is known stops written.
     let found : List (Result Verdict ReadFault) = Err read_faults.TooLong ∷ [] in
-    let text = head common.instance (with_unknown kinds.Atsp 4) common.known_bound (known_bounds.Tours None) instance_is bound_is in (
-      (known_bounds.Tours None, known, bound_is),
+    let text = head common.instance (with_unknown kinds.Atsp 4) common.known_bound unknown_yet instance_is bound_is in (
+      (unknown_yet, known, bound_is),
       subst (λ b. ComparesBy b (λ place read_trace. StopsAt read_faults.TooLong read_trace) (codes "a.tour" ∷ []) common sink (Ok 2)) (sym (ap is_clear bound_is)) (
         found,
         ((read_trace, stops, (stops, not_memory)), tt),

@@ -4,7 +4,7 @@ use Rattle.tsp_judge.proofs.Comparing.{all_judged, none_judged}
 use Rattle.tsp_judge.proofs.laws.strict_comparisons_leave_nothing_unjudged.Goals as goal
 use Rattle.tsp_judge.specs.CompareRun.{IsReadTraceAt}
 
--- plan: where all are judged, so is every line of the instance (`all_judged`); where one is left, none is judged
+-- plan: if all are judged, so is every line of the instance (`all_judged`); if one is left, none is judged
 -- (`none_judged`)
 pub returns-clause-all_judged : goal.returns-clause-all_judged
 returns-clause-all_judged g c = λ given first sink compared run.
