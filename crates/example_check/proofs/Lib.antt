@@ -1,2 +1,2 @@
--- The files of lemmas of this crate. Crates above may import them.
+-- The lemma file of the example. No crate is above this one.
 pub mod OnTexts

@@ -1,4 +1,4 @@
--- What `yes` of a run on readers means for the texts that they read.
+-- For src/report.rt: what `yes` of a run on readers means for the texts that they read.
 use Rattle.std.proofs.Common.{◌≡◌, ℕ, List, [], ◌⊎◌, subst, sym}
 use Rattle.std.specs.Prelude.{Option, None, Some, IfSome, false}
 use Rattle.std.specs.Io.KnownBytes.{Appends}

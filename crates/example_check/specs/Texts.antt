@@ -1,4 +1,5 @@
--- The verdict on two texts in memory, and what the report on them means.
+-- The verdict on two texts in memory, and what the report on them means. For the two calls in src/; in no circle of
+-- docs/trust.md.
 use Rattle.std.specs.Prelude.{ℕ, ◌⊎◌, List, None}
 use Rattle.tsp_file.specs.Fields.{Fields}
 use Rattle.tsp_text.specs.ParsesTo.{ParsesTo}

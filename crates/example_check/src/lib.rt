@@ -18,7 +18,7 @@ use tsp_verdict::{Verdict, judge_tour};
 /// Why `verdict_on` returns no verdict.
 #[derive(Debug, PartialEq, Drop, Error)]
 pub enum NoVerdict {
-    /// A text is no file.
+    /// A text isn't a valid file.
     #[error("{0}")]
     Fault(#[from] ReadFault),
     /// The first file isn't of TYPE TSP or ATSP.
@@ -33,7 +33,7 @@ pub enum NoVerdict {
 ///
 /// # Errors
 ///
-/// `Fault` if a text is no file, `WrongKind` if the first is of another TYPE than TSP or
+/// `Fault` if a text isn't a valid file, `WrongKind` if the first is of another TYPE than TSP or
 /// ATSP, `OutOfMemory`.
 pub fn verdict_on(alloc: Global, instance: &[u8], solution: &[u8]) -> Result<Verdict, NoVerdict>
     ensures { IfOk result (IsVerdictOnTexts instance.now solution.now) }

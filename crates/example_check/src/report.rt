@@ -1,5 +1,5 @@
-//! An example of how the calls of tsp_judge are used: a check of two texts in memory, with its
-//! report.
+//! An example of a call of tsp_judge: checks two texts in memory, and returns the report. Its
+//! contract says what `yes` means for the two texts.
 
 ghost use Rattle.std.specs.Prelude.{◌≡◌, true, IfOk};
 ghost use Rattle.example_check.specs.Texts.{IsAcceptedOnTexts};

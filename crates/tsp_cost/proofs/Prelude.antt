@@ -1,4 +1,5 @@
--- Names from std and other crates that proofs here use often, re-exported so that a file needs one import.
+-- Names of other crates, passed on to the files of this crate alone. It defines nothing: add or remove names freely;
+-- `tests/repository/names` sees that each is imported from here.
 pub use Rattle.std.proofs.Common.{Bool, FitsSigned, List, None, Option, SFits, Some, add-one, ap, append_assoc, ap₂, arith, drop, drop-cons, eqb, false, inl, inr, length, ltb-false, map, negsuc, of_z, refl, rules, subst, suc, sym, take, take-append-drop, to_z, true, w64, zero, ℕ, [], ◌*ℤ◌, ◌*◌, ◌++◌, ◌+◌, ◌-ℤ◌, ◌-◌, ◌<◌, ◌^◌, ◌∙◌, ◌∷◌, ◌≡◌, ◌≢◌, ◌≤ℤ◌, ◌≤◌}
 pub use Rattle.std.proofs.lemmas.Int.{ints, to_z-of_z, unsigned_abs-mul}
 pub use Rattle.std.specs.Prelude.{IfSome, IsSome, IsTrue, if◌then◌else◌, is_some, nat_le, nat_lt, neg_ℤ, pos, slice_index, slice_index_or, unsigned_abs, unwrap_or, ℤ, ◌+ℤ◌, ◌⊎◌}

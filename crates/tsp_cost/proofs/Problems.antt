@@ -149,7 +149,7 @@ by_node {X = X} d xs = ext_get_or d (map entry nodes) xs (length-map nodes entry
     nodes : List ℕ
     nodes = range_with_len 1 (length xs)
 
--- where it has as many entries as there are nodes
+-- if it has as many entries as there are nodes
 over_nodes : {X : Type 0} (d : X) (n : ℕ) (xs : List X) → length xs ≡ n
     → Some xs ≡ Some (map (λ i. slice_index_or xs (i - 1) d) (nodes_to n))
 over_nodes d n xs each =

@@ -1,4 +1,4 @@
--- Small instances with fixed pairs, for src/examples.rt.
+-- Small instances with fixed pairs, for src/examples.rt. No other contract uses them.
 use Rattle.tsp_cost.specs.Prelude.{ℕ, List, Some, Fields, blank_fields}
 use Rattle.tsp_format.specs.declared.kinds.Kind.{Kind}
 

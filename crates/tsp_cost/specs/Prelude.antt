@@ -1,4 +1,5 @@
--- Names from other crates that definitions and contracts here use often, re-exported so that a file needs one import.
+-- Names of other crates, passed on to the files of this crate alone. It defines nothing: add or remove names freely;
+-- `tests/repository/names` sees that each is imported from here.
 pub use Rattle.std.specs.Prelude.{Bool, IfSome, IsSome, IsTrue, List, MatchOption, MatchResult, None, Option, Some, false, length, map, neg_ℤ, pos, slice_index, slice_index_or, true, unsigned_abs, unwrap_or, ℕ, ℤ, []}
 pub use Rattle.tsp_file.specs.Cost.{HoldsRouting, UnlistedHaveNoPlace, fixed_of, point_of}
 unfoldable pub use Rattle.tsp_file.specs.Cost.{cost, distance, listed_cost}

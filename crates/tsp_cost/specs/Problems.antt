@@ -1,6 +1,7 @@
 -- Circles 1 and 3 of docs/trust.md.
--- Which problem a valid instance is: of TYPE TSP or ATSP a travelling salesman problem, of TYPE CVRP a routing problem.
--- It joins the fields of a file to the mathematics of tsp_theory, and each valid instance is exactly one problem.
+-- Which problem a valid instance is: a travelling salesman problem for TYPE TSP or ATSP, a routing problem for TYPE
+-- CVRP. This file joins the fields of a file to the mathematics of tsp_theory. Each valid instance is exactly one
+-- problem, as src/laws.rt proves.
 use Rattle.tsp_cost.specs.Prelude.{ℕ, false, [], map, Some, unwrap_or, ℤ, pos, Bool, true, List, Option, None, slice_index, length, Point, IsNode, nodes_to, is_listed, cells, cost, fixed_of, Fields, nodes_of, RoutingProblem, Problem, demand_of, IsPlan, IsTour}
 use Rattle.std.specs.Prelude.{◌≡◌, ◌≢◌, ◌⊎◌, if◌then◌else◌, ◌∷◌}
 use Rattle.tsp_format.specs.declared.kinds.Kind.{Kind}
@@ -99,7 +100,7 @@ IsPlanOf f routes = IsPlan (routing_of f) routes
 
 -- ---- that each valid instance is one problem
 
--- the functions give the problem of a valid instance; of a CVRP where it lists one depot
+-- the functions give the problem of a valid instance; for a CVRP, if it lists one depot
 pub record IsProblem (instance : Fields) : Type 0 where
   pub of_tours : (instance.kind ≡ Some kinds.Tsp) ⊎ (instance.kind ≡ Some kinds.Atsp) → IsProblemOf instance (problem_of instance)
   pub of_routes : instance.kind ≡ Some kinds.Cvrp → length (depots_of instance) ≡ 1 → IsRoutingOf instance (routing_of instance)

@@ -1,5 +1,7 @@
-//! Which cycles use the fixed edges of a TSP and which those of an ATSP, worked out by hand: values
-//! of `IsTourOf` in `specs/Problems.antt`, a definition that the line `yes` rests on.
+//! Laws that state values of `IsTourOf` in `specs/Problems.antt`, worked out by hand: which cycles
+//! use the fixed edges of a TSP, and which those of an ATSP. No code calls them. If someone makes
+//! the same mistake in the definition and in the code, every contract still holds, but one of these
+//! laws fails.
 
 ghost use Rattle.std.specs.Prelude.{[], ◌∷◌};
 ghost use Rattle.tsp_format.specs.declared.kinds.Kind.TheVariants as kinds;

@@ -1,7 +1,6 @@
-//! `Instance`: a file of TYPE TSP, ATSP or CVRP whose costs are known, where every judgement
-//! begins. Its views (`View`, `SymmetricView`) name the type that has the costs, points or a
-//! matrix, so that loops over them are compiled for it; the costs themselves are `cost` of
-//! `specs/Cost.antt` in tsp_file.
+//! `Instance`: a file of TYPE TSP, ATSP or CVRP with its costs, where every judgement begins. Its
+//! views (`View`, `SymmetricView`) are a type for each source of costs, such as points or a matrix,
+//! so that loops are compiled for it. `cost` in `specs/Cost.antt` of tsp_file pins the costs.
 
 ghost use Rattle.tsp_cost.specs.Prelude.{IsTrue, unwrap_or, MatchResult, pos, neg_ℤ, IsNode, cost, nodes_of};
 ghost use Rattle.std.specs.Prelude.{◌≡◌, ◌≤ℤ◌};

@@ -1,7 +1,8 @@
 //! The costs between the nodes of an instance, and the lengths of tours.
 //!
-//! An [`Instance`] is a file with costs, and its views say where they come from: a matrix, a
-//! triangle or points. No tour is judged here. The names of tsp_theory are re-exported.
+//! An [`Instance`] is a file with costs, and its views say where the costs come from: a matrix, a
+//! triangle or points. They implement the traits of tsp_theory, through which tsp_verdict judges.
+//! `cost` in tsp_file pins every cost, so only speed is free.
 //!
 //! As example_check does it, with a file that was read:
 //!

@@ -1,6 +1,6 @@
 //! Costs that a file lists: a full matrix (`Matrix`, or `EvenMatrix` once it is known to be
-//! symmetric), or one half (`Triangle`). Also the search for the first pair that costs more one
-//! way, which a report names.
+//! symmetric), or one half (`Triangle`). `instance.rt` makes them. Also the search for the first
+//! pair whose two costs differ, which a report names. `cost` in tsp_file pins the costs.
 
 ghost use Rattle.tsp_cost.specs.Prelude.{length, IsTrue, cells, is_listed, listed_cost, UnlistedHaveNoPlace};
 ghost use Rattle.std.specs.List.{All};

@@ -1,6 +1,6 @@
-//! `Metric`: a weight type that is a distance, and the function of tsp_number for it. EUC_2D
-//! between points on a coarse grid has a shortcut through floats, whose result is checked in whole
-//! numbers, so it saves time and changes no distance.
+//! `Metric`: a weight type that is a distance, and the function of tsp_number for it. `points.rt`
+//! gets its costs here. For points on a coarse grid, EUC_2D has a shortcut through floats, whose
+//! result is checked in integers, so it affects only speed.
 
 ghost use Rattle.tsp_cost.specs.Prelude.{IsTrue, pos, MatchOption, IfSome, unsigned_abs, squared, euc_2d_of, distance};
 ghost use Rattle.std.specs.Prelude.{◌≡◌, ◌↔◌, ◌≤ℤ◌, ◌<◌, ◌≤◌, ◌*◌, ◌^◌, ◌*ℤ◌, ◌-ℤ◌};

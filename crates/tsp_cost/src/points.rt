@@ -1,6 +1,7 @@
 //! Costs computed from the points of a file whenever they are asked for, and an order of the nodes
-//! in which neighbours in space are close together. Contracts pin the costs and say nothing of the
-//! order, so it can be improved freely: searches get faster or slower, and bounds stay the same.
+//! in which near nodes are close together. `instance.rt` makes them. Contracts pin the costs and
+//! say nothing about the order, so you can improve it freely: it affects only the speed of
+//! searches.
 
 ghost use Rattle.tsp_cost.specs.Prelude.{ℕ, length, map, Point, distance, point_of};
 ghost use Rattle.std.specs.Prelude.{◌≡◌, ◌≤◌, ◌-◌, ◌<◌, ◌*◌, ◌^◌};
@@ -201,7 +202,7 @@ impl<P: InSpace> Symmetric for Points<'_, P> {
     ghost even = { λ points i j different. points.symmetric _ _ };
 }
 
-// ---- the costs of points of the plane under EUC_2D alone
+// ---- the costs of points in the plane under EUC_2D
 
 /// Points in the plane under EUC_2D.
 ///

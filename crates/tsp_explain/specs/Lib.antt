@@ -1,2 +1,2 @@
--- The files of definitions of this crate. Crates above may import them.
+-- Definitions of how an explanation shows bytes of a file. In no circle of docs/trust.md.
 pub mod ShownBytes

@@ -1,5 +1,5 @@
-//! Likely causes of a fault of a file, such as compressed bytes, as far as the part that was read
-//! shows one.
+//! Likely causes of a file's fault, such as compressed bytes, guessed from the part that was read.
+//! `file_fault.rt` asks for one and prints it. No contract depends on it.
 
 use crate::look::Look;
 use tsp_file::EndFault;

@@ -1,5 +1,5 @@
-//! Lines of `--explain` on a reason against a certificate: the potentials, multiplier, family or
-//! branch that it names.
+//! Explains a reason against a certificate: the potentials, multiplier, family or branch that it
+//! names. `refusal.rt` comes here. A new reason against a certificate needs its lines here.
 
 use crate::refusal::{push_dimensions, push_type, say};
 use crate::solution::{count_at_place, first_repeated};

@@ -1,5 +1,6 @@
 //! Laws that state values of the definitions in `specs/`, worked out by hand: how bytes and names
-//! of files are shown.
+//! of files are shown. No code calls them. If someone makes the same mistake in a definition and in
+//! the code, every contract still holds, but one of these laws fails.
 
 ghost use Rattle.std.specs.Prelude.{◌≡◌, [], ◌∷◌, codes};
 ghost use Rattle.tsp_explain.specs.ShownBytes.{shown_byte, all_shown, name_shown};

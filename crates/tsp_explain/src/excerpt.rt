@@ -1,5 +1,5 @@
 //! The part of a line of a file that `--explain` prints, with marks below the bytes at fault.
-//! `src/look.rt` fills it, and `src/file_fault.rt` prints it.
+//! `look.rt` fills it, and `file_fault.rt` prints it.
 
 use crate::text::{LinePart, begin, end, push, push_line};
 use arrayvec::ArrayVec;

@@ -1,4 +1,6 @@
-//! Lines of `--explain` on a file that isn't read: the place, the rule, and a likely cause.
+//! Explains why a file can't be read: the place, the rule, and a likely cause. tsp_judge and
+//! tsp_cli call it. Its contract says only that text is appended, so you can change the words
+//! freely.
 
 ghost use Rattle.std.specs.Io.{StartsWith};
 
@@ -280,7 +282,7 @@ fn push_after<'a>(
     )
 }
 
-/// Appends the explanation of a file of which nothing is seen.
+/// Explains a file that couldn't be read at all.
 fn explain_unseen(
     alloc: Global,
     text: &mut Vec<u8>,

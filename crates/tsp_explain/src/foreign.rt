@@ -1,4 +1,5 @@
-//! Files in the forms of other programs: which form one looks like, and which recipe converts it.
+//! Recognizes files in the forms of other programs, and names the command that reads them.
+//! `file_fault.rt` asks for it, because a user with such a file needs the command more than a rule.
 
 use crate::look::Look;
 use crate::text::{LinePart, push_line, push_lines};
@@ -187,8 +188,21 @@ fn has_mark(text: &[u8]) -> bool {
     false
 }
 
-/// Appends what a file looks like, which one is required in its place, and the recipe that converts
-/// it. `name` is what the user calls the file.
+/// The command that reads a file of another program.
+#[derive(Clone, Copy)]
+enum Remedy {
+    /// A check reads it with `--form auto`.
+    Check,
+    /// `tsp solution` writes it as a file of TYPE TOUR.
+    Solution,
+    /// The same, with the instance named.
+    SolutionOf,
+    /// A recipe converts LKH's potentials.
+    Recipe,
+}
+
+/// Appends what a file looks like, which command reads it, and what a file begins with that is given
+/// for this. `name` is what the user calls the file.
 pub(crate) fn push_foreign(
     text: &mut Vec<u8>,
     name: &str,
@@ -196,49 +210,43 @@ pub(crate) fn push_foreign(
     given: Option<Role>,
 ) -> Result<(), AllocError> {
     push_lines(text, looks_like(form))?;
-    if let Some(recipe) = recipe(form, given) {
-        push_recipe(text, recipe)?;
-        push_command(text, recipe, form, name)?;
+    if let Some(remedy) = remedy_for(form, given) {
+        push_remedy(text, remedy, name)?;
     }
     push_lines(text, begins(given))
 }
 
-/// Appends where the recipe with a name is.
-fn push_recipe(text: &mut Vec<u8>, name: &str) -> Result<(), AllocError> {
-    push_line(
-        text,
-        &[
-            LinePart::Words("The recipe "),
-            LinePart::Words(name),
-            LinePart::Words(
-                " converts it: see the guide \"Certificates from solvers\", which is published with tsp.",
-            ),
-        ],
-    )
-}
-
-/// Appends the command that converts a file by a recipe and checks it, or writes potentials.
-fn push_command<'a>(
-    text: &mut Vec<u8>,
-    recipe: &'a str,
-    form: Form,
-    name: &'a str,
-) -> Result<(), AllocError> {
-    let (program, rest) = match form {
-        Form::JsonList | Form::Json => ("  jq -r -f ", " | tsp check INSTANCE -"),
-        Form::LkhPotentials => ("  awk -f ", " > NEW.potentials"),
-        Form::LkhRoutes => ("  awk -v dimension=N -f ", " | tsp check INSTANCE -"),
-        _ => ("  awk -f ", " | tsp check INSTANCE -"),
+/// Appends a command with the name of the file.
+fn push_remedy(text: &mut Vec<u8>, remedy: Remedy, name: &str) -> Result<(), AllocError> {
+    let (sentence, before, after) = match remedy {
+        Remedy::Check => (
+            "With --form auto, tsp check reads it as it is:",
+            "  tsp check INSTANCE ",
+            " --form auto",
+        ),
+        Remedy::Solution => (
+            "tsp solution writes it as a file of TYPE TOUR:",
+            "  tsp solution ",
+            " > NEW.tour",
+        ),
+        Remedy::SolutionOf => (
+            "tsp solution writes it as a file of TYPE TOUR:",
+            "  tsp solution ",
+            " --of INSTANCE > NEW.tour",
+        ),
+        Remedy::Recipe => (
+            "The recipe lkh-pi.awk converts it:",
+            "  awk -f examples/recipes/lkh-pi.awk ",
+            " > NEW.potentials",
+        ),
     };
+    push_lines(text, sentence)?;
     push_line(
         text,
         &[
-            LinePart::Words(program),
-            LinePart::Words("examples/recipes/"),
-            LinePart::Words(recipe),
-            LinePart::Words(" "),
+            LinePart::Words(before),
             LinePart::Words(if is_plain(name) { name } else { "FILE" }),
-            LinePart::Words(rest),
+            LinePart::Words(after),
         ],
     )
 }
@@ -273,46 +281,58 @@ fn looks_like(form: Form) -> &'static str {
         Form::RTour => "This looks like a tour that R printed.",
         Form::OrTools =>
             "This looks like routes of OR-Tools, whose nodes count from 0. Here they count from 1.",
-        Form::LkhRoutes =>
-            "This looks like routes of LKH-3. Its recipe asks for the instance's DIMENSION, here N.",
+        Form::LkhRoutes => "This looks like routes of LKH-3.",
         Form::Routes => {
             "This looks like routes of CVRPLIB (.sol), which leave the depot out and count customers from 1."
         }
     }
 }
 
-/// The recipe that makes of a form what the file is given for, if there is one.
-fn recipe(form: Form, given: Option<Role>) -> Option<&'static str> {
+/// The command that reads a file of this form, if there is one for what the file is given for.
+fn remedy_for(form: Form, given: Option<Role>) -> Option<Remedy> {
     match (given, form) {
-        (Some(Role::Potentials) | None, Form::LkhPotentials) => Some("lkh-pi.awk"),
-        (Some(Role::Solution), Form::JsonList | Form::Json) => Some("json-tour.jq"),
-        (Some(Role::Solution), Form::Csv) => Some("node-list.awk"),
-        (Some(Role::Solution) | None, Form::Nodes) => Some("node-list.awk"),
-        (Some(Role::Solution) | None, Form::ConcordeTour) => Some("concorde-sol.awk"),
-        (Some(Role::Solution) | None, Form::ConcordeEdges) => Some("concorde-edges.awk"),
-        (Some(Role::Solution) | None, Form::RTour) => Some("r-tour.awk"),
-        (Some(Role::Solution) | None, Form::Routes) => Some("cvrplib-sol.awk"),
-        (Some(Role::Solution) | None, Form::OrTools) => Some("ortools-routes.awk"),
-        (Some(Role::Solution) | None, Form::LkhRoutes) => Some("lkh-routes.awk"),
+        (Some(Role::Potentials) | None, Form::LkhPotentials) => Some(Remedy::Recipe),
+        (Some(Role::Solution), _) if is_of_solutions(form) => Some(Remedy::Check),
+        (None, Form::LkhRoutes) => Some(Remedy::SolutionOf),
+        (None, Form::JsonList | Form::Json | Form::Csv) => None,
+        (None, _) if is_of_solutions(form) => Some(Remedy::Solution),
         _ => None,
+    }
+}
+
+/// Whether `tsp solution` reads files of this form.
+fn is_of_solutions(form: Form) -> bool {
+    match form {
+        Form::JsonList
+        | Form::Json
+        | Form::Csv
+        | Form::Nodes
+        | Form::ConcordeTour
+        | Form::ConcordeEdges
+        | Form::RTour
+        | Form::OrTools
+        | Form::LkhRoutes
+        | Form::Routes => true,
+        Form::Html | Form::Xml | Form::Hash | Form::Points | Form::Numbers | Form::LkhPotentials =>
+            false,
     }
 }
 
 /// What a file begins with that is given for this.
 pub(crate) fn begins(given: Option<Role>) -> &'static str {
     match given {
-        None => "A file of TSPLIB begins with lines as TYPE : TSP.",
+        None => "A file of TSPLIB begins with lines such as TYPE : TSP.",
         Some(Role::Instance) => {
-            "An instance begins with lines as TYPE : TSP, DIMENSION : 4 and EDGE_WEIGHT_TYPE : EUC_2D."
+            "An instance begins with lines such as TYPE : TSP, DIMENSION : 4 and EDGE_WEIGHT_TYPE : EUC_2D."
         }
         Some(Role::Solution) => {
             "A solution begins with the line TYPE : TOUR. Its nodes follow the line TOUR_SECTION."
         }
         Some(Role::Potentials) => {
-            "A file of potentials begins with lines as TYPE : POTENTIALS and DIMENSION : 4."
+            "A file of potentials begins with lines such as TYPE : POTENTIALS and DIMENSION : 4."
         }
         Some(Role::Branches) => {
-            "A tree of cases begins with lines as TYPE : BRANCHES and DIMENSION : 4."
+            "A tree of cases begins with lines such as TYPE : BRANCHES and DIMENSION : 4."
         }
     }
 }

@@ -1,4 +1,5 @@
-//! Sections with a group of words for each node: the first line whose words are no whole groups.
+//! Finds the first line with incomplete groups, in sections that have a group of words for each
+//! node. `look.rt` counts the words, and `file_fault.rt` and `guess.rt` print what they show.
 
 use crate::text::{LinePart, push_line, push_lines};
 use crate::wanted::group;

@@ -1,5 +1,6 @@
-//! The likely meaning of a line or a word at fault, such as a misspelled keyword, as far as the
-//! file shows it.
+//! Guesses what a faulty line or word was meant to be, such as a misspelled keyword.
+//! `file_fault.rt` asks for a guess and prints it. A wrong guess can mislead a user, but changes no
+//! answer.
 
 use crate::groups::{Shift, push_shift};
 use crate::look::{Look, first_run};

@@ -1,7 +1,8 @@
-//! Explains to a person why a file isn't read, or why a solution is rejected.
+//! Explains why a file can't be read, or why a solution is rejected.
 //!
-//! The sentences are in `sentences` and `wanted`. A second look at the file (`look`) finds the text
-//! at a fault. It changes nothing of the first answer, and its words have no contract.
+//! tsp_judge and tsp_cli call it after a run. The sentences are in `sentences` and `wanted`, and a
+//! second look at the file (`look`) finds the text at a fault. Contracts say only that text is
+//! appended, so you can change the words freely.
 //!
 //! ```text
 //! explain_file(alloc, &mut text, "a.tsp", Some(Role::Instance), Some(reader), fault)?;

@@ -1,5 +1,6 @@
-//! A second look at a file that has a fault: the text at its place, counts of words, keywords
-//! before it.
+//! A second look at a faulty file: the text at the fault's place, counts of words, and the keywords
+//! before it. `file_fault.rt` calls it and explains the fault by what it finds. It runs after the
+//! answer is known, and can't change it.
 
 ghost use Rattle.std.specs.Prelude.{◌≤◌, length};
 

@@ -1,5 +1,5 @@
-//! Words that differ from one of TSPLIB 95 by a letter or two, or by small and capital letters
-//! alone.
+//! Words that differ from one of TSPLIB 95 by a letter or two, or only by upper and lower case, for
+//! `guess.rt` and `look.rt`.
 
 use tsp_format::{Field, Word};
 
@@ -20,7 +20,7 @@ pub(crate) fn nearest_keyword(word: &[u8]) -> Option<&'static str> {
     but_others(nearest::<Field>(word))
 }
 
-/// A known keyword; the name of the unknown ones together is none.
+/// A known keyword. The name for all unknown ones isn't one.
 fn but_others(known: Option<&'static str>) -> Option<&'static str> {
     match known {
         Some(known) if known == Field::OtherKey.word() => None,

@@ -1,5 +1,5 @@
-//! Lines of `--explain` on a reason against a solution or an instance: the rule, and the nodes and
-//! numbers that the reason is about. `verdict_reasons.rt` comes here from a verdict.
+//! Explains a reason against a solution or an instance: the rule, and the nodes and numbers that
+//! the reason names. `verdict_reasons.rt` comes here.
 
 ghost use Rattle.std.specs.Io.{StartsWith};
 

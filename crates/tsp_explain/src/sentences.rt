@@ -1,6 +1,7 @@
 //! The sentences of `--explain`: what each fault and each reason means, as a rule with its numbers.
+//! The other files of this crate print them, and tsp_judge prints two of them.
 //!
-//! Each is a `match` that names every variant, so that a new one needs its sentence.
+//! Each function is a `match` that names every variant, so that a new variant needs its sentence.
 
 ghost use Rattle.std.specs.Prelude.{◌≤◌, length};
 
@@ -172,7 +173,7 @@ const NOT_SYMMETRIC: &str = "In a TSP, the cost between two nodes is the same in
 
 const DIMENSION: &str =
     "The solution's DIMENSION isn't the instance's. In LKH-3's tour for a CVRP, the additional\n\
-    nodes are copies of the depot: the recipe lkh-routes.awk turns such a tour into routes.";
+    nodes are copies of the depot: with --form auto, tsp check reads such a tour as routes.";
 
 const TOUR_COUNT: &str = "The second file has to contain exactly one tour, with -1 at its end.";
 

@@ -1,5 +1,5 @@
 //! Lookups in the tours of a file: the node at a place, the place of a node, a missing or repeated
-//! node.
+//! node. `refusal.rt` looks up again what tsp_verdict has found, and no answer rests on it.
 
 use tsp_format::MOST_NODES;
 

@@ -1,5 +1,6 @@
-//! The lines of an explanation, each indented by two blanks, and bytes of a file as they are shown
-//! in one. For each file of this crate that appends lines.
+//! Appends the lines of an explanation, each indented by two blanks, for all files of this crate.
+//! `push_shown` and `push_name` show a file's bytes without sending control bytes to a terminal,
+//! which `specs/ShownBytes.antt` pins.
 
 ghost use Rattle.std.specs.Prelude.{◌≡◌, ◌++◌, ◌≤◌, ◌<◌, OnOk, [], ◌∷◌, codes, map};
 ghost use Rattle.std.specs.List.{concat};

@@ -1,5 +1,6 @@
-//! Lines of `--explain` on a verdict or a bound: the reason against it, or a doubt about an
-//! accepted solution.
+//! Explains a verdict or a bound: the reason against it, or a doubt about an accepted solution.
+//! tsp_judge calls it after a run. Its contract says only that text is appended, so you can change
+//! the words freely.
 
 ghost use Rattle.std.specs.Io.{StartsWith};
 ghost use Rattle.std.specs.Prelude.{◌≡◌};

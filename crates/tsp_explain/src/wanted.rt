@@ -1,4 +1,5 @@
-//! What each keyword and each section takes, with its numbers, as sentences of `--explain`.
+//! The sentences of `--explain` on what each keyword and each section takes, with the limits of
+//! docs/format.md. `file_fault.rt` prints them. A new field needs its sentence here.
 
 use tsp_format::{Field, Shape};
 

@@ -30,7 +30,7 @@ found_more test true others_pass value first found all is_found others =
 found_more test false others_pass value first found all is_found others =
     others (and_parts (test first) others_pass all).1 is_found
 
--- where all elements pass the test, the one that a search finds passes it
+-- if all elements pass the test, the one that a search finds passes it
 pub found_passes : {V : Type 0} (test is_it : V → Bool) (value : V) (values : List V) → list_all test values ≡ true
     → find is_it values ≡ Some value → test value ≡ true
 found_passes test is_it value [] all is_found = absurd (none-some value is_found)
@@ -38,7 +38,7 @@ found_passes test is_it value (first ∷ values) all is_found =
     found_more test (is_it first) (list_all test values) value first (find is_it values) all is_found
     (found_passes test is_it value values)
 
--- where there is no first fault, no field is bad
+-- if there is no first fault, no field is bad
 no_first : (bad : Option Field) (other : Option DraftFault) → option_or (option_map (λ field. BadField field) bad) other ≡ None
     → bad ≡ None
 no_first None other none = refl
@@ -50,7 +50,7 @@ none_more : (passes others_pass : Bool) (first : Field) (failing : Option Field)
 none_more true others_pass first failing none others = others none
 none_more false others_pass first failing none others = absurd (none-some first (sym none))
 
--- where no field fails the test, all pass it
+-- if no field fails the test, all pass it
 none_failing : (test : Field → Bool) (fields : List Field) → first_failing test fields ≡ None → list_all test fields ≡ true
 none_failing test [] none = refl
 none_failing test (first ∷ fields) none =

@@ -1,4 +1,5 @@
--- Names from std and other crates that proofs here use often, re-exported so that a file needs one import.
+-- Names of other crates, passed on to the files of this crate alone. It defines nothing: add or remove names freely;
+-- `tests/repository/names` sees that each is imported from here.
 pub use Rattle.std.proofs.Common.{Bool, Err, List, None, Ok, Option, Result, Some, ap, append-nil, append_assoc, arith, bit_or, cond, drop, false, get_or, inl, inr, length, length-append, map, max, min, of_z, refl, rules, set, subst, suc, sym, take, to_z, true, zero, ℕ, [], ⊎_elim, ◌%◌, ◌*◌, ◌++◌, ◌+◌, ◌-◌, ◌/◌, ◌<◌, ◌^◌, ◌∙◌, ◌∷◌, ◌≡◌, ◌≢◌, ◌≤ℤ◌, ◌≤◌}
 pub use Rattle.std.proofs.lemmas.Bool.{and_from, and_parts, cases_eq, cases_lt, eq-eqb, eqb-true, false≢true, le-leb, le-ltb, leb-true, lt-leb, or_parts, or_right}
 pub use Rattle.std.proofs.lemmas.Int.{ints, to_z-of_z}

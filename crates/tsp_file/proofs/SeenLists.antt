@@ -1,4 +1,5 @@
--- The lists of a memory and the subset rows of a draft: vectors in the code, lists in the definitions.
+-- The lists of a memory and the subset rows of a draft: vectors in the code, lists in the definitions. For
+-- src/validity.rt, which names them in `using(..)`.
 use Rattle.tsp_file.proofs.Prelude.{◌≡◌, ℕ, List, length, map, refl, list_all-map, length-map, list_all, sum_by, ◌&&◌, nat_le, most_rows, most_family_nodes, subset_row_of, subset_rows_of, row_size}
 use Rattle.std.specs.Global.{Vec}
 use Rattle.tsp_format.specs.declared.steps.RowSets.{RowSets}

@@ -1,4 +1,4 @@
--- A full matrix made in place from its listed half (the end of src/file.rt): lines are moved to their rows from the
+-- A full matrix made in place from its listed half (the end of src/relayout.rt): lines are moved to their rows from the
 -- last on, then the diagonal and the mirrored cells are written.
 use Rattle.tsp_file.proofs.Prelude.{◌≡◌, ◌≢◌, ℕ, suc, zero, ◌+◌, ◌-◌, ◌*◌, ◌<◌, ◌≤◌, Bool, true, false, List, ◌++◌, length, map, take, Some, refl, sym, ap, subst, ◌∙◌, inl, inr, ⊎_elim, arith, slice_index_or as get_or, slice_set, unwrap_or, ◌⊎◌, nat_le, ℤ, pos, flat_map, CopiedTo, SameBelow, SameFrom, cases_lt, cases_eq, leb-true, mul-le, length-map, get_or-map, get_or_default, length-append, get_or_append_left, get_or-append_right, get_or-set_same, get_or-set_other, ext_get_or, length-take-le, get_or-take, Layout, FullMatrix, UpperRow, LowerRow, UpperDiagRow, LowerDiagRow, UpperCol, LowerCol, UpperDiagCol, LowerDiagCol, IsNode, nodes_to, is_listed, cells, cells_of_line, line_len_of, place_of, IsSymmetric, line_counted, cells_counted}
 use Rattle.std.proofs.lemmas.Option.{none-some}

@@ -102,7 +102,7 @@ map_replicate f (suc n) x = ap (λ ys. f x ∷ ys) (map_replicate f n x)
 
 -- ---- the steps of trees of cases, one after the other
 
--- where a tree is still to come, a branch makes one more
+-- if a tree is still to come, a branch makes one more
 pub after_branch : (steps : List TreeStep) (i : ℕ) (d : TreeStep) (left first second : ℕ) → i < length steps
     → get_or steps i d ≡ listed.Branch first second → (left ≡ 0 → ⊥)
     → are_whole (left + 1) (steps_of (drop (i + 1) steps)) ≡ are_whole left (steps_of (drop i steps))
@@ -164,7 +164,7 @@ not_false : (b : Bool) → not b ≡ false → b ≡ true
 not_false true e = refl
 not_false false e = absurd cc
 
--- where none of a list fails, each passes
+-- if none of a list fails, each passes
 all_pass : (test : Field → Bool) (xs : List Field) → first_failing test xs ≡ None → AllByRecursion (λ field. test field ≡ true) xs
 all_pass test [] e = tt
 all_pass test (x ∷ xs) e =

@@ -1,6 +1,6 @@
--- The canonical text of a file, down to the last blank: the texts of its fields in canonical order, then the line EOF.
--- It is what `tsp convert` writes, and the laws of tsp_read say that it parses back to the file. A field that is
--- missing has no text.
+-- The canonical text of a file, which `tsp convert` writes: the texts of its fields in canonical order, then the EOF
+-- line. A missing field has no text. src/writer.rt promises it byte for byte, and by the laws of tsp_read it parses
+-- back to the file. In no circle of docs/trust.md, because no `yes` rests on it.
 use Rattle.tsp_file.specs.Prelude.{ℕ, Bool, true, false, cond, List, [], take, drop, map, length, codes, Option, Some, None, ℤ, option_map_or, flat_map, enumerate_from, decimal, Point, WeightFormat, Listed, Field, NameKey, TypeKey, CommentKey, OtherKey, DimensionKey, EdgeWeightTypeKey, EdgeWeightFormatKey, NodeCoordTypeKey, DisplayDataTypeKey, shape_of, value_shape_of, field_word, kind_word, weight_kind_word, weight_format_word, coord_kind_word, display_kind_word, fields_in_order, nodes_to, cells_of_line, Step, SubsetRow, Branch, Leaf}
 use Rattle.std.specs.Prelude.{◌∷◌, ◌++◌}
 use Rattle.std.specs.Fmt.{signed_decimal}
@@ -121,7 +121,7 @@ abbrev pub line_lens : Option WeightFormat → Option ℕ → List ℕ
 line_lens (Some (Listed layout)) (Some n) = map (λ k. length (cells_of_line layout n k)) (nodes_to n)
 line_lens format dimension = []
 
--- the line of some weights; no line where there are none
+-- the line of some weights; no line if there are none
 abbrev pub weight_line : List ℤ → List ℕ
 weight_line [] = []
 weight_line (first ∷ rest) = number_line (signed_decimal first) (map signed_decimal rest)

@@ -31,7 +31,7 @@ UnlistedHaveNoPlace layout n = (i j : ℕ) → is_listed layout (i, j) ≡ false
 
 -- ---- the value of a field that a file lacks
 
--- SCALE, or 1 where it is missing
+-- SCALE, or 1 if it is missing
 abbrev pub meant_scale : Option ℤ → ℤ
 meant_scale scale = unwrap_or scale (pos 1)
 
@@ -39,11 +39,11 @@ meant_scale scale = unwrap_or scale (pos 1)
 abbrev pub scale_in : Fields → ℤ
 scale_in f = meant_scale f.scale
 
--- LOAD_UNIT, or 1 where it is missing
+-- LOAD_UNIT, or 1 if it is missing
 abbrev pub load_unit_in : Fields → ℤ
 load_unit_in f = unwrap_or f.load_unit (pos 1)
 
--- the fixed pairs; there are none where no section lists them
+-- the fixed pairs; there are none if no section lists them
 abbrev pub fixed_of : Fields → List (ℕ × ℕ)
 fixed_of f = unwrap_or f.fixed []
 
@@ -150,11 +150,11 @@ pub record HoldsCases (f : Fields) (scale load_unit : ℤ) (families : List (Lis
 
 -- ---- weights that are listed
 
--- the weights of the file; none where it lists none
+-- the weights of the file; none if it lists none
 abbrev pub listed_weights : Fields → List ℤ
 listed_weights f = unwrap_or f.weights []
 
--- their layout; that of a full matrix where there is none
+-- their layout; that of a full matrix if there is none
 abbrev pub layout_of : Option WeightFormat → Layout
 layout_of (Some (Listed layout)) = layout
 layout_of (Some ByFunction) = FullMatrix
@@ -164,19 +164,19 @@ layout_of None = FullMatrix
 abbrev pub weight_at : Layout → ℕ → List ℤ → ℕ × ℕ → Option ℤ
 weight_at layout n weights pair = option_map (λ place. slice_index_or weights place (pos 0)) (place_of layout n pair)
 
--- The weight of (i, j) where it is a cell; else that of (j, i), as in the other half of a triangle; else 0, as on a
--- diagonal that isn't listed.
+-- The weight of (i, j) if it is a cell; otherwise that of (j, i), as in the other half of a triangle; otherwise 0, as
+-- on a diagonal that isn't listed.
 unfoldable pub listed_cost : Layout → ℕ → List ℤ → ℕ → ℕ → ℤ
 listed_cost layout n weights i j =
     unwrap_or (option_or (weight_at layout n weights (i, j)) (weight_at layout n weights (j, i))) (pos 0)
 
 -- ---- distances
 
--- the points of the file; none where it has none
+-- the points of the file; none if it has none
 abbrev pub coords_in : Fields → List Point
 coords_in f = unwrap_or f.coords []
 
--- the point of a node; (0, 0) where there is none
+-- the point of a node; (0, 0) if there is none
 abbrev pub point_of : List Point → ℕ → Point
 point_of points node = slice_index_or points (node - 1) origin
 

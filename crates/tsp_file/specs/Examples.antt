@@ -1,7 +1,8 @@
 -- Small files for src/examples.rt: some that lack fields or have wrong ones, matrices in several layouts, and texts
--- with a field of each sort.
-use Rattle.tsp_file.specs.Prelude.{[], Some, pos, ℕ, List, ℤ, negsuc, codes, on_plane, SubsetRow, Branch, Leaf, Field, ByFunction, Listed, Explicit, Euc2d, Layout, FullMatrix, LowerDiagRow}
-use Rattle.std.specs.Prelude.{◌∷◌, ◌≡◌, ◌++◌}
+-- with a field of each sort. No other contract uses them.
+use Rattle.tsp_file.specs.Prelude.{[], Bool, Some, not, pos, ℕ, List, ℤ, negsuc, codes, on_plane, SubsetRow, Branch, Leaf, Field, fields_in_order, ByFunction, Listed, Explicit, Euc2d, Layout, FullMatrix, LowerDiagRow, UpperRow}
+use Rattle.std.specs.List.{filter}
+use Rattle.std.specs.Prelude.{◌∷◌, ◌≡◌, ◌++◌, ◌&&◌}
 use Rattle.tsp_format.specs.declared.kinds.CoordKind.TheVariants as coord_kinds
 use Rattle.tsp_format.specs.declared.kinds.DisplayKind.TheVariants as display_kinds
 use Rattle.tsp_format.specs.declared.kinds.Kind.TheVariants.{Tsp, Atsp, Cvrp, Tour, Potentials, Branches}
@@ -9,7 +10,7 @@ use Rattle.tsp_format.specs.declared.kinds.Kind.TheVariants as kinds
 use Rattle.tsp_format.specs.declared.kinds.WeightKind.TheVariants as weight_kinds
 use Rattle.tsp_file.specs.CanonicalText.{text_of_field}
 use Rattle.tsp_file.specs.Cost.{listed_cost}
-use Rattle.tsp_file.specs.Fields.{Fields, blank_fields}
+use Rattle.tsp_file.specs.Fields.{Fields, blank_fields, stands_in}
 use Rattle.tsp_file.specs.Relayout.{costs_in}
 
 -- three nodes whose costs depend on the direction, and which aren't at 0 from themselves
@@ -207,6 +208,49 @@ without_families = record blank_fields { families = Some [] }
 -- a file whose memory and whose rows are empty
 abbrev pub without_memory : Fields
 without_memory = record blank_fields { memories = Some []; subset_rows = Some [] }
+
+-- three nodes with a weight for each pair; the layout's last row has none
+abbrev pub three_weights : Fields
+three_weights = record blank_fields { dimension = Some 3; weight_format = Some (Listed UpperRow); weights = Some (pos 1 ∷ pos 2 ∷ pos 3 ∷ []) }
+
+-- ---- files of one field
+
+-- for each field but comments and unknown keywords, in canonical order, a file with it alone
+abbrev pub lone_fields : List Fields
+lone_fields = record blank_fields { name = Some [] }
+    ∷ record blank_fields { kind = Some kinds.Tsp }
+    ∷ record blank_fields { dimension = Some 1 }
+    ∷ record blank_fields { capacity = Some (pos 1) }
+    ∷ record blank_fields { scale = Some (pos 1) }
+    ∷ record blank_fields { load_unit = Some (pos 1) }
+    ∷ record blank_fields { weight_kind = Some Explicit }
+    ∷ record blank_fields { weight_format = Some ByFunction }
+    ∷ record blank_fields { coord_kind = Some coord_kinds.TwoD }
+    ∷ record blank_fields { display_kind = Some display_kinds.TwoD }
+    ∷ record blank_fields { coords = Some [] }
+    ∷ record blank_fields { display = Some [] }
+    ∷ record blank_fields { demands = Some [] }
+    ∷ record blank_fields { depots = Some [] }
+    ∷ record blank_fields { fixed = Some [] }
+    ∷ record blank_fields { weights = Some [] }
+    ∷ record blank_fields { tours = Some [] }
+    ∷ record blank_fields { node_potentials = Some [] }
+    ∷ record blank_fields { row_potentials = Some [] }
+    ∷ record blank_fields { column_potentials = Some [] }
+    ∷ record blank_fields { fixed_potentials = Some [] }
+    ∷ record blank_fields { families = Some [] }
+    ∷ record blank_fields { memories = Some [] }
+    ∷ record blank_fields { subset_rows = Some [] }
+    ∷ record blank_fields { branches = Some [] }
+    ∷ []
+
+-- the field is present in the file, and not in every file
+abbrev pub stands_alone : Fields → Field → Bool
+stands_alone file field = stands_in file field && not (stands_in blank_fields field)
+
+-- the fields that are present in the file, in canonical order, but for those that always are
+abbrev pub standing_in : Fields → List Field
+standing_in file = filter (stands_alone file) fields_in_order
 
 -- the text of the field in the small file
 abbrev pub IsSmallText : Field → List ℕ → Type 0

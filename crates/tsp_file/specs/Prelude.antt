@@ -1,4 +1,5 @@
--- Names from other crates that definitions and contracts here use often, re-exported so that a file needs one import.
+-- Names of other crates, passed on to the files of this crate alone. It defines nothing: add or remove names freely;
+-- `tests/repository/names` sees that each is imported from here.
 pub use Rattle.std.specs.List.{All, enumerate_from, find, flat_map, list_all, sum_by}
 pub use Rattle.std.specs.Option.{option_map, option_map_or, option_or}
 pub use Rattle.std.specs.Prelude.{Bool, Err, IfOk, IfSome, IsSome, IsTrue, List, MatchOption, MatchResult, None, Ok, OnErr, OnOk, Option, Result, Some, codes, cond, decimal, drop, false, int_le, is_some, length, map, nat_abs, nat_le, neg_ℤ, negsuc, not, pos, replicate, slice_index, slice_index_or, take, true, unsigned_abs, unwrap_or, ℕ, ℤ, []}

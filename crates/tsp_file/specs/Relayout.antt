@@ -1,5 +1,6 @@
 -- What `tsp convert --layout` makes of a file: the same costs in another layout, or the first reason why the layout
--- can't hold them. The words of such a reason, which are printed, come first.
+-- can't hold them, with the printed words of the reason. src/relayout.rt promises it. In no circle of docs/trust.md,
+-- because no `yes` rests on it.
 use Rattle.tsp_file.specs.Prelude.{ℕ, List, codes, decimal, Bool, false, map, Some, IsSome, IsTrue, Result, Ok, Err, ℤ, pos, IsNode, is_listed, cells, IsSymmetric, IsFirstAsymmetric, Listed, Explicit, Layout, FullMatrix}
 use Rattle.std.specs.Prelude.{◌++◌, ◌≡◌, ◌≢◌, ◌<◌, ◌⊎◌}
 use Rattle.tsp_file.specs.Cost.{cost}
@@ -62,7 +63,7 @@ pub record IsRelaid (old : Fields) (to : Layout) (new : Fields) : Type 0 where
   pub fields : new ≡ with_weights old to (costs_in to (nodes_of old) (cost old))
   pub costs : (i j : ℕ) → cost new i j ≡ cost old i j
 
--- Why the layout isn't changed: the first of these that holds. It can't be memory where the file has that layout
+-- Why the layout isn't changed: the first of these that holds. It can't be memory if the file has that layout
 -- already.
 abbrev pub IsRefused : Fields → Layout → RelayoutFault → Type 0
 IsRefused f to NotExplicit = ¬ HasListedWeights f

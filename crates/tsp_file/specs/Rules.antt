@@ -39,7 +39,7 @@ pub record Standing : Type 0 where
   pub dimension : Option ℕ
   pub weight_count : ℕ
 
--- how many elements a list has; 0 where it is missing
+-- how many elements a list has; 0 if it is missing
 abbrev pub count_of : {A : Type 0} → Option (List A) → ℕ
 count_of None = 0
 count_of (Some xs) = length xs

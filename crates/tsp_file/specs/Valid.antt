@@ -1,5 +1,6 @@
--- What always holds of a valid file, as statements: its fields are in their ranges, and it has those that its TYPE asks
--- for. src/laws.rt proves them from the tests in Validity.antt and Rules.antt.
+-- What always holds for a valid file, as statements: its fields are in their ranges, and it has those that its TYPE
+-- requires. src/laws.rt proves them from the tests in Validity.antt and Rules.antt, and proofs in crates above rely on
+-- them. In no circle of docs/trust.md, because no `yes` is defined by them.
 use Rattle.tsp_file.specs.Prelude.{ℕ, Bool, true, false, List, length, None, Some, IsSome, ℤ, pos, neg_ℤ, All, sum_by, Point, Layout, Listed, IsFromTo, Step, SubsetRow, row_size, Branch, Leaf, are_whole, branch_count, change_count, IsNode, cells, most_nodes, most_matrix_nodes, most_coordinate, most_weight, most_demand, most_capacity, most_scale, most_load_unit, most_potential, most_depots, most_fixed, most_triples, most_multiplier, most_tour_nodes, most_families, most_family_nodes, most_rows, most_branches, most_changes, most_difference}
 use Rattle.std.specs.Prelude.{◌≡◌, ◌≢◌, ◌+◌, ◌≤◌, ◌⊎◌}
 use Rattle.tsp_file.specs.Fields.{Fields, spatial}
@@ -9,7 +10,7 @@ use Rattle.tsp_file.specs.Rules.{is_explicit}
 abbrev pub IsWithin : ℕ → ℤ → Type 0
 IsWithin most z = IsFromTo (neg_ℤ (pos most)) (pos most) z
 
--- one entry for each node, of each of which P holds
+-- one entry for each node, and P holds for each of them
 abbrev pub IsByNode : {A : Type 0} → (A → Type 0) → Fields → List A → Type 0
 IsByNode P f entries = (f.dimension ≡ Some (length entries)) × All P entries
 

@@ -1,6 +1,6 @@
-//! The points of a coordinate section, in 16 bytes each if they lie in the plane and 24 in space.
-//! Contracts see a single list of points (`points_of` in `specs/states/Drafts.antt`), so the two
-//! forms only save memory.
+//! `Coords`, the points of a coordinate section in a `Draft`: 16 bytes each in the plane, and 24 in
+//! space. Contracts see a single list of points (`points_of` in `specs/states/Drafts.antt`), so the
+//! two forms only save memory.
 
 ghost use Rattle.std.specs.Prelude.{◌≡◌, length, slice_index_or, ◌<◌, SomeIff};
 ghost use Rattle.tsp_file.specs.states.Drafts.{points_of};

@@ -1,7 +1,6 @@
 //! `Draft`, a file in the making: every field of a TSPLIB 95 file, whether valid or not. tsp_read
-//! fills it from a text, `table.rt` and `rules.rt` judge it, and one without a fault becomes a
-//! `File`. `Fields` in `specs/Fields.antt` is what contracts see of it, and a new field goes into
-//! both.
+//! fills it from a text, `table.rt` and `rules.rt` judge it, and a draft without a fault becomes a
+//! `File`. Contracts see it as `Fields` (`specs/Fields.antt`); add a new field to both.
 
 use crate::coords::Coords;
 use std::alloc::Global;
@@ -69,8 +68,8 @@ pub struct Draft {
     pub branches: Option<Vec<TreeStep>>,
 }
 
-/// Drops each field, as a derive would. Functions that drop a draft call this one function, so that
-/// they are proved faster.
+/// Drops each field, as a derive would. Functions that drop a draft call this function, because
+/// that makes their proofs faster.
 impl Drop for Draft {
     fn drop(self) {
         let Draft {

@@ -1,18 +1,21 @@
-//! Small files worked out by hand, as laws: which values are valid, the first fault, costs,
-//! layouts, canonical lines. They hold the definitions in `specs/` to what docs/format.md says.
+//! Laws that state values of the definitions in `specs/`, worked out by hand from docs/format.md:
+//! which values are valid, the first fault, costs, layouts, canonical lines. No code calls them. If
+//! someone makes the same mistake in a definition and in the code, every contract still holds, but
+//! one of these laws fails.
 
-ghost use Rattle.tsp_file.specs.Prelude.{true, false, [], None, Some, pos, negsuc, codes, replicate, decimal, euc_2d_of, ceil_2d_of, man_2d_of, max_2d_of, att_of, euc_3d_of, man_3d_of, max_3d_of, Point, most_coordinate};
+ghost use Rattle.tsp_file.specs.Prelude.{true, false, [], None, Some, pos, negsuc, codes, replicate, map, length, List, ℕ, list_all, sum_by, SubsetRow, row_size, Step, are_whole, branch_count, change_count, fields_in_order, decimal, euc_2d_of, ceil_2d_of, man_2d_of, max_2d_of, att_of, euc_3d_of, man_3d_of, max_3d_of, Point, most_coordinate};
+ghost use Rattle.std.specs.List.{filter};
 ghost use Rattle.std.specs.Prelude.{◌≡◌, ◌+◌, ◌-◌, ◌*◌, ◌^◌, ◌∷◌, ◌++◌};
 ghost use Rattle.tsp_format.specs.declared.keyword.Field.TheVariants as fields;
 ghost use Rattle.tsp_format.specs.declared.kinds.WeightKind.TheVariants as weight_kinds;
 ghost use Rattle.tsp_format.specs.declared.layout.Layout.TheVariants as layouts;
 ghost use Rattle.tsp_file.specs.CanonicalText.{text_of, text_of_field};
-ghost use Rattle.tsp_file.specs.Cost.{cost, distance};
-ghost use Rattle.tsp_file.specs.Examples.{directed_matrix, plane, no_nodes, one_weight, bare_routes, routing_nodes, routing_listed, routing_full, routing_capacity, routing_weights, routing_demands, routing_depots, routing_plane, bare_tours, touring_weights, touring_whole, touring_function, touring_surplus, bare_potentials, with_node_numbers, with_column_numbers, with_row_numbers, with_both_numbers, with_all_numbers, with_both_and_pairs, with_all_and_weights, bare_tree, CostIs, LaysOutAs, six, IsSmallText, small, small_text, spatial_node, row, two_tours, without_families, without_memory};
+ghost use Rattle.tsp_file.specs.Cost.{cost, distance, load_unit_in, scale_in};
+ghost use Rattle.tsp_file.specs.Examples.{directed_matrix, plane, no_nodes, one_weight, bare_routes, routing_nodes, routing_listed, routing_full, routing_capacity, routing_weights, routing_demands, routing_depots, routing_plane, bare_tours, touring_weights, touring_whole, touring_function, touring_surplus, bare_potentials, with_node_numbers, with_column_numbers, with_row_numbers, with_both_numbers, with_all_numbers, with_both_and_pairs, with_all_and_weights, bare_tree, CostIs, LaysOutAs, six, IsSmallText, small, small_text, spatial_node, row, two_tours, three_weights, lone_fields, standing_in, without_families, without_memory};
 ghost use Rattle.tsp_file.specs.Rules.{end_fault_text, draft_fault_text, fault_of, end_fault, standing_of};
-ghost use Rattle.tsp_file.specs.Fields.{blank_fields};
+ghost use Rattle.tsp_file.specs.Fields.{blank_fields, stands_in};
 ghost use Rattle.tsp_file.specs.Relayout.{lists_diagonal, IsFirstOnDiagonal, IsRefused, relayout_fault_text};
-ghost use Rattle.tsp_file.specs.Validity.{is_kept, are_comments, are_others, is_within, is_third, is_demand, is_node, is_pair_of, fit_matrix, are_depots, are_fixed, is_triple_of, are_triples, is_node_list, is_set_of, are_sets, are_memory_lists, is_row_of, are_subset_rows, is_branch_of, is_change};
+ghost use Rattle.tsp_file.specs.Validity.{is_kept, are_comments, are_others, is_within, is_third, is_demand, is_node, is_pair_of, fit_matrix, are_depots, are_fixed, is_triple_of, are_triples, are_tours, are_family_lists, is_node_list, is_set_of, are_sets, are_memory_lists, is_row_of, are_subset_rows, is_branch_of, is_change, is_step, are_tree_steps};
 ghost use Rattle.tsp_file.specs.declared.relayout.RelayoutFault.TheVariants as faults;
 ghost use Rattle.tsp_file.specs.declared.rules.DraftFault.TheVariants as drafts;
 ghost use Rattle.tsp_file.specs.declared.rules.EndFault.TheVariants as ends;
@@ -137,6 +140,56 @@ pub fn examples_of_the_end_table()
         (Some fields.EdgeWeightPart) ≡ Some (ends.Incomplete fields.EdgeWeightPart) }
 {}
 
+/// The most families of a file, the most nodes of its tours, families, memories or rows in all, and
+/// the most branches and changes of its tree.
+pub fn examples_of_limits()
+    ensures most_families { are_family_lists 3 (replicate 10000 ((1 ∷ []) ∷ [])) ≡ true }
+    ensures more_families { are_family_lists 3 (replicate 10001 ((1 ∷ []) ∷ [])) ≡ false }
+    ensures most_nodes_of_tours { (tours : List (List ℕ)) → list_all is_node_list tours ≡ true
+        → sum_by length tours ≡ 1000000 → are_tours tours ≡ true }
+    ensures more_nodes_of_tours { (tours : List (List ℕ)) → list_all is_node_list tours ≡ true
+        → sum_by length tours ≡ 1000001 → are_tours tours ≡ false }
+    ensures most_nodes_of_memories { (lists : List (List ℕ)) → list_all (is_set_of 3) lists ≡ true
+        → sum_by length lists ≡ 1000000 → are_memory_lists 3 lists ≡ true }
+    ensures more_nodes_of_memories { (lists : List (List ℕ)) → list_all (is_set_of 3) lists ≡ true
+        → sum_by length lists ≡ 1000001 → are_memory_lists 3 lists ≡ false }
+    ensures more_nodes_of_families { (families : List (List (List ℕ))) → length families ≡ 1
+        → list_all (are_sets 3) families ≡ true → sum_by (sum_by length) families ≡ 1000001
+        → are_family_lists 3 families ≡ false }
+    ensures more_nodes_of_rows { (rows : List SubsetRow) → length rows ≡ 1
+        → list_all (is_row_of 3) rows ≡ true → sum_by row_size rows ≡ 1000001
+        → are_subset_rows 3 rows ≡ false }
+    ensures more_branches { (steps : List Step) → list_all (is_step 3) steps ≡ true
+        → branch_count steps ≡ 1000001 → are_tree_steps 3 steps ≡ false }
+    ensures most_branches { (steps : List Step) → list_all (is_step 3) steps ≡ true
+        → branch_count steps ≡ 1000000 → change_count steps ≡ 10000000 → are_whole 1 steps ≡ true
+        → are_tree_steps 3 steps ≡ true }
+    ensures more_changes { (steps : List Step) → list_all (is_step 3) steps ≡ true
+        → branch_count steps ≡ 1 → change_count steps ≡ 10000001 → are_tree_steps 3 steps ≡ false }
+{}
+
+/// Which fields a file has. Those of comments and of unknown keywords are always there.
+pub fn examples_of_standing()
+    ensures none { filter (stands_in blank_fields) fields_in_order
+        ≡ fields.CommentKey ∷ fields.OtherKey ∷ [] }
+    ensures each_alone { map standing_in lone_fields ≡ map (λ field. field ∷ []) (fields.NameKey
+        ∷ fields.TypeKey ∷ fields.DimensionKey ∷ fields.CapacityKey ∷ fields.ScaleKey
+        ∷ fields.LoadUnitKey ∷ fields.EdgeWeightTypeKey ∷ fields.EdgeWeightFormatKey
+        ∷ fields.NodeCoordTypeKey ∷ fields.DisplayDataTypeKey ∷ fields.NodeCoordPart
+        ∷ fields.DisplayDataPart ∷ fields.DemandPart ∷ fields.DepotPart ∷ fields.FixedEdgesPart
+        ∷ fields.EdgeWeightPart ∷ fields.TourPart ∷ fields.NodePotentialPart
+        ∷ fields.RowPotentialPart ∷ fields.ColumnPotentialPart ∷ fields.FixedEdgePotentialPart
+        ∷ fields.FamilyPart ∷ fields.MemoryPart ∷ fields.SubsetRowPart ∷ fields.BranchPart ∷ []) }
+{}
+
+/// The scale and the load unit of a file with these keywords, and of a file without them.
+pub fn examples_of_units()
+    ensures scale { scale_in small ≡ pos 3 }
+    ensures no_scale { scale_in blank_fields ≡ pos 1 }
+    ensures load_unit { load_unit_in small ≡ pos 5 }
+    ensures beside_a_scale { load_unit_in (record blank_fields { scale = Some (pos 3) }) ≡ pos 1 }
+{}
+
 /// The text of each fault.
 pub fn examples_of_draft_fault_texts()
     ensures missing { end_fault_text (ends.Missing fields.TypeKey) ≡ codes "Missing TYPE" }
@@ -235,6 +288,8 @@ pub fn examples_of_sections()
     ensures depots { IsSmallText fields.DepotPart (codes "DEPOT_SECTION\n1\n-1\n") }
     ensures fixed { IsSmallText fields.FixedEdgesPart (codes "FIXED_EDGES_SECTION\n1 2\n-1\n") }
     ensures weights { IsSmallText fields.EdgeWeightPart (codes "EDGE_WEIGHT_SECTION\n0\n-7 9\n") }
+    ensures no_line_without_weights { text_of_field three_weights fields.EdgeWeightPart
+        ≡ codes "EDGE_WEIGHT_SECTION\n1 2\n3\n" }
     ensures tours { IsSmallText fields.TourPart (codes "TOUR_SECTION\n2\n1\n-1\n1\n-1\n") }
     ensures node_potentials { IsSmallText fields.NodePotentialPart
         (codes "NODE_POTENTIAL_SECTION\n1 0\n2 -2\n") }

@@ -1,26 +1,20 @@
-//! `File`, a valid file that nobody can change any more, with a method for each field. Validity is
-//! `fault_of` in `specs/Rules.antt`. The end of this file copies weights into half a matrix or a
-//! full one for `relayout.rt`, block by block, which matters for speed on thousands of nodes.
-
-ghost use Rattle.tsp_file.specs.Prelude.{ℕ, ℤ, List, length, take, true, OnErr, OnOk, cells, IsNode, most_matrix_nodes, IsSymmetric, FullMatrix};
-ghost use Rattle.std.specs.Prelude.{◌≡◌, ◌≢◌, ◌≤◌, ◌<◌, ◌+◌, ◌*◌, ◌⊎◌};
-ghost use Rattle.tsp_file.specs.Cost.{listed_cost};
-ghost use Rattle.tsp_file.specs.Relayout.{costs_in};
-ghost use Rattle.tsp_file.specs.states.Drafts.{goes_above, is_on_side, IsCostOfCell, HasLaterLines, HasSide, Fills};
+//! `File`, a valid file that can't be changed, with a method for each field. All crates above use
+//! it. `fault_of` in `specs/Rules.antt` pins which files are valid.
 
 use crate::coords::Coords;
 use crate::draft::Draft;
-use crate::relayout::{keep_half, line_start};
+use crate::relayout::{keep_half, make_whole};
 use crate::rules::{DraftFault, end_fault};
 use crate::table::bad_field;
-use std::alloc::AllocError;
 use std::marker::Model;
-use tsp_format::{CoordKind, DisplayKind, Kind, Layout, TreeStep, WeightFormat, WeightKind};
+use tsp_format::{
+    CoordKind, DisplayKind, Kind, Layout, RowSets, TreeStep, WeightFormat, WeightKind,
+};
 
 /// A valid TSPLIB 95 file.
 ///
-/// [`File::of`] makes it from a draft, and says what is valid; readers make it from a text. It has
-/// a method for each field, which returns a reference.
+/// [`File::of`] makes it from a draft, and tsp_read from a text. It has a method for each field,
+/// which returns a reference.
 #[derive(Debug)]
 pub struct File {
     draft: Draft,
@@ -72,8 +66,8 @@ impl File {
     ///
     /// # Errors
     ///
-    /// `BadField` with the first field, in canonical order, that isn't valid on
-    /// its own; else `Rule` with the first rule over several fields that fails. No memory is taken.
+    /// `BadField` with the first field, in canonical order, that isn't valid on its own; otherwise
+    /// `Rule` with the first rule over several fields that fails. No memory is taken.
     pub fn of(d: Draft) -> Result<File, (DraftFault, Draft)>
         ensures { MatchResult result
             (λ file. (file ≡ fields_of d) × (fault_of (fields_of d) ≡ None))
@@ -88,8 +82,8 @@ impl File {
         Ok(File { draft: d })
     }
 
-    /// The file of a draft without a fault. Nothing is checked: the caller has to know that there
-    /// is none.
+    /// The file of a draft without a fault. Nothing is checked: the caller must know that there is
+    /// no fault.
     pub fn of_valid(d: Draft) -> File
         requires { fault_of (fields_of d) ≡ None }
         ensures { result ≡ fields_of d }
@@ -133,7 +127,7 @@ impl File {
     ///
     /// # Errors
     ///
-    /// Out of memory, with the file as it was.
+    /// Out of memory, along with the unchanged file.
     pub(crate) fn with_whole(self, from: Layout) -> Result<File, File>
         requires half { from ≢ FullMatrix }
         requires format { self.weight_format ≡ Some (Listed from) }
@@ -351,156 +345,58 @@ impl File {
     }
 }
 
-// ---- a full matrix, made of its listed half in the same vector
+// ---- what customers remember, and subset rows
 
-/// How many columns are filled at a time. What is read across the diagonal then stays in the cache.
-const BAND: u32 = 64;
+// `AreSomeLists` and `AreSomeRows` in `specs/Cost.antt` pin what a valid file contains.
 
-/// Turns a listed half into the full matrix: moves the lines to their rows, from the last to the
-/// first, and then fills in the costs across the diagonal.
-///
-/// # Errors
-///
-/// Out of memory; the weights are then as they were. No more memory is taken than the full matrix
-/// needs.
-fn make_whole(from: Layout, nodes: u32, weights: &mut Vec<i64>) -> Result<(), AllocError>
-    requires few { nodes ≤ most_matrix_nodes }
-    requires half { from ≢ FullMatrix }
-    requires filled { length weights.old.items ≡ length (cells from nodes) }
-    ensures ok { OnOk result (weights.new.items
-        ≡ costs_in FullMatrix nodes (listed_cost from nodes weights.old.items)) }
-    ensures err { OnErr result (weights.new.items ≡ weights.old.items) }
-{
-    let count = weights.len();
-    let whole = nodes as usize * nodes as usize;
-    weights.reserve_exact(whole.saturating_sub(count))?;
-    weights.resize(whole, 0)?;
-    spread_lines(from, nodes, weights, count);
-    clear_diagonal(from, nodes, weights);
-    fill_across(is_above(from), nodes, weights);
-    Ok(())
-}
+impl File {
+    ghost use Rattle.tsp_file.specs.Prelude.{[], map, option_map, subset_rows_of, unwrap_or};
+    ghost use Rattle.std.specs.Prelude.{◌≡◌};
+    ghost use Rattle.tsp_file.specs.Fields.{nodes_of};
+    ghost use Rattle.tsp_file.specs.Cost.{AreSomeLists, AreSomeRows};
 
-/// Whether a line of a layout, or the row across the diagonal from it, lies above the diagonal.
-fn is_above(layout: Layout) -> bool
-    ensures { result ≡ goes_above layout }
-{
-    matches!(
-        layout,
-        Layout::UpperRow | Layout::UpperDiagRow | Layout::LowerCol | Layout::LowerDiagCol
-    )
-}
-
-/// Moves the lines of a layout from the front of the vector to their rows in a full matrix, from
-/// the last to the first. No row begins before its line did, so no line is overwritten before it
-/// has been moved.
-fn spread_lines(from: Layout, nodes: u32, weights: &mut Vec<i64>, count: usize)
-    requires few { nodes ≤ most_matrix_nodes }
-    requires size { length weights.old.items ≡ nodes * nodes }
-    requires count { count ≡ length (cells from nodes) }
-    ensures size { length weights.new.items ≡ nodes * nodes }
-    ensures lines { (half : List ℤ) → length half ≡ count → take count weights.old.items ≡ half
-        → HasLaterLines from nodes 0 half weights.new.items }
-{
-    let mut line = nodes;
-    let mut kept = count;
-    'lines: while line > 0 {
-        let len = from.line_len(nodes, line) as usize;
-        kept -= len;
-        weights.copy_within(kept..kept + len, line_start(from, nodes, line));
-        line -= 1;
+    /// MEMORY_SECTION: lists of nodes, none of them empty. The first node of each list remembers
+    /// the others. Judges decide whether they are customers.
+    pub fn memories(&self) -> Option<&[Vec<u32>]>
+        ensures { option_map (λ lists. map (λ list. list.items) lists.now) result
+            ≡ self.now.memories }
+    {
+        self.fields()
+            .memories
+            .as_ref()
+            .map(|lists| lists.as_slice())
     }
-}
 
-/// Sets the diagonal to 0 if a layout doesn't list it.
-fn clear_diagonal(from: Layout, nodes: u32, weights: &mut Vec<i64>)
-    requires few { nodes ≤ most_matrix_nodes }
-    requires size { length weights.old.items ≡ nodes * nodes }
-    ensures size { length weights.new.items ≡ nodes * nodes }
-    ensures side { (half : List ℤ) → length half ≡ length (cells from nodes) → from ≢ FullMatrix
-        → HasLaterLines from nodes 0 half weights.old.items
-        → HasSide (goes_above from) (listed_cost from nodes half) nodes weights.new.items }
-{
-    if from.lists(1, 1) {
-        return;
+    /// SUBSET_ROW_SECTION: rows, each with a set that isn't empty. Judges decide whether its nodes
+    /// are customers.
+    pub fn subset_rows(&self) -> Option<&[RowSets]>
+        ensures { option_map (λ rows. subset_rows_of rows.now) result ≡ self.now.subset_rows }
+    {
+        self.fields()
+            .subset_rows
+            .as_ref()
+            .map(|rows| rows.as_slice())
     }
-    'nodes: for node in 1..nodes + 1 {
-        weights[Layout::FullMatrix.place(nodes, node, node)] = 0;
-    }
-}
 
-/// Fills in the costs across the diagonal, band by band of columns.
-fn fill_across(above: bool, nodes: u32, weights: &mut Vec<i64>)
-    requires few { nodes ≤ most_matrix_nodes }
-    requires size { length weights.old.items ≡ nodes * nodes }
-    ensures size { length weights.new.items ≡ nodes * nodes }
-    ensures costs { (cost : ℕ → ℕ → ℤ)
-        → IsSymmetric cost → HasSide above cost nodes weights.old.items
-        → (i j : ℕ) → IsNode nodes i → IsNode nodes j → IsCostOfCell cost nodes weights.new.items i j }
-{
-    'bands: for band in 0..nodes / BAND + 1 {
-        fill_band(above, nodes, weights, band * BAND + 1);
+    /// The lists of what customers remember; empty if no section has them.
+    pub(crate) fn memories_or_none(&self) -> &[Vec<u32>]
+        ensures value { map (λ list. list.items) result.now ≡ unwrap_or self.now.memories [] }
+        ensures are { AreSomeLists (nodes_of self.now) (map (λ list. list.items) result.now) }
+    {
+        match &self.fields().memories {
+            Some(lists) => lists.as_slice(),
+            None => &[],
+        }
     }
-}
 
-/// Fills in the costs across the diagonal, in the band of columns that begins with this one.
-fn fill_band(above: bool, nodes: u32, weights: &mut Vec<i64>, left: u32)
-    requires few { nodes ≤ most_matrix_nodes }
-    requires left { 1 ≤ left }
-    requires left_most { left ≤ nodes + 1 }
-    requires size { length weights.old.items ≡ nodes * nodes }
-    ensures size { length weights.new.items ≡ nodes * nodes }
-    ensures costs { (cost : ℕ → ℕ → ℤ)
-        → IsSymmetric cost → HasSide above cost nodes weights.old.items → Fills cost
-        nodes weights.old.items weights.new.items (λ _ j. (left ≤ j) × (j < left + 64)) }
-{
-    'rows: for row in 1..nodes + 1 {
-        fill_in_band(above, nodes, weights, row, left);
-    }
-}
-
-/// The columns of a row that lie across the diagonal in the band that begins with a column: the
-/// first of them, and the one after the last.
-#[inline]
-fn across_in_band(above: bool, nodes: u32, row: u32, left: u32) -> (u32, u32)
-    requires few { nodes ≤ most_matrix_nodes }
-    requires row { IsNode nodes row }
-    requires left { 1 ≤ left }
-    requires left_most { left ≤ nodes + 1 }
-    ensures some { 1 ≤ result.0 }
-    ensures most { result.1 ≤ nodes + 1 }
-    ensures turned { (j : ℕ) → result.0 ≤ j → j < result.1 → is_on_side above j row ≡ true }
-    ensures others { (j : ℕ) → left ≤ j → j < left + 64 → j ≤ nodes
-        → ((result.0 ≤ j) × (j < result.1)) ⊎ (is_on_side above row j ≡ true) }
-{
-    let past = if left + BAND <= nodes {
-        left + BAND
-    } else {
-        nodes + 1
-    };
-    if above {
-        (left, past.min(row))
-    } else {
-        (left.max(row + 1), past)
-    }
-}
-
-/// Fills in the costs across the diagonal, in one row of the band.
-#[inline]
-fn fill_in_band(above: bool, nodes: u32, weights: &mut Vec<i64>, row: u32, left: u32)
-    requires few { nodes ≤ most_matrix_nodes }
-    requires row { IsNode nodes row }
-    requires left { 1 ≤ left }
-    requires left_most { left ≤ nodes + 1 }
-    requires size { length weights.old.items ≡ nodes * nodes }
-    ensures size { length weights.new.items ≡ nodes * nodes }
-    ensures costs { (cost : ℕ → ℕ → ℤ)
-        → IsSymmetric cost → HasSide above cost nodes weights.old.items → Fills cost nodes
-        weights.old.items weights.new.items (λ i j. (i ≡ row) × (left ≤ j) × (j < left + 64)) }
-{
-    let (first, past) = across_in_band(above, nodes, row, left);
-    'columns: for column in first..past {
-        let turned = weights[Layout::FullMatrix.place(nodes, column, row)];
-        weights[Layout::FullMatrix.place(nodes, row, column)] = turned;
+    /// The subset rows; empty if no section has them.
+    pub(crate) fn rows_or_none(&self) -> &[RowSets]
+        ensures value { subset_rows_of result.now ≡ unwrap_or self.now.subset_rows [] }
+        ensures are { AreSomeRows (nodes_of self.now) (subset_rows_of result.now) }
+    {
+        match &self.fields().subset_rows {
+            Some(rows) => rows.as_slice(),
+            None => &[],
+        }
     }
 }

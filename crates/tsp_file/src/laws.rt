@@ -1,6 +1,7 @@
-//! What every valid file has, by the definitions alone: fields in their ranges, the sections that
-//! its TYPE requires, costs that obey the inequalities of their weight type. `specs/Valid.antt` and
-//! `specs/ByInequalities.antt` are the words in which a reader of docs/trust.md checks this.
+//! Laws about every valid file: its fields are in their ranges, it has the sections that its TYPE
+//! requires, and its costs obey the inequalities of their weight type. They let a reader of
+//! docs/trust.md check `specs/Valid.antt` and `specs/ByInequalities.antt` instead of the tests in
+//! the code.
 
 ghost use Rattle.tsp_file.specs.Prelude.{None, IsTrue, IsSome, ℕ, [], length, Some, unwrap_or, pos, unsigned_abs, WeightKind, Explicit};
 ghost use Rattle.std.specs.Prelude.{◌≡◌, ◌≢◌, ◌<◌};

@@ -1,9 +1,9 @@
 //! The fields of a TSPLIB 95 file: which are valid together, the costs that they give, and their
 //! canonical text.
 //!
-//! A [`Draft`] may have any values in its fields. A [`File`] is a draft without a fault, and its
-//! matrix can be put into another layout. No text is read here: tsp_read makes drafts and files
-//! from bytes.
+//! A [`Draft`] may have any values in its fields. A [`File`] is a draft without a fault. `writer`
+//! writes its text, and `relayout` puts its matrix into another layout. No text is read here:
+//! tsp_read makes drafts and files from bytes.
 //!
 //! ```text
 //! let mut draft = Draft::new(alloc);
@@ -21,7 +21,6 @@ mod file;
 mod laws;
 mod range;
 mod relayout;
-mod remembered;
 mod rules;
 mod table;
 mod typed;
@@ -32,8 +31,9 @@ pub use coords::Coords;
 pub use draft::Draft;
 pub use examples::{
     examples_of_costs, examples_of_distances_by_type, examples_of_draft_fault_texts,
-    examples_of_fault_texts, examples_of_faults, examples_of_lines, examples_of_lost_costs,
-    examples_of_relayouts, examples_of_sections, examples_of_the_end_table, examples_of_validity,
+    examples_of_fault_texts, examples_of_faults, examples_of_limits, examples_of_lines,
+    examples_of_lost_costs, examples_of_relayouts, examples_of_sections, examples_of_standing,
+    examples_of_the_end_table, examples_of_units, examples_of_validity,
 };
 pub use file::File;
 pub use laws::{

@@ -1,5 +1,6 @@
-//! Whether a number, or each number of a list, is in a range. The list is tested without branches,
-//! for long sections; `is_from_to` in `specs/Validity.antt` fixes the answers.
+//! Whether a number, or each number of a list, is in a range, for `table.rt` and `validity.rt`.
+//! Long lists are tested without branches, for speed. `is_from_to` in `specs/Validity.antt` pins
+//! the answers.
 
 ghost use Rattle.std.specs.Prelude.{◌≡◌, ◌<◌, ◌^◌, pos, ◌≤ℤ◌};
 ghost use Rattle.std.specs.List.{All, list_all};

@@ -1,6 +1,6 @@
-//! The end table: the rules that need several fields, such as the sections that a TYPE requires.
-//! They are checked in a fixed order once a file has been read, and `end_fault` in
-//! `specs/Rules.antt` has the same order, which decides the fault that a user sees.
+//! The end table: rules about several fields, such as the sections that a TYPE requires. tsp_read
+//! checks them once a file has been read. `end_fault` in `specs/Rules.antt` pins the rules and
+//! their order, which decides the fault that a user sees.
 
 ghost use Rattle.std.specs.Prelude.{◌≡◌, None};
 ghost use Rattle.tsp_file.specs.Rules.{standing_of, is_instance, is_routing, is_tour_file, is_potentials_file, has_explicit_weights, has_distances, has_row_or_column, has_node_or_multiplier, is_branches_file, is_asked, is_there, has_wrong_format, has_wrong_count, end_fault};
@@ -218,7 +218,7 @@ impl fmt::Display for EndFault {
     }
 }
 
-/// Why a draft is no file, in the order in which it is judged.
+/// Why a draft isn't a valid file, in the order in which drafts are judged.
 #[derive(Clone, Copy, Debug, PartialEq, Eq, Error)]
 pub enum DraftFault {
     /// The first field, in canonical order, that isn't valid on its own.

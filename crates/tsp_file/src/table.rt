@@ -1,6 +1,7 @@
-//! Whether each field is valid on its own, in canonical order, by the tests of `validity.rt`;
-//! `bad_field` in `specs/Validity.antt` is the same table. A draft that a program makes can fail
-//! here. One that was read from a text can't, because its values were checked word by word.
+//! Whether each field of a draft is valid on its own, in canonical order, by the tests of
+//! `validity.rt`. `File::of` calls it. `bad_field` in `specs/Validity.antt` pins the first bad
+//! field. Only a draft made by a program can fail here, because values from a text were checked
+//! word by word.
 
 ghost use Rattle.tsp_file.specs.Prelude.{ℕ, Bool, List, Some, MatchResult, map, option_map, most_nodes, field_word, subset_rows_of, steps_of};
 ghost use Rattle.std.specs.Prelude.{◌≡◌};

@@ -1,7 +1,7 @@
 //! What a file of each TYPE certainly has, without `Option`: tours, routing data, potentials,
-//! duals, a tree of cases (`specs/Cost.antt`). Also `ListedWeights`, the costs of a listed matrix,
-//! with two searches: for a pair that costs more one way than the other, and for a cost that
-//! another layout would lose.
+//! duals, a tree of cases. tsp_verdict reads certificates and solutions through it. Also
+//! `ListedWeights`, the costs of a listed matrix, and the search for a cost that another layout
+//! would lose. `specs/Cost.antt` pins the values.
 
 ghost use Rattle.tsp_file.specs.Prelude.{All, length, cells, most_matrix_nodes, most_weight, FindsAsymmetric, FullMatrix};
 ghost use Rattle.std.specs.Prelude.{◌≡◌, ◌≤◌};

@@ -1,6 +1,6 @@
-//! The tests of single values: is this text kept whole, is this a point, a tour, a family, a tree
-//! of cases? `specs/Validity.antt` has each test as a definition, with the limits of
-//! docs/format.md; a change of either changes which files are valid.
+//! The tests of single values: is this text short enough, is this a point, a tour, a family, a tree
+//! of cases? `table.rt` calls them. `specs/Validity.antt` pins each test, with the limits of
+//! docs/format.md.
 
 ghost use Rattle.tsp_file.specs.Prelude.{not, cond, Some, None, length, slice_index, nat_le, map, list_all, sum_by, field_word, is_blank, is_keyword_byte, most_coordinate, most_tour_nodes, most_families, most_family_nodes, most_rows, most_branches, most_changes, on_plane, subset_row_of, subset_rows_of, row_size, step_of, steps_of, are_whole, branch_count, change_count};
 ghost use Rattle.std.specs.Prelude.{◌≡◌, ◌+◌, ◌-◌, ◌==◌, ◌||◌, ◌&&◌};

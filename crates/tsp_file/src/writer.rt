@@ -1,7 +1,6 @@
-//! Writes the canonical text of a file, which is what `tsp convert` prints, byte for byte as
-//! `text_of` in `specs/CanonicalText.antt` has it. Here are the order of the fields, keyword lines,
-//! and the sections of certificates by branching; the others are in `writer/sections.rt`, and the
-//! weights in `writer/matrix.rt`.
+//! Writes the canonical text of a file, which `tsp convert` prints. `text_of` in
+//! `specs/CanonicalText.antt` pins every byte. Keyword lines and the sections of branches files are
+//! written here, the other sections in `writer/sections.rt`, and the weights in `writer/matrix.rt`.
 
 ghost use Rattle.tsp_file.specs.Prelude.{flat_map, option_map, None, map, [], Leaf, subset_row_of, subset_rows_of, step_of, steps_of};
 ghost use Rattle.std.specs.Prelude.{◌≡◌};

@@ -1,4 +1,5 @@
--- Small lemmas on truth values, options and lists that std lacks. They have nothing to do with TSPLIB.
+-- Small lemmas on truth values, options and lists that std lacks. They have nothing to do with TSPLIB. Proofs in most
+-- crates above use them.
 use Rattle.std.proofs.Common.{◌≡◌, refl, Option, None, Some, ◌≢◌, ℕ, zero, suc, ◌<◌, List, ◌∷◌, length, get_or, arith, true, false, Bool, ◌+◌, [], ◌++◌}
 use Rattle.std.proofs.lemmas.Bool.{false≢true, true≢false}
 use Rattle.std.specs.List.{Contains, AllByRecursion}

@@ -352,7 +352,7 @@ pub found_passes : {X : Type 0} (test : X → Bool) (xs : List X) (found : X) �
 found_passes test [] found h = absurd cc
 found_passes test (x ∷ xs) found h = passes_at (test x) test x found (find test xs) refl (found_passes test xs found) h
 
--- Where each value is found by its own word, the one that is found is the one with the word.
+-- If each value is found by its own word, the one that is found is the one with the word.
 pub found_is_known : {V : Type 0} (text : V → List ℕ) (values : List V)
     → ((value : V) → find (λ other. bytes_eq (text value) (text other)) values ≡ Some value)
     → (word : List ℕ) (found : Option V) → found ≡ find (λ value. bytes_eq word (text value)) values → (value : V)
@@ -367,7 +367,7 @@ none_has : {V : Type 0} (text : V → List ℕ) (word : List ℕ) (found : Optio
 none_has text word None known = ((λ none value same. let h = (known value).1 same in absurd cc), λ h. refl)
 none_has text word (Some v) known = ((λ h. absurd cc), (λ h. absurd (h v ((known v).0 refl))))
 
--- and none is found where no value has it
+-- and none is found if no value has it
 pub none_is_unknown : {V : Type 0} (text : V → List ℕ) (values : List V)
     → ((value : V) → find (λ other. bytes_eq (text value) (text other)) values ≡ Some value)
     → (word : List ℕ) (found : Option V) → found ≡ find (λ value. bytes_eq word (text value)) values

@@ -1,4 +1,5 @@
 -- Short names for the rows of src/examples.rt: a field at its place, the cells of a small layout, costs of three nodes.
+-- No other contract uses them.
 use Rattle.std.specs.Prelude.{◌≡◌, ℕ, ◌+◌, ◌-◌, ◌*◌, List, map, slice_index_or, ℤ, pos}
 use Rattle.tsp_format.specs.declared.keyword.Field.{Field}
 use Rattle.tsp_format.specs.declared.keyword.Field.TheVariants.{OtherKey}

@@ -22,7 +22,7 @@ is_other_key field = bytes_eq (field_word field) (field_word OtherKey)
 abbrev pub field_of : List ℕ → Option Field
 field_of word = find (λ field. bytes_eq word (field_word field)) fields_in_order
 
--- the field with the word as a keyword; `Unknown` where no field has it
+-- the field with the word as a keyword; `Unknown` if no field has it
 abbrev pub known_or_not : Option Field → Keyword
 known_or_not (Some field) = cond (is_other_key field) Unknown (Known field)
 known_or_not None = Unknown

@@ -27,7 +27,7 @@ is_listed LowerCol (i, j) = nat_lt j i
 is_listed UpperDiagCol (i, j) = nat_le i j
 is_listed LowerDiagCol (i, j) = nat_le j i
 
--- whether the cells are listed by columns; else they are by rows
+-- whether the cells are listed by columns; otherwise they are by rows
 abbrev pub goes_by_columns : Layout → Bool
 goes_by_columns UpperCol = true
 goes_by_columns LowerCol = true

@@ -86,7 +86,7 @@ pub record IsFirstAsymmetric (n : ℕ) (cost : ℕ → ℕ → ℤ) (pair : ℕ 
   pub differ : cost pair.0 pair.1 ≢ cost pair.1 pair.0
   pub first : (a b : ℕ) → IsNode n a → IsNode n b → a < b → IsBefore (a, b) pair → cost a b ≡ cost b a
 
--- the first pair whose costs differ, or none where costs are symmetric
+-- the first pair whose costs differ, or none if costs are symmetric
 abbrev pub FindsAsymmetric : ℕ → (ℕ → ℕ → ℤ) → Option (ℕ × ℕ) → Type 0
 FindsAsymmetric n cost None = IsSymmetric cost
 FindsAsymmetric n cost (Some pair) = IsFirstAsymmetric n cost pair

@@ -1,6 +1,7 @@
-//! Words, blanks, cells of small layouts and limits, worked out by hand and stated as laws about
-//! the definitions in `specs/`. A new word or layout needs a row, since nothing else notices if
-//! code and definition are wrong alike.
+//! Laws that state values of the definitions in `specs/`, worked out by hand: words, blanks, cells
+//! of small layouts, and limits. No code calls them. If someone makes the same mistake in a
+//! definition and in the code, every contract still holds, but one of these laws fails, so a new
+//! word or layout needs a row here.
 
 ghost use Rattle.std.specs.Prelude.{◌≡◌, ◌-◌, ◌*◌, ◌^◌, true, false, [], ◌∷◌, length, None, Some, pos, negsuc, codes};
 ghost use Rattle.tsp_format.specs.declared.keyword.Field.TheVariants as fields;

@@ -1,7 +1,7 @@
 //! Every keyword and section of a file, as the enum `Field`, along with the shape of what follows
-//! it; and `Keyword`, what the first word of a line names. `specs/Words.antt` has the spellings and
-//! `specs/Limits.antt` the shapes. A new field begins here (docs/ARCHITECTURE.md, "How a field is
-//! added").
+//! it; and `Keyword`, which the first word of a line names. `specs/Words.antt` pins the spellings,
+//! and `specs/Limits.antt` the shapes. A new field begins here (docs/ARCHITECTURE.md, "How a field
+//! is added").
 
 ghost use Rattle.std.specs.Prelude.{◌≡◌};
 ghost use Rattle.tsp_format.specs.Limits.{keyword_of, field_of, known_or_not, shape_of, value_shape_of};

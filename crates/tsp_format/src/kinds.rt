@@ -1,6 +1,6 @@
 //! The values that TYPE, EDGE_WEIGHT_TYPE, EDGE_WEIGHT_FORMAT, NODE_COORD_TYPE and
-//! DISPLAY_DATA_TYPE accept, an enum for each. A value that isn't listed is a fault in any file
-//! that has it, so these lists and `specs/Words.antt` decide which files `tsp` reads.
+//! DISPLAY_DATA_TYPE accept, an enum for each. Any other value is a fault, so these lists decide
+//! which files tsp_read reads. `specs/Words.antt` pins their words.
 
 ghost use Rattle.std.specs.Prelude.{◌≡◌};
 ghost use Rattle.tsp_format.specs.Words.{weighs_three, is_spatial, kind_word, weight_kind_word, weight_format_word, coord_kind_word, display_kind_word, kinds, weight_kinds, weight_formats, coord_kinds, display_kinds, kind_found, weight_kind_found, weight_format_found, coord_kind_found, display_kind_found};
@@ -65,9 +65,9 @@ impl Word for Kind {
 pub enum WeightKind {
     /// The weights are listed.
     Explicit,
-    /// The straight distance, rounded.
+    /// The Euclidean distance, rounded.
     Euc2d,
-    /// The straight distance, rounded up.
+    /// The Euclidean distance, rounded up.
     Ceil2d,
     /// The sum of the differences along both axes, rounded.
     Man2d,
@@ -75,7 +75,7 @@ pub enum WeightKind {
     Max2d,
     /// The pseudo-Euclidean distance of the instances att48 and att532.
     Att,
-    /// The straight distance in space, rounded.
+    /// The Euclidean distance in space, rounded.
     Euc3d,
     /// The sum of the differences along the three axes, rounded.
     Man3d,

@@ -13,7 +13,6 @@ mod keyword;
 mod kinds;
 mod layout;
 mod limits;
-mod place;
 mod steps;
 mod word;
 
@@ -23,7 +22,10 @@ pub use examples::{
 };
 pub use keyword::{Field, Keyword, Shape, ValueShape};
 pub use kinds::{CoordKind, DisplayKind, Kind, WeightFormat, WeightKind, is_spatial};
-pub use layout::{Layout, cells_are_distinct, cells_are_the_listed_pairs, cells_go_line_by_line};
+pub use layout::{
+    Layout, cells_are_distinct, cells_are_the_listed_pairs, cells_go_line_by_line,
+    only_cells_have_places,
+};
 pub use limits::{
     MOST_BRANCHES, MOST_CAPACITY, MOST_CHANGES, MOST_COMMENTS, MOST_COORDINATE, MOST_DEMAND,
     MOST_DEPOTS, MOST_DIFFERENCE, MOST_FAMILIES, MOST_FAMILY_NODES, MOST_FILE_BYTES, MOST_FIXED,
@@ -31,6 +33,5 @@ pub use limits::{
     MOST_MULTIPLIERS, MOST_NODES, MOST_OTHERS, MOST_POTENTIAL, MOST_ROWS, MOST_SCALE,
     MOST_TOUR_NODES, MOST_WEIGHT, MOST_WORD_BYTES, limits_are_those_of_the_profile,
 };
-pub use place::only_cells_have_places;
 pub use steps::{RowSets, TreeStep};
 pub use word::{Word, is_blank, is_keyword_byte, is_letter, value_of};

@@ -1,7 +1,6 @@
 //! How large a file, its sections and its numbers may be. These limits are this project's own, not
-//! TSPLIB's, and users read them in docs/format.md. `specs/Limits.antt` has each again, and the law
-//! at the end refuses a difference. Proofs against overflow rest on them, so raising one can cost
-//! work in any crate.
+//! TSPLIB's; docs/format.md promises them to users. `specs/Limits.antt` pins them, by the law at
+//! the end. Proofs against overflow rest on them, so raising a limit can cost work in any crate.
 
 ghost use Rattle.std.specs.Prelude.{◌≡◌, pos};
 ghost use Rattle.tsp_format.specs.Limits.{most_nodes, most_matrix_nodes, most_coordinate, most_weight, most_demand, most_capacity, most_scale, most_load_unit, most_potential, most_word_bytes, most_line_bytes, most_kept_bytes, most_comments, most_others, most_depots, most_fixed, most_triples, most_multiplier, most_tour_nodes, most_families, most_family_nodes, most_rows, most_branches, most_changes, most_difference, most_file_bytes};

@@ -1,6 +1,6 @@
-//! Plain data that pass between the reader and the judges of a certificate: a step of a tree of
-//! cases, as a line of BRANCH_SECTION gives it, and a subset row of SUBSET_ROW_SECTION.
-//! `specs/Steps.antt` has their counterparts in the definitions.
+//! A step of a tree of cases, as BRANCH_SECTION lists it, and a subset row, as SUBSET_ROW_SECTION
+//! lists it. tsp_read makes them, and tsp_cases and tsp_routing judge them. Contracts see them as
+//! in `specs/Steps.antt`.
 
 /// A step of a tree of cases. Steps follow each other, and each is about the first open case.
 #[derive(Debug, Drop)]

@@ -1,6 +1,6 @@
 //! `Word`, the trait of values that have a word in TSPLIB 95, and `value_of`, which finds the value
-//! of a word. Also which bytes are blanks, letters or part of a keyword: a change there changes how
-//! every text is cut.
+//! of a word. Also which bytes are blanks, letters or part of a keyword. tsp_read cuts every text
+//! by these, and `specs/Words.antt` pins them.
 
 ghost use Rattle.std.specs.List.{find};
 ghost use Rattle.std.specs.Prelude.{◌≡◌, ◌≢◌, ℕ, List, ◌↔◌, IsNone, Some};

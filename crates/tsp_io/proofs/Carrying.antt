@@ -101,7 +101,7 @@ carried_next f xs i x a b c lt is h k =
     ap (flat_map f) more ∙ flat_map-append f (take i xs) (x ∷ []) ∙ ap (λ t. flat_map f (take i xs) ++ t) (append-nil (f x)) in
     subst (λ t. Carried a c t) (sym text) (carried_then a b c (flat_map f (take i xs)) (f x) h k)
 
--- the same where the element is read with another default
+-- the same if the element is read with another default
 pub carried_next_or : {X : Type 0} (f : X → List ℕ) (xs : List X) (i : ℕ) (d : X) (a b c : Way) → i < length xs
     → Carried a b (flat_map f (take i xs)) → Carried b c (f (get_or xs i d)) → Carried a c (flat_map f (take (i + 1) xs))
 carried_next_or f xs i d a b c lt h k =
@@ -112,7 +112,7 @@ pub carried_all : {X : Type 0} (f : X → List ℕ) (xs : List X) (i : ℕ) (a b
     → Carried a b (flat_map f (take i xs)) → Carried a b (flat_map f xs)
 carried_all f xs i a b all h = subst (λ ys. Carried a b (flat_map f ys)) (take_all i xs all) h
 
--- the same where the elements are seen by g
+-- the same if the elements are seen by g
 pub carried_mapped : {X Y : Type 0} (f : Y → List ℕ) (g : X → Y) (xs : List X) (i : ℕ) (a b : Way) → length xs ≤ i
     → Carried a b (flat_map (λ x. f (g x)) (take i xs)) → Carried a b (flat_map f (map g xs))
 carried_mapped f g xs i a b all h =
@@ -133,7 +133,7 @@ pub carried_nodes : {X : Type 0} (f : ℕ × X → List ℕ) (xs : List X) (i : 
     → Carried a b (flat_map f (take i (enumerate_from 1 xs))) → Carried a b (flat_map f (enumerate_from 1 xs))
 carried_nodes f xs i a b all h = carried_all f (enumerate_from 1 xs) i a b (omega (arith, length-enumerate_from 1 xs)) h
 
--- the same where the entry is read with another default
+-- the same if the entry is read with another default
 pub carried_node_or : {X : Type 0} (f : ℕ × X → List ℕ) (xs : List X) (i : ℕ) (d : X) (a b c : Way) → i < length xs
     → Carried a b (flat_map f (take i (enumerate_from 1 xs))) → Carried b c (f (i + 1, get_or xs i d))
     → Carried a c (flat_map f (take (i + 1) (enumerate_from 1 xs)))

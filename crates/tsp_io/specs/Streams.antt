@@ -1,13 +1,13 @@
 -- Circle 2 of docs/trust.md.
--- A reader and a writer before and after a call: the bytes that were delivered or taken, and whether it failed. The
--- contract of every run is stated in these words, including what a failed write leaves behind.
+-- A reader (`ReadTrace`) and a writer (`Sink`) before and after a call: the bytes that were delivered or taken, and
+-- whether it failed. The contract of every run says by these what was read and written.
 use Rattle.std.specs.Io.KnownBytes.{Keeps, Consumes, Appends}
 use Rattle.std.specs.Prelude.{◌≡◌, ℕ, ◌≤◌, Bool, true, false, List, length, Option, IfSome, take, Result, Ok, Err, codes}
 use Rattle.tsp_io.specs.declared.piece.WriteFault.{WriteFault}
 use Rattle.tsp_io.specs.declared.piece.WriteFault.TheVariants.{Device, OutOfMemory}
 use Rattle.tsp_io.specs.declared.piece.WriteFault.TheVariants as write_faults
 
--- A reader's turn: the bytes that it had left before the call and after it, where they are known, the bytes that it
+-- A read trace: the bytes that a reader had left before a call and after it, if they are known, the bytes that it
 -- delivered, and whether it had failed before the call and has failed after it.
 pub record ReadTrace : Type 0 where
   pub known : Option (List ℕ)
@@ -24,7 +24,7 @@ Gave read_trace = Consumes read_trace.known read_trace.left read_trace.given
 abbrev pub IsSound : ReadTrace → Type 0
 IsSound read_trace = (read_trace.had_failed ≡ false) × (read_trace.failed ≡ false)
 
--- It delivered bytes of which P holds, without a failure. Where its bytes are known, P holds of all of them too:
+-- It delivered bytes for which P holds, without a failure. If its bytes are known, P holds for all of them, too:
 -- reading didn't stop too early.
 abbrev pub GaveAll : ReadTrace → (List ℕ → Type 0) → Type 0
 GaveAll read_trace P = Gave read_trace × IsSound read_trace × P read_trace.given × IfSome read_trace.known P
@@ -38,13 +38,13 @@ HasBrokenOff read_trace = Gave read_trace × (read_trace.failed ≡ true)
 abbrev pub IsUnread : ReadTrace → Type 0
 IsUnread read_trace = Keeps read_trace.known read_trace.left × (read_trace.failed ≡ read_trace.had_failed)
 
--- for some bytes that the reader delivered, at most `most` of them, P holds of the turn
+-- for some bytes that the reader delivered, at most `most` of them, P holds for the read trace
 abbrev pub TakesAtMost : ℕ → (List ℕ → ReadTrace) → (ReadTrace → Type 0) → Type 0
 TakesAtMost most read_trace P = (given : List ℕ) × (length given ≤ most) × P (read_trace given)
 
 -- ---- a writer before and after a call
 
--- The bytes that a writer has before the call and after it, where these are known, and whether it had failed before and
+-- The bytes that a writer has before the call and after it, if these are known, and whether it had failed before and
 -- has failed after it.
 pub record Sink : Type 0 where
   pub held : Option (List ℕ)

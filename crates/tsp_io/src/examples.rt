@@ -1,6 +1,7 @@
-//! Which results of a write are failures, and the printed word for each fault: values of
-//! `write_fails` and `write_fault_text`, stated as laws, because proofs alone would follow a change
-//! of these definitions.
+//! Laws that state values of `write_fails` and `write_fault_text`, worked out by hand: which
+//! results of a write are failures, and the text of each fault. No code calls them. If someone
+//! makes the same mistake in a definition and in the code, every contract still holds, but one of
+//! these laws fails.
 
 ghost use Rattle.std.specs.Prelude.{◌≡◌, true, false, [], ◌∷◌, Ok, Err, codes};
 ghost use Rattle.std.specs.declared.io.Error.{Error};

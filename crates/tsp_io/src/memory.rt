@@ -1,6 +1,6 @@
-//! The calls that take memory for lists and sets. Their error `Refused` can be made only in this
-//! crate, and only where std refused to grow: an error that carries one proves that memory was
-//! refused. A new call has to keep to this.
+//! The calls that take memory for lists and sets, for all crates above. Only this crate can make
+//! their error `Refused`, and only after std has refused memory, so an error that carries one
+//! proves that memory was refused. A new call must keep to this.
 
 ghost use Rattle.std.specs.BTreeSet.{contains, Updates, IsUnchanged};
 ghost use Rattle.std.specs.List.Sorted.{IsPermutation, IsSorted};
@@ -9,14 +9,14 @@ ghost use Rattle.std.specs.Prelude.{◌≡◌, ◌+◌, ◌++◌, [], ◌∷◌,
 use std::alloc::{AllocError, Global};
 use std::collections::BTreeSet;
 
-/// Out of memory. Only the calls of this crate make this token, each when std refused to grow.
+/// Out of memory. Only this crate makes this token, and only if std has refused memory.
 #[derive(Clone, Copy, Debug, Drop)]
 pub struct Refused {
     error: AllocError,
 }
 
 impl Refused {
-    /// The token for this error, with which std refused memory.
+    /// The token for an error of std that refused memory.
     pub(crate) fn of(error: AllocError) -> Refused {
         Refused { error }
     }
@@ -67,7 +67,7 @@ pub fn filled<T: Copy + Clone>(alloc: Global, element: T, count: usize) -> Resul
 ///
 /// # Errors
 ///
-/// Out of memory; the list stays as it was.
+/// Out of memory. The list is then unchanged.
 pub fn push<T: Drop>(list: &mut Vec<T>, element: T) -> Result<(), Refused>
     ensures items { MatchResult result
         (λ done. list.new.items ≡ list.old.items ++ element ∷ [])
@@ -103,7 +103,7 @@ pub fn copied<T: Copy + Clone>(alloc: Global, elements: &[T]) -> Result<Vec<T>, 
 ///
 /// # Errors
 ///
-/// Out of memory; the list stays as it was.
+/// Out of memory. The list is then unchanged.
 pub fn sort<T: Ord>(list: &mut Vec<T>) -> Result<(), Refused>
     ensures permutation { IsPermutation list.old.items list.new.items }
     ensures len { vec_len list.new ≡ vec_len list.old }
@@ -121,7 +121,7 @@ pub fn sort<T: Ord>(list: &mut Vec<T>) -> Result<(), Refused>
 ///
 /// # Errors
 ///
-/// Out of memory, which only a new key can need; the set stays as it was.
+/// Out of memory, which can only happen for a new key. The set is then unchanged.
 pub fn insert<K: Ord + Drop>(set: &mut BTreeSet<K>, key: K) -> Result<bool, Refused>
     ensures added { IfOk result (λ added. added ≡ not (contains K.cmp set.old key)) }
     ensures updates { OnOk result (Updates K.cmp set.old set.new key true) }

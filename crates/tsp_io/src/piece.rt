@@ -1,9 +1,9 @@
-//! The way out of every report and canonical text: bytes gather in a buffer of 4,096 and go to the
-//! writer when it is full. `Puts` in `specs/states/Output.antt` says that none is lost, added or
-//! moved, so the size of the buffer matters only for speed.
+//! Writes every report and canonical text: bytes gather in a buffer of 4,096, which goes to the
+//! writer when it is full. By `Puts` in `specs/states/Output.antt`, no byte is lost, added or
+//! moved, so the size of the buffer affects only speed. tsp_report and tsp_file call it.
 //!
-//! A failure sticks: a writer that has failed gets nothing more, so code that adds to a text need
-//! not look at each outcome.
+//! A writer that has failed gets nothing more, so code that adds to a text need not look at each
+//! outcome.
 
 ghost use Rattle.std.specs.Io.KnownBytes.{Appends};
 ghost use Rattle.std.specs.Prelude.{◌≡◌, [], ◌∷◌, ◌≤◌, ◌<◌, Result, ℕ, true, false, length, take};
@@ -11,7 +11,7 @@ ghost use Rattle.std.specs.declared.io.Error.{Error};
 ghost use Rattle.tsp_io.specs.Streams.{HasWritten, HasStopped, Writes};
 ghost use Rattle.tsp_io.specs.states.Output.{writer_of, output_failed, output_error, KeepsError, sink_of, Puts};
 
-use crate::output::{Output, Takes};
+use crate::watched::{Output, Takes};
 use arrayvec::ArrayVec;
 use itoa::{Buffer, Integer};
 use std::fmt;
@@ -67,7 +67,7 @@ pub fn put_next_number<W: Takes, N: Integer>(piece: &mut Piece, out: &mut Output
     put_number(piece, out, number);
 }
 
-// ---- writes a text to a writer that may take any part of it at once, and stops if it fails
+// ---- write a text to a writer that may take any part of it at once, and stop if it fails
 
 /// Why a text could not be written.
 #[derive(Clone, Copy, Debug, PartialEq, Eq, Error)]
@@ -116,7 +116,7 @@ pub fn send<W: Takes>(out: &mut Output<W>, text: &[u8])
 }
 
 /// Makes one write, and returns how many bytes the writer took. If it fails, the result is 0, and
-/// `out` remembers the failure and what the system said.
+/// `out` remembers the failure and the system's error.
 fn send_part<W: Takes>(out: &mut Output<W>, text: &[u8]) -> usize
     requires sound { output_failed out.old ≡ false }
     ensures part { result ≤ length text.now }

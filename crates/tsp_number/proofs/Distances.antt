@@ -332,7 +332,7 @@ max_2d_apart a b j k first second = rounded_apart (max (dx a b) (dy a b)) j k fi
 same_from : (j k : ℕ) → ¬ (j < k) → ¬ (k < j) → j ≡ k
 same_from j k first second = omega arith
 
--- where there is a number and no two, it is unique
+-- if there is a number and no two, it is unique
 pub only_one : (Is : Point → Point → ℕ → Type 0) (distance : Point → Point → ℕ) → ((a b : Point) → Is a b (distance a b))
     → ((a b : Point) (j k : ℕ) → Is a b j → Is a b k → ¬ (j < k)) → (a b : Point) (k : ℕ) → Is a b k → k ≡ distance a b
 only_one Is distance defined apart a b k is =

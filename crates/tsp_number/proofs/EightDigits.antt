@@ -33,7 +33,7 @@ others_mask : (v : List ℕ) → length v ≡ 8 → mask_l (map (top 7) (others 
 others_mask v long =
     ap (λ l. mask_l l % 2 ^ 64) (others_are v long) ∙ mask_l-mod (map is_other v) 64 (omega (arith, length-map v is_other))
 
--- a byte is no digit exactly where its lane says so
+-- a byte is no digit exactly if its lane says so
 digit_or_other : (x : ℕ) → x < 256 → not (is_other x) ≡ is_ascii_digit x
 digit_or_other x small = agree_below_at (λ y. not (is_other y)) is_ascii_digit 256 x refl small
 

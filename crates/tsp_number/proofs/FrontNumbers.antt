@@ -22,7 +22,7 @@ prefix_of_front {X} p (suc m) (x ∷ xs) = by_test (p x) (prefix_of_front p m xs
     by_test true so = omega (arith, so)
     by_test false so = omega arith
 
--- where the first m elements pass, those after them are counted on
+-- if the first m elements pass, those after them are counted on
 pub prefix_goes_on : {X : Type 0} (p : X → Bool) (m : ℕ) (xs : List X) → m ≤ prefix_len p xs
     → prefix_len p xs ≡ m + prefix_len p (drop m xs)
 prefix_goes_on p zero xs le = omega arith
@@ -101,7 +101,7 @@ eight_more bytes eight count value chunk few digits is =
       size = rw same (rw long at (digits_value-lt 10 (take count bytes) digits'));
     }
 
--- where the first eight are digits, those after them are counted on
+-- if the first eight are digits, those after them are counted on
 pub counts_on : (bytes eight : List ℕ) (most count places : ℕ) → IsFirstChunk bytes eight 8
     → count ≡ prefix_len is_ascii_digit eight → 8 ≤ count
     → places ≡ digit_count (most - 8) (drop 8 bytes) → 8 ≤ most → 8 + places ≡ digit_count most bytes
@@ -110,7 +110,7 @@ counts_on bytes eight most count places chunk counted full more room =
     let all : 8 ≤ prefix_len is_ascii_digit bytes = omega (arith, counted, front, full) in
     omega (arith, prefix_goes_on is_ascii_digit 8 bytes all, more, room)
 
--- where fewer are, they are all
+-- if fewer are, they are all
 pub few_digits : (bytes eight : List ℕ) (count : ℕ) → IsFirstChunk bytes eight 8 → count ≡ prefix_len is_ascii_digit eight
     → 0 < count → count < 8
     → few_end bytes ≡ Some count

@@ -168,7 +168,7 @@ digit_unsigned c cs small =
     let range = digit_from_value c small in
     unsigned_first c cs (λ e. omega arith) (λ e. omega arith)
 
--- the whole digits, where something that is no digit follows
+-- the whole digits, if something that is no digit follows
 front_of : (ds rest : List ℕ) → AllDigits 10 ds → NoDigitFirst rest
     → (front_digits (ds ++ rest) ≡ ds) × (after_digits (ds ++ rest) ≡ rest)
 front_of [] rest all none = (none.no_front, none.all_after)

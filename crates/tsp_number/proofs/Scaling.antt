@@ -30,7 +30,7 @@ unclamped : (o : Option ℤ) (x : ℤ) → option_map clamped o ≡ Some x → (
 unclamped (Some e) x h = (e, refl, cc)
 unclamped None x h = cc
 
--- the first branch, where the number is above 0
+-- the first branch, if the number is above 0
 pub if_above_zero : {A : Type 0} (n : ℕ) (x y : A) → 0 < n → (if nat_lt 0 n then x else y) ≡ x
 if_above_zero n x y above = grind (arith, common_steps)
 

@@ -177,7 +177,7 @@ decimals-second_zeros rest none =
     let whole : rest % 1000000 ≡ rest / 1000 % 1000 * 10 ^ 3 = omega arith in
     ap (decimals 6) whole ∙ decimals-shift 3 6 3 (rest / 1000 % 1000) refl (omega arith)
 
--- ---- where the last three are zeros, and where they aren't
+-- ---- if the last three are zeros, and if they aren't
 
 pub two_groups : (rest : ℕ) → rest % 1000 ≡ 0 → 0 < rest % 1000000
     → decimals 9 rest ≡ three_digits (rest / 1000000) ++ decimals 3 (rest / 1000 % 1000)

@@ -1,5 +1,5 @@
 -- A number word means at most one number, and reading it gives exactly one answer, which `decimal_of` and `whole_of`
--- compute.
+-- compute. For src/word.rt, and for the laws on number words.
 use Rattle.tsp_number.proofs.Prelude.{◌≡◌, ◌≢◌, ℕ, ◌+◌, ◌*◌, ◌/◌, ◌%◌, ◌^◌, ◌==◌, ◌&&◌, Bool, true, false, List, length, Option, Some, None, Result, Ok, Err, if◌then◌else◌, ℤ, pos, negsuc, ◌*ℤ◌, ◌≤ℤ◌, ◌<ℤ◌, ◌⊎◌, inl, inr, refl, arith, ap, sym, ◌∙◌, subst, unsigned_abs, nat_le, int_le, eq_of_mul-eq-mul_right, mul-mod_left, div-add-mod', MatchBool, nat_tests, ints, option_map}
 use Rattle.tsp_number.specs.declared.word.NumberFault.{NumberFault}
 use Rattle.tsp_number.specs.declared.word.NumberFault.TheVariants.{LongWord, BadNumber, TooFine, OutOfRange, NotWhole}
@@ -30,7 +30,7 @@ times_unit j k same = omega (arith, ints)
 number_word : (word : List ℕ) (k : ℤ) → StandsFor word k → IsNumberWord word
 number_word word k stands = (stands.numeral, stands.spelled)
 
--- where a decimal is wanted, a word has one answer
+-- if a decimal is wanted, a word has one answer
 -- plan: by both results: two counts are equal by `stands_once`, and two different faults exclude each other
 pub decimal_once : (word : List ℕ) (r s : Result ℤ NumberFault) → ReadsDecimal word r → ReadsDecimal word s → r ≡ s
 decimal_once word (Ok j) (Ok k) a b = ap Ok (stands_once word j k a.1 b.1)
@@ -84,7 +84,7 @@ outside_not_within : {A : Type 0} (low high j k : ℤ) → j ≡ k → low ≤�
 outside_not_within low high j k same from to (inl below) = absurd (omega (arith, ints))
 outside_not_within low high j k same from to (inr above) = absurd (omega (arith, ints))
 
--- where a whole number is wanted, a word has one answer
+-- if a whole number is wanted, a word has one answer
 -- plan: by both results: two numbers are equal by `stands_once`, and two different faults exclude each other
 pub whole_once : (word : List ℕ) (low high : ℤ) (r s : Result ℤ NumberFault) → ReadsWhole word low high r
     → ReadsWhole word low high s → r ≡ s

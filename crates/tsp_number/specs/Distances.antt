@@ -84,7 +84,7 @@ longest_way a b = max (max (dx a b) (dy a b)) (dz a b)
 abbrev pub IsMax3d : Point → Point → ℕ → Type 0
 IsMax3d a b k = IsNearestWhole (longest_way a b) k
 
--- the least number at which the test holds, sought from 0 on below n; n where there is none
+-- the least number at which the test holds, sought from 0 on below n; n if there is none
 unfoldable pub least : (ℕ → Bool) → ℕ → ℕ
 least test zero = 0
 least test (suc n) = if test 0 then 0 else suc (least (λ k. test (suc k)) n)
@@ -144,7 +144,7 @@ IsDistance = IsDistanceWithin IsOnPlane 4000000000
 abbrev pub IsDistanceInSpace : (Point → Point → ℕ → Type 0) → (Point → Point → ℕ) → Type 0
 IsDistanceInSpace = IsDistanceWithin IsInSpace 6000000000
 
--- ---- distances that don't shrink where two points move apart along the axes
+-- ---- distances that don't shrink if two points move apart along the axes
 
 -- points that are no farther apart along each axis are no farther apart
 abbrev pub IsMonotone : (Point → Point → ℕ) → Type 0

@@ -1,5 +1,5 @@
 -- Vocabulary for src/examples.rt: points with round coordinates, and short names for "this word is read as that
--- number".
+-- number". No other contract uses them.
 use Rattle.std.specs.Prelude.{ℕ, ℤ, pos, negsuc, ◌*ℤ◌, ◌≡◌, List, Ok, Err}
 use Rattle.tsp_number.specs.Distances.{on_plane}
 use Rattle.tsp_number.specs.NumberWord.{decimal_of, whole_of, spelling}

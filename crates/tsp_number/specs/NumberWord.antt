@@ -180,7 +180,7 @@ after_digits (c ∷ cs) = if is_ascii_digit c then after_digits cs else c ∷ cs
 abbrev pub are_digits : List ℕ → Bool
 are_digits bytes = nat_lt 0 (length (front_digits bytes)) && (length (after_digits bytes) == 0)
 
--- the exponent that the bytes write: 0 for no bytes; None where they aren't an exponent
+-- the exponent that the bytes write: 0 for no bytes; None if they aren't an exponent
 abbrev pub exponent_in : List ℕ → Option ℤ
 exponent_in [] = Some (pos 0)
 exponent_in (c ∷ cs) =
@@ -231,12 +231,12 @@ number_fault_text NotWhole = codes "NotWhole"
 
 -- ---- the number that a word is read as, or its fault, as functions of the word
 
--- m shifted by this many places, where that is a whole number
+-- m shifted by this many places, if that is a whole number
 abbrev pub shifted_size : ℕ → ℤ → Option ℕ
 shifted_size m (pos up) = Some (m * 10 ^ up)
 shifted_size m (negsuc down) = if m % 10 ^ (down + 1) == 0 then Some (m / 10 ^ (down + 1)) else None
 
--- the numeral as a count of 10^-scale, where that is a whole number
+-- the numeral as a count of 10^-scale, if that is a whole number
 abbrev pub number_in : ℕ → Numeral → Option ℤ
 number_in scale n = option_map (with_sign n.negative) (shifted_size (digits_of n) (shift_of scale n))
 
@@ -250,7 +250,7 @@ abbrev pub decimal_from : Option Numeral → Result ℤ NumberFault
 decimal_from None = Err BadNumber
 decimal_from (Some n) = decimal_within (number_in 9 n)
 
--- the word read as a decimal; `ReadsDecimal` holds of it
+-- the word read as a decimal; `ReadsDecimal` holds for it
 unfoldable pub decimal_of : List ℕ → Result ℤ NumberFault
 decimal_of word = if nat_le (length word) 64 then decimal_from (numeral_in word) else Err LongWord
 
@@ -265,6 +265,6 @@ abbrev pub whole_from : ℤ → ℤ → Option Numeral → Result ℤ NumberFaul
 whole_from low high None = Err BadNumber
 whole_from low high (Some n) = whole_within low high (number_in 9 n) (number_in 0 n)
 
--- the word read as a whole number from `low` to `high`; `ReadsWhole` holds of it
+-- the word read as a whole number from `low` to `high`; `ReadsWhole` holds for it
 unfoldable pub whole_of : List ℕ → ℤ → ℤ → Result ℤ NumberFault
 whole_of word low high = if nat_le (length word) 64 then whole_from low high (numeral_in word) else Err LongWord

@@ -1,6 +1,6 @@
-//! Whether a distance is at least a number, decided by comparing squares, without a root: the quick
-//! test by which a search for near nodes skips those too far away. The distances in
-//! `specs/Distances.antt` pin every answer, so only speed can change here.
+//! Whether a distance is at least a number, decided by comparing squares, without a root. With this
+//! quick test (`is_beyond` in tsp_cost), a search for near nodes skips those too far away.
+//! `specs/Distances.antt` pins every answer, so only speed is free.
 
 ghost use Rattle.std.specs.Prelude.{◌≤ℤ◌, ◌↔◌, ℕ, IsTrue, pos};
 ghost use Rattle.tsp_number.specs.Distances.{square_apart, euc_2d_of, ceil_2d_of, att_of, euc_3d_of};
@@ -10,7 +10,7 @@ use crate::decimal::Point;
 use crate::distance::way;
 use crate::root::{Rounding, is_root_at_least, square_of};
 
-/// Whether the straight distance in the plane, rounded by `rounding`, is at least `least`.
+/// Whether the Euclidean distance in the plane, rounded by `rounding`, is at least `least`.
 #[inline(always)]
 fn is_straight_at_least(rounding: Rounding, a: Point, b: Point, least: i64) -> bool
     ensures { (root : ℕ) → IsLeastCover rounding (square_apart a b) root → IsTrue result ↔ (least ≤ℤ pos root) }

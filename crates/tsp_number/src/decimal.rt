@@ -1,13 +1,13 @@
-//! Coordinates as exact decimals with nine places, and the points that they make. The range, 10^9
-//! in either direction, is `most_count` in `specs/Decimal.antt` and a limit on the page
-//! docs/format.md; a wider one would overflow the 64 and 128 bits of `distance.rt` and `root.rt`.
+//! Coordinates as exact decimals with nine places, and the points that they make. Don't widen their
+//! range, 10^9 in either direction (`most_count` in `specs/Decimal.antt`, and docs/format.md):
+//! `distance.rt` and `root.rt` would overflow.
 
 ghost use Rattle.std.specs.Prelude.{◌≡◌, ◌≤◌, unsigned_abs, SomeIff};
 ghost use Rattle.tsp_number.specs.Decimal.{most_count};
 
 use std::marker::Model;
 
-/// One whole, in counts of 10^-9.
+/// The number 1, in counts of 10^-9.
 pub const UNIT: u64 = 1_000_000_000;
 
 /// The largest size of a count: 10^9 in counts of 10^-9.
@@ -86,7 +86,7 @@ pub struct Point {
     pub z: Decimal,
 }
 
-/// A point in the plane, by its coordinates, which takes less memory than a `Point`.
+/// A point in the plane, by its coordinates. It takes less memory than a `Point`.
 #[derive(Clone, Copy, Debug, PartialEq, Eq)]
 pub struct PlanePoint {
     /// The first coordinate.

@@ -1,6 +1,6 @@
-//! The eight distances of TSPLIB 95, each from two points to a whole number: five in the plane,
-//! three in space. `specs/Distances.antt` pins them by inequalities taken from Reinelt's formulas.
-//! Every printed length and bound of an instance with coordinates is made of these numbers.
+//! The eight distances of TSPLIB 95, each from two points to an integer: five in the plane, three
+//! in space. tsp_cost gets the cost of each pair of points from here. `specs/Distances.antt` pins
+//! every distance by inequalities taken from Reinelt's formulas, so only speed is free.
 
 ghost use Rattle.std.specs.Prelude.{◌≡◌, pos, ◌≤ℤ◌, ◌<◌, ◌≤◌, ◌-ℤ◌, ◌+◌, ◌-◌, ◌*◌, ◌^◌, unsigned_abs};
 ghost use Rattle.tsp_number.specs.Decimal.{unit};
@@ -28,7 +28,7 @@ fn gap(a: Decimal, b: Decimal) -> u64
     a.nanos().abs_diff(b.nanos())
 }
 
-/// The count divided by 10^9, rounded to the nearest whole number, a half upward.
+/// The count divided by 10^9, rounded to the nearest integer, halves up.
 #[inline(always)]
 fn nearest_whole(count: u64) -> i64
     requires { count ≤ 6 * 10 ^ 18 }
@@ -40,7 +40,7 @@ fn nearest_whole(count: u64) -> i64
     ((count + UNIT / 2) / UNIT) as i64
 }
 
-/// The straight distance in the plane, rounded by `rounding`: from 0 to 2,828,427,125.
+/// The Euclidean distance in the plane, rounded by `rounding`: from 0 to 2,828,427,125.
 #[inline(always)]
 fn straight(rounding: Rounding, a: Point, b: Point) -> i64
     ensures value { IsLeastCover rounding (square_apart a b) (unsigned_abs result) }
@@ -51,7 +51,7 @@ fn straight(rounding: Rounding, a: Point, b: Point) -> i64
     i64::from(rounded_root(rounding, way(a.x, b.x), way(a.y, b.y)))
 }
 
-/// The distance EUC_2D: the straight distance, rounded to the nearest whole number, a half upward.
+/// The EUC_2D distance: Euclidean, rounded to the nearest integer, halves up.
 ///
 /// It is `nint(sqrt(dx^2 + dy^2))` of Reinelt's TSPLIB 95, over the exact coordinates: from 0 to
 /// 2,828,427,125.
@@ -64,9 +64,9 @@ pub fn euc_2d(a: Point, b: Point) -> i64
     straight(Rounding::Nearest, a, b)
 }
 
-/// The distance CEIL_2D: the straight distance, rounded up.
+/// The CEIL_2D distance: Euclidean, rounded up.
 ///
-/// It is `sqrt(dx^2 + dy^2)` of Reinelt's TSPLIB 95 rounded up to a whole number, over the exact
+/// It is `sqrt(dx^2 + dy^2)` of Reinelt's TSPLIB 95, rounded up to an integer, over the exact
 /// coordinates: from 0 to 2,828,427,125.
 pub fn ceil_2d(a: Point, b: Point) -> i64
     ensures value { IsCeil2d a b (unsigned_abs result) }
@@ -77,10 +77,10 @@ pub fn ceil_2d(a: Point, b: Point) -> i64
     straight(Rounding::Up, a, b)
 }
 
-/// The distance ATT: the root of a tenth of the straight distance's square, rounded up.
+/// The ATT distance: the root of a tenth of the squared Euclidean distance, rounded up.
 ///
-/// Reinelt's TSPLIB 95 rounds `sqrt((dx^2 + dy^2) / 10)` to the nearest whole number and adds 1
-/// if that is less, which rounds it up. It is from 0 to 894,427,191.
+/// Reinelt's TSPLIB 95 rounds `sqrt((dx^2 + dy^2) / 10)` to the nearest integer and adds 1 if the
+/// result is less, which rounds it up. It is from 0 to 894,427,191.
 pub fn att(a: Point, b: Point) -> i64
     ensures value { IsAtt a b (unsigned_abs result) }
     ensures distance { result ≡ pos (att_of a b) }
@@ -90,8 +90,7 @@ pub fn att(a: Point, b: Point) -> i64
     straight(Rounding::TenthUp, a, b)
 }
 
-/// The distance MAN_2D: the sum of the ways along both axes, rounded to the nearest whole number,
-/// a half upward.
+/// The MAN_2D distance: Manhattan, rounded to the nearest integer, halves up.
 ///
 /// It is `nint(|dx| + |dy|)` of Reinelt's TSPLIB 95, over the exact coordinates: from 0 to
 /// 4,000,000,000.
@@ -104,8 +103,8 @@ pub fn man_2d(a: Point, b: Point) -> i64
     nearest_whole(gap(a.x, b.x) + gap(a.y, b.y))
 }
 
-/// The distance MAX_2D: the longer of the ways along both axes, rounded to the nearest whole
-/// number, a half upward.
+/// The MAX_2D distance: the larger coordinate difference, rounded to the nearest integer, halves
+/// up.
 ///
 /// It is `max(nint(|dx|), nint(|dy|))` of Reinelt's TSPLIB 95, over the exact coordinates: from 0
 /// to 2,000,000,000.
@@ -120,8 +119,7 @@ pub fn max_2d(a: Point, b: Point) -> i64
 
 // ---- the three distances of TSPLIB 95 between points in space
 
-/// The distance EUC_3D: the straight distance in space, rounded to the nearest whole number, a half
-/// upward.
+/// The EUC_3D distance: Euclidean in space, rounded to the nearest integer, halves up.
 ///
 /// It is `nint(sqrt(dx^2 + dy^2 + dz^2))` of Reinelt's TSPLIB 95, over the exact coordinates: from
 /// 0 to 3,464,101,615.
@@ -134,8 +132,7 @@ pub fn euc_3d(a: Point, b: Point) -> i64
     i64::from(nearest_root_in_space(way(a.x, b.x), way(a.y, b.y), way(a.z, b.z)))
 }
 
-/// The distance MAN_3D: the sum of the ways along the three axes, rounded to the nearest whole
-/// number, a half upward.
+/// The MAN_3D distance: Manhattan in space, rounded to the nearest integer, halves up.
 ///
 /// It is `nint(|dx| + |dy| + |dz|)` of Reinelt's TSPLIB 95, over the exact coordinates: from 0 to
 /// 6,000,000,000.
@@ -150,8 +147,8 @@ pub fn man_3d(a: Point, b: Point) -> i64
     nearest_whole(gap(a.x, b.x) + gap(a.y, b.y) + gap(a.z, b.z))
 }
 
-/// The distance MAX_3D: the longest of the ways along the three axes, rounded to the nearest whole
-/// number, a half upward.
+/// The MAX_3D distance: the largest coordinate difference in space, rounded to the nearest integer,
+/// halves up.
 ///
 /// It is `max(nint(|dx|), nint(|dy|), nint(|dz|))` of Reinelt's TSPLIB 95, over the exact
 /// coordinates: from 0 to 2,000,000,000.

@@ -1,6 +1,6 @@
-//! Distances, number words and spellings worked out by hand, as laws about the definitions in
-//! `specs/`. No program calls them. They are here because code and definition could be changed
-//! together: a row then fails.
+//! Laws that state values of the definitions in `specs/`, worked out by hand: distances, number
+//! words and spellings. No code calls them. If someone makes the same mistake in a definition and
+//! in the code, every contract still holds, but one of these laws fails.
 
 ghost use Rattle.std.specs.Prelude.{pos, negsuc, ◌≡◌, Some, None, codes, ◌++◌, replicate};
 ghost use Rattle.tsp_number.specs.Distances.{IsEuc2d, IsCeil2d, IsMan2d, IsMax2d, IsAtt, IsEuc3d, IsMan3d, IsMax3d};

@@ -1,7 +1,6 @@
-//! What the definitions in `specs/` promise whatever the code does: a distance is one number,
+//! Laws about the definitions in `specs/`, whatever the code does: a distance is one number,
 //! symmetric and bounded, and grows with the way along each axis; a number word means one number; a
-//! spelling is read back. Proofs in higher crates cite these laws, so weakening one breaks them
-//! there.
+//! spelling is read back. Proofs in crates above rest on them.
 
 ghost use Rattle.std.specs.Prelude.{◌≡◌, ◌≤◌, ℕ, ℤ, List, Result, Ok, unsigned_abs};
 ghost use Rattle.tsp_number.specs.Decimal.{most_count};
@@ -43,9 +42,9 @@ pub fn spelling_laws()
 {}
 
 /// If two points are no farther apart than two others along each axis, no distance between them is
-/// larger. So the distance to the nearest point of a box is at most that to any of its points.
+/// larger.
 ///
-/// So the distance to the nearest point of a box is at most that to any other of its points.
+/// So the distance to the nearest point of a box is at most that to any other point of the box.
 pub fn monotone_laws()
     ensures euc_2d { IsMonotone euc_2d_of }
     ensures ceil_2d { IsMonotone ceil_2d_of }

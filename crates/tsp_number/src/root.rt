@@ -1,6 +1,6 @@
-//! Exact rounded roots. A root is estimated in floats, checked in whole numbers, and searched by
-//! halving if the check fails. `Covers` and `IsLeastCover` in `specs/states/Rounding.antt` pin the
-//! result, so a worse estimate costs only time.
+//! Exact rounded roots, for `distance.rt` and `at_least.rt`. A root is estimated in floats, checked
+//! in integers, and searched by bisection if the check fails. `Covers` and `IsLeastCover` in
+//! `specs/states/Rounding.antt` pin the result, so a worse estimate costs only time.
 
 ghost use Rattle.std.specs.Prelude.{◌≡◌, ◌+◌, ◌-◌, ◌*◌, ◌<◌, ◌≤◌, ◌≤ℤ◌, ◌^◌, ◌↔◌, ℕ, IsTrue, pos, unsigned_abs};
 ghost use Rattle.std.specs.Bool.{OnTrue};
@@ -22,14 +22,14 @@ const MOST_ROOT_IN_SPACE: u32 = 3_464_101_615;
 /// The number 1 in counts of 10^-18, the unit of squares.
 const SQUARE_UNIT: u128 = 1_000_000_000_000_000_000;
 
-/// How a root is rounded to a whole number.
+/// How a root is rounded to an integer.
 #[derive(Clone, Copy)]
 pub(crate) enum Rounding {
-    /// The root, to the nearest whole number, a half upward.
+    /// The root, to the nearest integer, halves up.
     Nearest,
-    /// The root, upward.
+    /// The root, rounded up.
     Up,
-    /// The root of a tenth, upward.
+    /// The root of a tenth, rounded up.
     TenthUp,
 }
 
@@ -55,8 +55,8 @@ fn covers(rounding: Rounding, square: u128, whole: u32) -> bool
     }
 }
 
-/// Whether the rounded root of a square is at least `least`. No root is taken: the answer is yes if
-/// the number before `least` doesn't cover the square.
+/// Whether the rounded root of a square is at least `least`. No root is taken: it is if the number
+/// before `least` doesn't cover the square.
 #[inline(always)]
 pub(crate) fn is_root_at_least(rounding: Rounding, square: u128, least: i64) -> bool
     requires { square ≤ 12 * 10 ^ 36 }
@@ -71,7 +71,8 @@ pub(crate) fn is_root_at_least(rounding: Rounding, square: u128, least: i64) -> 
     !covers(rounding, square, (least - 1) as u32)
 }
 
-/// The least number that covers the square, by halving the range up to `most`, which covers it.
+/// The least number that covers the square, by bisection of the range up to `most`, which covers
+/// it.
 #[cold]
 #[inline(never)]
 fn exact_root(rounding: Rounding, square: u128, most: u32) -> u32
@@ -161,7 +162,7 @@ fn is_least_cover(rounding: Rounding, square: u128, whole: u32) -> bool
     }
 }
 
-/// The least number that covers the square, next to the estimate or else by halving.
+/// The least number that covers the square: next to the estimate, or else by bisection.
 #[cold]
 #[inline(never)]
 fn corrected_root(rounding: Rounding, square: u128, near: u32, most: u32) -> u32
@@ -215,8 +216,8 @@ pub(crate) fn rounded_root(rounding: Rounding, dx: i64, dy: i64) -> u32
     settled_root(rounding, square, near, MOST_ROOT)
 }
 
-/// The length of a way in space, rounded to the nearest whole number, a half upward, from the ways
-/// along the axes in counts of 10^-9.
+/// The length of a way in space, rounded to the nearest integer, halves up, from the ways along the
+/// axes in counts of 10^-9.
 #[inline(always)]
 pub(crate) fn nearest_root_in_space(dx: i64, dy: i64, dz: i64) -> u32
     requires dx { unsigned_abs dx ≤ 2 * 10 ^ 18 }

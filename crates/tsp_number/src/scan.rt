@@ -1,6 +1,6 @@
-//! The careful way to read a number word, first half: cuts it into sign, digits, point and
-//! exponent, from the left. Only words that the shortcuts in `word.rt` leave over come here.
-//! `numeral_in` in `specs/NumberWord.antt` says what the parts are.
+//! The first half of reading any number word: cuts it into sign, digits, point and exponent.
+//! `word.rt` comes here with words that its shortcuts can't read. `numeral_in` in
+//! `specs/NumberWord.antt` pins the parts.
 
 ghost use Rattle.std.specs.Prelude.{◌≡◌, ◌+◌, ◌<◌, ◌≤◌, length, MatchOption, ℕ, None, Some};
 ghost use Rattle.std.specs.Option.{option_map};
@@ -8,8 +8,8 @@ ghost use Rattle.std.specs.Str.Parse.{digits_value_after};
 ghost use Rattle.tsp_number.specs.NumberWord.{has_minus, after_sign, after_point, front_digits, after_digits, exponent_in, numeral_in};
 ghost use Rattle.tsp_number.specs.states.Digits.{saturated, clamped, HoldsWord};
 
-/// Larger exponents count as this one. With such an exponent, a word of at most 64 bytes means 0,
-/// or a number that is too fine or too large, whatever the exponent is.
+/// Larger exponents are read as this one, because with any such exponent, a word of at most 64
+/// bytes means 0, or a number that is too fine or too large.
 const MOST_EXPONENT: u64 = 10_000;
 
 /// The sign, digits and exponent of a number word.
@@ -48,7 +48,7 @@ fn split_sign(bytes: &[u8]) -> (bool, &[u8])
     }
 }
 
-/// The bytes after a point, if they begin with one; else all of them.
+/// The bytes after a point, if they begin with one; otherwise all of them.
 #[inline(always)]
 fn skip_point(bytes: &[u8]) -> &[u8]
     ensures { result.now ≡ after_point bytes.now }

@@ -1,6 +1,6 @@
-//! The careful way to read a number word, second half: moves its digits by its exponent, in whole
-//! numbers, so nothing is rounded. A value past 64 bits becomes `u64::MAX`, which `word.rt` refuses
-//! as out of range.
+//! The second half of reading any number word: shifts its digits by its exponent, in integers, so
+//! nothing is rounded. A value past 64 bits becomes `u64::MAX`, which `word.rt`, the caller,
+//! refuses as out of range.
 
 ghost use Rattle.std.specs.Prelude.{◌≡◌, ◌+◌, ◌*◌, ◌^◌, ◌<◌, ◌≤◌, ◌++◌, length, ◌==◌, pos, ◌+ℤ◌, ◌-ℤ◌};
 ghost use Rattle.std.specs.List.{list_all};

@@ -1,6 +1,6 @@
-//! Writes a decimal in the one way in which canonical texts spell it, backwards from its last byte.
-//! `tsp convert` prints these bytes; `spelling` in `specs/NumberWord.antt` fixes each of them.
-//! Taking three digits at a time is for speed.
+//! Writes a decimal as canonical texts spell it, backwards from its last byte, for the writer of
+//! tsp_file. `spelling` in `specs/NumberWord.antt` pins each byte; taking three digits at a time
+//! affects only speed.
 
 ghost use Rattle.std.specs.Prelude.{◌≡◌, ◌+◌, ◌<◌, ◌≤◌, ◌++◌, length, drop, ◌-◌, ◌/◌, ◌%◌, ◌∷◌};
 ghost use Rattle.tsp_number.specs.Decimal.{unit};

@@ -1,7 +1,6 @@
-//! Reads number words such as `12`, `-0.5` and `1.5e+02`. Which words are numbers, and which fault
-//! comes first, is `ReadsDecimal` and `ReadsWhole` in `specs/NumberWord.antt`; the texts of the
-//! faults are printed. The functions `front_..` are shortcuts for plain words and find the same
-//! numbers.
+//! Reads number words such as `12`, `-0.5` and `1.5e+02`, for tsp_read. `ReadsDecimal` and
+//! `ReadsWhole` in `specs/NumberWord.antt` pin which words are numbers and which fault comes first.
+//! The functions `front_..` are shortcuts for plain words, and affect only speed.
 
 ghost use Rattle.std.specs.Char.{is_ascii_digit};
 ghost use Rattle.std.specs.Int.{to_le_bytes, w64};
@@ -73,7 +72,7 @@ pub fn parse_decimal(word: &[u8]) -> Result<Decimal, NumberFault>
     any_decimal(word)
 }
 
-/// What `parse_decimal` returns, found without the shortcut `front_decimal`.
+/// Like `parse_decimal`, but without the shortcut `front_decimal`.
 #[cold]
 #[inline(never)]
 fn any_decimal(word: &[u8]) -> Result<Decimal, NumberFault>
@@ -121,7 +120,7 @@ pub fn parse_whole(word: &[u8], low: i64, high: i64) -> Result<i64, NumberFault>
     any_whole(word, low, high)
 }
 
-/// What `parse_whole` returns, found without the shortcut `front_whole`.
+/// Like `parse_whole`, but without the shortcut `front_whole`.
 #[cold]
 #[inline(never)]
 fn any_whole(word: &[u8], low: i64, high: i64) -> Result<i64, NumberFault>
@@ -203,7 +202,7 @@ fn front_sign(bytes: &[u8]) -> (bool, usize)
     }
 }
 
-/// What `front_digits` returns, found digit by digit.
+/// Like `front_digits`, but digit by digit.
 #[inline(always)]
 fn single_digits(bytes: &[u8], most: usize) -> (u64, usize)
     requires { most ≤ 18 }

@@ -436,7 +436,7 @@ stands_open : (opened : Option OpenSection) (items : List Item) → OpenHolds op
 stands_open None items h some none = false≢true some
 stands_open (Some p) items h some none = none-some p.field (sym none ∙ h.0)
 
--- where a section was open, there was more than blanks and line ends
+-- if a section was open, there was more than blanks and line ends
 pub open_not_bare : (bytes : List ℕ) (reading : Reading) → SpellsWhole reading bytes → is_some reading.opened ≡ true
     → is_bare bytes ≡ false
 open_not_bare bytes reading h some = by_case (is_bare bytes) refl

@@ -166,7 +166,7 @@ module _ {X : Type 0} {size : ℕ} {value : Words → X} {missing : X} {reads : 
   pub finish : entries ≡ by_node missing n (node_groups size value n words)
   finish = nodes.entries_by_node missing seen entries left begun n (node_groups size value n words) h.nodes
 
-  -- a group is still to come exactly where one is left
+  -- a group is still to come exactly if one is left
   pub to_come : wants_more number_place ≡ true → nat_lt 0 left ≡ wants_more (place_by_node size number_place (node_groups size value n words) n words)
   to_come wants = by_left left refl
     where

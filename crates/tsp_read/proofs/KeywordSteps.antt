@@ -1,4 +1,5 @@
--- The line of a keyword sets its field, or is the first fault, for `Reading::known` and `Reading::number`.
+-- The line of a keyword sets its field, or is the first fault, for `Reading::known` and `Reading::number` in
+-- src/reading.rt.
 use Rattle.tsp_read.proofs.Prelude.{◌≡◌, ◌≢◌, Bool, refl, subst, Some, None, cond, ℕ, true, false, List, ◌∷◌, set, get_or, sym, ap, ◌∙◌, Option, Result, Ok, Err, find, ℤ, pos, nat_abs, nat_lt, is_some, is_none, not, ◌&&◌, result_ok, whole_of, Point, NumberFault, most_nodes, most_capacity, most_scale, most_load_unit, shape_of, value_shape_of, most_line_bytes, is_section_field, kind_word, weight_kind_word, weight_format_word, coord_kind_word, display_kind_word, kinds, weight_kinds, weight_formats, coord_kinds, display_kinds, Field, NameKey, TypeKey, CommentKey, OtherKey, DimensionKey, CapacityKey, ScaleKey, LoadUnitKey, EdgeWeightTypeKey, EdgeWeightFormatKey, NodeCoordTypeKey, DisplayDataTypeKey, NodeCoordPart, DisplayDataPart, DemandPart, DepotPart, FixedEdgesPart, EdgeWeightPart, TourPart, NodePotentialPart, RowPotentialPart, ColumnPotentialPart, FixedEdgePotentialPart, FamilyPart, MemoryPart, SubsetRowPart, BranchPart, Known, Fields, spatial, stands_in, with_one_number, fields_of, clean_more, space_kept, coords_stay, first_stays, same_field, has_line, open_section, words_of, kind_named, weight_kind_named, weight_format_named, coord_kind_named, display_kind_named, is_left_out, says_space, spatial_after, dimension_in, row_of, is_late, coords_by_node, is_not_empty, first_word, WordLine, Item, Line, IsClean, fields_by, sections_in_order, first_incomplete, LineFault}
 use Rattle.tsp_format.specs.declared.keyword.ValueShape.{ValueShape}
 use Rattle.tsp_format.specs.declared.keyword.ValueShape.TheVariants.{Kept, KeptEach, Number, Word}
@@ -324,7 +325,7 @@ number_rows earlier line short = by_number (λ field low high. row_of earlier (L
     ≡ numbered_rows (has_line field earlier) line.value (whole_of (first_word line.value) low high))
     (rw short refl) (rw short refl) (rw short refl) (rw short refl)
 
--- it has come where an earlier line has it
+-- it has come if an earlier line has it
 number_stands : (reading : Reading) (earlier : List Item) → Closed reading earlier
     → (field : Field) (low high : ℤ) → value_shape_of field ≡ Some (Number low high)
     → stands_in (fields_of reading.draft) field ≡ has_line field earlier

@@ -1,4 +1,5 @@
--- The items of the rest of a text, by what it begins with: a blank, the end of a line, a word line or a word.
+-- The items of the rest of a text, by what it begins with: a blank, the end of a line, a word line or a word. For
+-- src/items.rt and the lemmas on its steps.
 use Rattle.tsp_read.proofs.Prelude.{◌≡◌, ℕ, ◌+◌, Bool, true, false, cond, List, [], ◌∷◌, ◌++◌, length, map, take, drop, refl, sym, ap, subst, ◌∙◌, arith, append-nil, take-append-drop, not, ◌||◌, ◌&&◌, nat_lt, slice_split, onto_first, position_or_len, filter, eqb-true, ne_eqb, or_parts, nat_tests, is_blank, is_letter, most_word_bytes, most_line_bytes, lines_of, words_in, ends_line, is_not_empty, without_start, begins, Item, NumberWord, LineEnd, line_item, items_in, items_by, items_of, settled_pieces, settled_words, settled_line, settled_in, settled_items, start_blank, start_filled, words_blank as settled_blank}
 use Rattle.std.proofs.Math.Numerals.{one-add}
 use Rattle.tsp_read.specs.states.Left.{items_of_rest, last_items, items_left_by, items_left, ends_word, up_to_first, from, is_settled}

@@ -1,4 +1,5 @@
--- One word more of a list of nodes that -1 ends, or of pairs and triples, and lines that are scanned for a value.
+-- One word more of a list of nodes that -1 ends, or of pairs and triples, and lines that are scanned for a value. For
+-- src/lists.rt and src/section_builder.rt.
 use Rattle.tsp_read.proofs.Prelude.{◌≡◌, ℕ, suc, List, [], ◌∷◌, ◌++◌, length, map, get_or, refl, ap, Option, None, Some, Ok, ◌+◌, ◌<◌, Bool, true, false, sym, ◌∙◌, arith, ◌≢◌, ◌≤◌, subst, ap₂, cond, drop, lt-leb, false_from_ne_true, ltb-true, ltb-false, nat_tests, Decides-int_eq, map_push, length_push, prefix_len-le-length, cond_some, list_any, prefix_len, position, position_or_len, option_map, int_eq, ℤ, Result, pos, negsuc, nat_abs, nat_le, ◌==◌, is_some, not, NumberFault, most_depots, most_fixed, Words, goes_on, group_ends, firsts_begin, firsts_on, firsts_kept, groups_kept, groups_none, word_fault, when, first_row, place_of_depot, groups_in, begun_in, firsts_in, place_in_list, fixed_pair, place_in_pair, place_of_fixed, number, node_or_end, is_end, is_minus_one, Place, PastEnd, DepotAfter, node, FirstAfter, SecondOf, wants_more, LineFault}
 use Rattle.std.proofs.Math.Bool.{and-false}
 use Rattle.tsp_text.proofs.ValidKeywords.{any_kept, any_push, before_kept, before_none, before_end, before_push}
@@ -8,13 +9,13 @@ use Rattle.tsp_read.specs.states.Parts.{AreReadAs, DepotsHold, ListHolds, PairsH
 abbrev pub Reader : Type 0
 Reader = List ℕ → Result ℤ NumberFault
 
--- where nothing is kept of the first, no group has begun
+-- if nothing is kept of the first, no group has begun
 pub none_kept : (read : Reader) (reads : List Reader) (kept : List (Option ℤ)) (words : Words) → AreReadAs (read ∷ reads) (None ∷ kept) words
     → (words ≡ []) × AreReadAs reads kept []
 none_kept read reads kept [] h = (refl, h)
 none_kept read reads kept (word ∷ words) h = absurd h
 
--- where something is kept of it, it is there
+-- if something is kept of it, it is there
 pub some_kept : (read : Reader) (reads : List Reader) (z : ℤ) (kept : List (Option ℤ)) (words : Words) → AreReadAs (read ∷ reads) (Some z ∷ kept) words
     → (first : List ℕ) × (rest : Words) × (words ≡ first ∷ rest) × (read first ≡ Ok z) × AreReadAs reads kept rest
 some_kept read reads z kept [] h = absurd h
@@ -140,7 +141,7 @@ module _ {X : Type 0} {size : ℕ} {value : Words → X} {reads : List Reader} {
   place_of_first : ended ≡ false → first ≡ None → place_in_list size in_group n words ≡ FirstAfter (length groups)
   place_of_first open_ended is = place_open [] open_ended (none_begun open_ended is).0 ∙ places.first (length groups)
 
-  -- the second node, where nothing else is kept
+  -- the second node, if nothing else is kept
   place_of_second : (k : ℕ) → ended ≡ false → first ≡ Some k → ((rest : Words) → AreReadAs reads kept rest → rest ≡ [])
       → place_in_list size in_group n words ≡ SecondOf (pos k)
   place_of_second k open_ended is alone =
@@ -249,7 +250,7 @@ module _ {X : Type 0} {size : ℕ} {value : Words → X} {reads : List Reader} {
 
   -- ---- the end
 
-  -- a group is cut short exactly where it has begun
+  -- a group is cut short exactly if it has begun
   pub cut_short : is_some first ≡ wants_more (place_in_list size in_group n words)
   cut_short = by_case first ended refl refl
     where

@@ -189,7 +189,7 @@ onto_reversed [] earlier = refl
 onto_reversed (x ∷ items) earlier =
     onto_reversed items (x ∷ earlier) ∙ sym (ap (λ (xs : List Item). xs ++ earlier) (reverse-append (x ∷ []) items) ∙ append_assoc (reverse items) (x ∷ []) earlier)
 
--- ---- a line of a field is present exactly where it has a value
+-- ---- a line of a field is present exactly if it has a value
 
 pub has_value : (field : Field) (items : List Item) → has_line field items ≡ is_some (value_at field items)
 has_value field [] = refl

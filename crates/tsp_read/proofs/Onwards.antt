@@ -299,7 +299,7 @@ token_missing_next goes_on inside text filled first after Word e parts more is s
 
 -- ---- the next item of a text is the same when more bytes follow the text
 
--- ---- before and from the first place that passes, where there is one
+-- ---- before and from the first place that passes, if there is one
 
 abbrev pub CutsAlike : (ℕ → Bool) → List ℕ → List ℕ → Type 0
 CutsAlike p xs more = (up_to_first p (xs ++ more) ≡ up_to_first p xs) × (from p (xs ++ more) ≡ from p xs ++ more)
@@ -377,7 +377,7 @@ token_follows inside true text filled first after token piece rest e parts more_
 token_follows inside false text filled first after token piece rest e parts more_ is p r settled goes_is short goes_on more =
     absurd cc
 
--- it isn't too long where its item isn't
+-- it isn't too long if its item isn't
 pub token_short : (token : Token) (piece : List ℕ) → is_over_long (token_item token piece) ≡ false
     → nat_lt (most_bytes token) (length piece) ≡ false
 token_short Line piece short = short

@@ -178,7 +178,7 @@ no_blank : (b : Bool) (c : ℕ) → is_blank c ≡ b → ends_word c ≡ false �
 no_blank true c blank e = absurd (true≢false (sym (blank_ends c blank) ∙ e))
 no_blank false c blank e = refl
 
--- no blank is before it where the text begins with it
+-- no blank is before it if the text begins with it
 pub begins_filled : (text : List ℕ) (count : ℕ) (k : ℤ) → BeginsWithNumber text count k → text ≡ without_start text
 begins_filled text count k number =
     let spelled = number.stands.spelled in

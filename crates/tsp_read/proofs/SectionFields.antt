@@ -1,4 +1,5 @@
--- Sections, written and read back, are complete and set their fields.
+-- Sections, written and read back, are complete and set their fields. Part of the proof of the law
+-- `canonical_texts_are_read_back`.
 use Rattle.tsp_read.proofs.Prelude.{◌≡◌, ℕ, ◌+◌, ◌≤◌, Bool, true, false, cond, List, [], ◌∷◌, length, refl, ap, subst, ◌∙◌, arith, Option, Some, None, Result, ◌^◌, ◌<◌, append_assoc, ◌++◌, sym, false≢true, and_parts, leb-true, and_left, and_right, true≢false, take_all, decimal, signed_decimal, list_all, prefix_len, find, filter, option_map, option_and_then, option_map_or, ℤ, pos, not, nat_le, nat_abs, is_some, unwrap_or, ◌&&◌, nat_lt, result_ok, whole_of, NumberFault, most_nodes, most_capacity, most_scale, most_load_unit, most_matrix_nodes, most_line_bytes, shape_of, is_section_field, is_blank, is_spatial, coord_kind_word, weight_kind_word, field_word, fields_in_order, Field, DimensionKey, CapacityKey, ScaleKey, LoadUnitKey, NodeCoordTypeKey, EdgeWeightTypeKey, CommentKey, OtherKey, NodeCoordPart, Known, Shape, Numbers, Points, SpacePoints, Depots, Pairs, Weights, Tours, Triples, Families, Memories, SubsetRows, Steps, line_lens, text_of_section, text_of_field, Fields, spatial, with_dimension, if_there, is_node, is_from_to, section_fits, fits, clean_more, same_field_is, has_line, value_at, read_as, dimension_in, named_at, coord_kind_named, weight_kind_named, spatial_after, same_field, is_open, values_at, others_in, open_section, words_of, place_by, place_in, may_repeat, row_of, first_word, Item, WordLine, Line, LineEnd, items_in, items_of, has_no_line_end, PastEnd, IsClean, needs_nodes, is_matrix, opening_rows, wants_more, is_incomplete, first_incomplete}
 use Rattle.tsp_format.specs.declared.kinds.CoordKind.{CoordKind}
 use Rattle.tsp_format.specs.declared.kinds.WeightKind.{WeightKind}
@@ -99,7 +100,7 @@ pub load_unit_whole : NumberLaws → (o : Option ℤ) → if_there (is_from_to (
 load_unit_whole laws None is = refl
 load_unit_whole laws (Some z) is = number_from laws most_load_unit z is (omega arith)
 
--- ---- a canonical text is spatial where its file is
+-- ---- a canonical text is spatial if its file is
 
 pub space_written : (f : Fields) (items : List Item) → value_at NodeCoordTypeKey items ≡ option_map coord_kind_word f.coord_kind
     → value_at EdgeWeightTypeKey items ≡ option_map weight_kind_word f.weight_kind → spatial_after items ≡ spatial f

@@ -1,4 +1,5 @@
--- One word more of sections whose words come in groups: points, triples, tours, weights and the steps of trees.
+-- One word more of sections whose words come in groups: points, triples, tours, weights and the steps of trees. For
+-- src/section_builder.rt and the lists in src/lists.rt, src/memory_lists.rt and src/tree.rt.
 use Rattle.tsp_read.proofs.Prelude.{◌≡◌, ◌≢◌, ℕ, ◌+◌, ◌-◌, ◌<◌, ◌≤◌, Bool, true, false, cond, ◌||◌, List, [], ◌∷◌, ◌++◌, length, set, refl, sym, ap, ◌∙◌, Option, None, Some, Ok, Err, inl, inr, arith, rules, get_or-set_other, get_or-set_same, ap₂, subst, map, Result, ◌*◌, false_from_ne_true, Decides-int_eq, same_from_decides, nat_tests, ints, length-set, length_push, length-replicate, get_or-replicate, ext_get_or, map_push, length-map, fold-append, list_any, slice_split, onto_first, filter, int_eq, ℤ, pos, negsuc, nat_abs, ◌⊎◌, replicate, slice_index_or, is_some, unwrap_or, ◌==◌, nat_le, not, MatchResult, OnOk, neg_ℤ, whole_of, NumberFault, most_multiplier, most_nodes, most_tour_nodes, most_weight, most_difference, Words, word_fault, entry_of, nodes_of_groups, by_node, place_in_group, fixed_triple, place_in_triple, place_of_triple, node, reads_as, IsWhole, Place, NodeAfter, number, node_or_end, Amount, TourNode, ends_tour, tour_node, place_of_tour, whole_of_size, Weight, place_of_weight, TreeSoFar, no_steps, with_tree_word, tree_after, place_in_tree, place_of_step, wants_more, LineFault}
 use Rattle.std.proofs.Math.Bool.{and-false}
 use Rattle.std.proofs.lemmas.List.FromFn.{length-map-range_with_len, get_or-map-range_with_len}
@@ -7,7 +8,7 @@ use Rattle.tsp_format.specs.Nodes.{nodes_to}
 use Rattle.tsp_text.specs.declared.fault.LineFault.TheVariants as row
 use Rattle.tsp_read.proofs.ListSteps.{HasNodes, one_begun, place_open, second_same as second_same_of, second_clean, group_goes_on, group_taken}
 use Rattle.tsp_read.proofs.NumbersReadBack.{no_zero}
-use Rattle.tsp_read.specs.declared.long_lists.TourList.{TourList}
+use Rattle.tsp_read.specs.declared.lists.TourList.{TourList}
 use Rattle.tsp_read.specs.states.HeldParts.{HoldsTours, EndsRunOf}
 use Rattle.tsp_read.specs.states.Parts.{IsNodeOf, IsNewNode, NodesHold, AreReadAs, TriplesHold, WeightsHold}
 
@@ -23,7 +24,7 @@ found_step : {X : Type 0} (b : Bool) (x : X) (o : Option X) → is_some (cond b 
 found_step true x o = refl
 found_step false x o = refl
 
--- an earlier group has the node exactly where the node has an entry
+-- an earlier group has the node exactly if the node has an entry
 is_entry : {X : Type 0} (groups : List (ℤ × X)) (z : ℤ)
     → list_any (λ earlier. reads_as earlier (Ok z)) (nodes_of_groups groups) ≡ is_some (entry_of groups z)
 is_entry [] z = refl
@@ -54,7 +55,7 @@ none_of : {X : Type 0} (o : Option X) → is_some o ≡ false → o ≡ None
 none_of None e = refl
 none_of (Some x) e = cc
 
--- a node has a mark exactly where it has an entry
+-- a node has a mark exactly if it has an entry
 mark_is_entry : {X : Type 0} (missing : X) (seen : List Bool) (entries : List X) (left : ℕ) (begun : Option ℕ) (n k : ℕ) (groups : List (ℤ × X))
     → IsNodeOf n k
     → NodesHold missing seen entries left begun n groups → slice_index_or seen (k - 1) false ≡ is_some (entry_of groups (pos k))
@@ -189,7 +190,7 @@ entries_by_node missing seen entries left begun n groups h =
     ext_get_or missing entries (by_node missing n groups) (h.sized ∙ sym (length-map-range_with_len f 1 n))
     (λ i lt. h.filled i (omega (arith, h.sized)) ∙ sym (get_or-map-range_with_len f 1 n i (i + 1) missing (omega (arith, h.sized)) (omega arith)))
 
--- a group is still to come where words are wanted
+-- a group is still to come if words are wanted
 pub wants_in_group : (place : Place) (nodes : List ℤ) (begun : List (List ℕ)) → wants_more place ≡ true
     → wants_more (place_in_group place nodes begun) ≡ true
 wants_in_group place nodes [] e = refl
@@ -204,7 +205,7 @@ more_wanted n count word (other ∷ begun) = refl
 pub triple_places : (n : ℕ) → HasNodes n (place_in_triple n)
 triple_places n = record { first = λ count. refl; second = λ count word. refl; more = more_wanted n }
 
--- where the second node isn't kept, it hasn't come
+-- if the second node isn't kept, it hasn't come
 alone : (n : ℕ) (rest : Words) → AreReadAs (node n ∷ []) (None ∷ []) rest → rest ≡ []
 alone n [] kept = refl
 alone n (word ∷ rest) kept = absurd kept
@@ -345,7 +346,7 @@ node_clean : (n count k : ℕ) (word : List ℕ) → node_or_end most_nodes word
     → word_fault n (TourNode count) word ≡ None
 node_clean n count k word read few = rw (read, few) refl
 
--- where another node may come, not as many came as may
+-- if another node may come, not as many came as may
 pub few_left : (count room : ℕ) → room ≤ most_tour_nodes - count → 1 ≤ room → nat_le most_tour_nodes count ≡ false
 few_left count room within some =
     let less : count < most_tour_nodes = omega (arith, within, some) in
@@ -424,7 +425,7 @@ weight_more weights most n words word z room read h =
 
 -- ---- a list was moved to the end of a list of lists
 
--- from what holds of both lists where it has moved
+-- from what holds of both lists if it has moved
 pub where_moved : {X E A B C : Type 0} (r : Result X E) (P Q : E → Type 0) → MatchResult r (λ done. A) P → MatchResult r (λ done. B) Q
     → (A → B → C) → OnOk r C
 where_moved (Ok done) P Q a b f = f a b

@@ -1,5 +1,5 @@
 -- A section is opened by its line and closed by the next one: its field has its value, and no other field changes
--- (`Reading::open`, `Reading::close`).
+-- (`Reading::open` and `Reading::close` in src/reading.rt).
 use Rattle.tsp_read.proofs.Prelude.{◌≡◌, ℕ, Bool, true, false, List, [], ◌∷◌, ◌≤◌, cond, get_or, arith, refl, sym, ap, subst, ◌∙◌, Option, Some, None, Ok, Err, ℤ, nat_le, nat_lt, is_some, unwrap_or, not, ◌&&◌, option_map_or, find, and_parts, leb-true, Point, Field, DimensionKey, Known, most_nodes, most_line_bytes, most_matrix_nodes, shape_of, is_section_field, Step, fields_in_order, Fields, stands_in, with_numbers, with_points, spatial, fields_of, if_there, is_node, LineFault, Shape, Numbers, Pairs, Triples, Families, Memories, SubsetRows, Steps, SubsetRow, numbers_by_node, place_of_number, coords_by_node, fixed_in, place_of_fixed, fixed_triples_in, place_of_triple, whole_families, place_of_family, whole_memories, place_of_memory, whole_rows, place_of_row, whole_steps, place_of_step, PastEnd, is_not_empty, WordLine, Item, Line, is_open, has_line, open_section, words_of, dimension_of, spatial_after, place_by, place_in, dimension_in, row_of, when, first_row, needs_nodes, is_matrix, opening_rows, wants_more, is_incomplete, sections_in_order, first_incomplete, clean_more, was_opened, no_words_opened}
 use Rattle.tsp_text.specs.declared.fault.LineFault.TheVariants as row
 use Rattle.tsp_read.specs.declared.section_builder.SectionBuilder.{SectionBuilder}

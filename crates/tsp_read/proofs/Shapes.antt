@@ -1,4 +1,5 @@
--- For each shape of section, written and read back: every word is taken at its place, and none is left to come.
+-- For each shape of section, written and read back: every word is taken at its place, and none is left to come. Part of
+-- the proof of the law `canonical_texts_are_read_back`.
 use Rattle.tsp_read.proofs.Prelude.{◌≡◌, ℕ, ◌+◌, ◌*◌, ◌^◌, ◌<◌, ◌≤◌, Bool, true, false, cond, List, [], ◌∷◌, ◌++◌, length, map, refl, ap, arith, Option, ℤ, pos, ◌&&◌, ◌||◌, ◌==◌, nat_le, nat_lt, unsigned_abs, codes, list_all, list_any, flat_map, enumerate_from, sum_by, decimal, signed_decimal, false≢true, and_parts, or_right, leb-true, ltb-true, eqb-true, le-ltb, ints, Point, Field, Shape, Numbers, Points, SpacePoints, Depots, Pairs, Weights, Tours, Triples, Families, Memories, SubsetRows, Steps, most_nodes, most_matrix_nodes, most_weight, most_depots, most_fixed, most_triples, most_tour_nodes, most_families, most_rows, Step, SubsetRow, Fields, numbers_in, points_in, if_there, is_by_node, is_point, is_within, is_from_to, is_node, is_pair_of, is_triple_of, are_depots, are_fixed, are_triples, fit_matrix, is_node_list, are_tours, are_family_lists, are_memory_lists, are_subset_rows, are_tree_steps, with_dimension, section_fits, section_text, lines_by_node, node_list, pair_list, triple_list, family_lines, family_list, row_list, case_tree_lines, coordinate_words, whole_number, line_lens, matrix_lines, optional, text_of_section, is_end, PastEnd, Weight, PastWeights, DepotAfter, weights_in, tours_in, whole_steps, numbers_by_node, points_by_node, space_points_by_node, depots_in, fixed_in, fixed_triples_in, whole_families, whole_memories, whole_rows, place_by, wants_more, needs_nodes, is_matrix}
 use Rattle.tsp_file.specs.Cost.{origin}
 use Rattle.tsp_read.proofs.Text.{WritesWords}
@@ -28,7 +29,7 @@ Entries Memories = List (List ℕ)
 Entries SubsetRows = List SubsetRow
 Entries Steps = List Step
 
--- the entries of a field, where the file has it
+-- the entries of a field, if the file has it
 abbrev pub entries_in : Fields → Field → (shape : Shape) → Option (Entries shape)
 entries_in f field (Numbers low high) = numbers_in f field
 entries_in f field Points = points_in f field

@@ -1,4 +1,5 @@
--- A canonical text, field by field: what the items so far say of each field.
+-- A canonical text, field by field: what the items so far say of each field. Part of the proof of the law
+-- `canonical_texts_are_read_back`.
 use Rattle.tsp_read.proofs.Prelude.{◌≡◌, ℕ, Bool, true, false, cond, List, [], ◌∷◌, ◌++◌, refl, sym, ap, subst, ◌∙◌, Option, Some, None, and_parts, or_parts, or_from, not-true, true≢false, none-some, decimal, signed_decimal, find, list_any, flat_map, option_map, option_map_or, not, ◌&&◌, ◌||◌, shape_of, is_section_field, keyword_of, kind_word, weight_kind_word, weight_format_word, coord_kind_word, display_kind_word, fields_in_order, field_found, field_word, Field, NameKey, TypeKey, CommentKey, OtherKey, DimensionKey, CapacityKey, ScaleKey, LoadUnitKey, EdgeWeightTypeKey, EdgeWeightFormatKey, NodeCoordTypeKey, DisplayDataTypeKey, NodeCoordPart, Known, keyword_line, Fields, spatial, stands_in, clean_more, same_field_is, same_self, same_field, value_at, values_at, others_in, words_of, may_repeat, row_of, Item, has_end_line, is_end_line, WordLine, Line, LineEnd, word_line_of, items_of, IsClean}
 use Rattle.tsp_format.proofs.Basics.{or_right_from}
 use Rattle.tsp_read.proofs.Onto.{onto, onto-append, IsWhole, IsKeyword, written_line, value_written}

@@ -1,4 +1,4 @@
--- The items of a text made of lines are those of its lines, one after the other.
+-- The items of a text made of lines are those of its lines, one after the other. For the files on reading back.
 use Rattle.tsp_read.proofs.Prelude.{◌≡◌, ℕ, Bool, true, false, cond, List, [], ◌∷◌, ◌++◌, map, refl, sym, ap, ◌∙◌, arith, append_assoc, append-nil, not, ◌&&◌, nat_le, list_all, filter, slice_split, onto_first, flat_map, false≢true, and_from, and_parts, not-true, nat_tests, list_all-append, is_blank, is_letter, number_line, ends_line, lines_of, is_not_empty, words_in, without_start, is_word_line, Item, Line, NumberWord, LineEnd, line_item, items_in, items_by, items_of, has_no_line_end}
 
 -- ---- pieces
@@ -22,7 +22,7 @@ split_at p (x ∷ front) y rest none e =
     ap (λ b. cond b ([] ∷ slice_split p (front ++ y ∷ rest)) (onto_first x (slice_split p (front ++ y ∷ rest)))) (not-true (p x) both.0)
     ∙ ap (onto_first x) (split_at p front y rest both.1 e)
 
--- where none passes there is one piece
+-- if none passes there is one piece
 split_none : {A : Type 0} (p : A → Bool) (front : List A) → list_all (λ x. not (p x)) front ≡ true
     → slice_split p front ≡ front ∷ []
 split_none p [] none = refl

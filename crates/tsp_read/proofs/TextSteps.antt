@@ -23,7 +23,7 @@ found_alike p q [] same = refl
 found_alike p q (x ∷ xs) same =
     ap (λ b. cond b (Some x) (find p xs)) (same x) ∙ ap (λ o. cond (q x) (Some x) o) (found_alike p q xs same)
 
--- among the elements that pass p the first is that of all, where others aren't found
+-- among the elements that pass p the first is that of all, if others aren't found
 found_among : {A : Type 0} (p q : A → Bool) (xs : List A) → ((x : A) → q x ≡ true → p x ≡ true) → find q (filter p xs) ≡ find q xs
 found_among p q [] only = refl
 found_among p q (x ∷ xs) only = by_case (p x) (q x) refl refl (found_among p q xs only)
@@ -52,7 +52,7 @@ among_passes p q (x ∷ xs) y e = by_case (p x) (q x) refl refl (among_passes p 
 abbrev pub but : Field → (Field → Bool) → Field → Bool
 but f test = λ x. not (same_field x f) && test x
 
--- where that one doesn't pass, nothing changes
+-- if that one doesn't pass, nothing changes
 pub first_without : (test : Field → Bool) (f : Field) (xs : List Field) → test f ≡ false → find (but f test) xs ≡ find test xs
 first_without test f xs fails = found_alike (but f test) test xs each
   where
@@ -72,7 +72,7 @@ not_it x test (Some y) passes fails = by_case (same_field x y) refl
     by_case true e = sym (passes y refl) ∙ ap test (sym (same_field_is x y e)) ∙ fails
     by_case false e = refl
 
--- where it passes, the first is the one of it and the first of the others that comes first
+-- if it passes, the first is the one of it and the first of the others that comes first
 first_with : (test : Field → Bool) (f : Field) (xs : List Field) → test f ≡ true
     → find test xs ≡ first_of f (find (but f test) xs) xs
 first_with test f [] passes = refl
@@ -120,7 +120,7 @@ end_is reading items h =
     ap (λ (fields : Fields). end_fault (standing_of fields) reading.incomplete) h.spelled
     ∙ ap (λ (o : Option Field). end_fault (standing_of (spelled items)) o) h.incomplete
 
--- a draft that was read has no fault where the end table has none
+-- a draft that was read has no fault if the end table has none
 is_valid : (reading : Reading) (items : List Item) → Closed reading items → AreCut items
     → end_fault (standing_of (fields_of reading.draft)) reading.incomplete ≡ None
     → is_some (fault_of (fields_of reading.draft)) ≡ false
@@ -259,7 +259,7 @@ word_answer old new section after word (Err (steps.Fault fault)) earlier there s
     ∙ ap (λ p. word_fault (dimension_in earlier) p word) (place_is (spatial_after earlier) section.field (shape_by section.part) (dimension_in earlier) (words_of section.field earlier) held.1.0)
     ∙ step (dimension_in earlier) (words_of section.field earlier) held.1.1
 
--- nothing changes where a word isn't taken
+-- nothing changes if a word isn't taken
 pub kept_answer : (old new : Reading) (section after : OpenSection) (earlier : List Item)
     → old.opened ≡ Some section → after.field ≡ section.field → new.draft ≡ old.draft → new.incomplete ≡ old.incomplete
     → new.opened ≡ Some after

@@ -1,4 +1,5 @@
--- The words of tours and matrices as they are written are the items of their lines.
+-- The words of tours and matrices as they are written are the items of their lines. Part of the proof of the law
+-- `canonical_texts_are_read_back`.
 use Rattle.tsp_read.proofs.Prelude.{◌≡◌, ℕ, ◌+◌, ◌≤◌, true, false, cond, List, [], ◌∷◌, ◌++◌, length, map, refl, sym, ap, ◌∙◌, arith, append_assoc, Result, ◌^◌, ◌<◌, Bool, subst, take, drop, Some, None, and_from, and_parts, not_from_true, not_from_false, and_left, and_right, false≢true, leb-true, length-append, take-append-drop, map-append, list_all-append, sum_by-cons, decimal, signed_decimal, list_all, filter, flat_map, slice_split, sum_by, enumerate_from, ℤ, not, ◌&&◌, nat_le, nat_abs, codes, result_err, NumberFault, most_nodes, most_tour_nodes, most_weight, most_multiplier, field_word, kind_word, weight_kind_word, weight_format_word, coord_kind_word, display_kind_word, NodeCoordPart, TypeKey, EdgeWeightTypeKey, EdgeWeightFormatKey, NodeCoordTypeKey, DisplayDataTypeKey, Known, within_abs, number_line, ended_by_mark, node_list, pair_list, triple_list, weight_line, matrix_lines, is_node, is_node_list, is_within, is_pair_of, is_triple_of, Words, has_line, kind_named, weight_kind_named, weight_format_named, coord_kind_named, display_kind_named, row_of, is_not_empty, first_word, Item, Line, number, node_or_end, is_end, ends_tour, tour_node, tours_in, place_of_tour, Place}
 use Rattle.std.proofs.lemmas.List.Elements.{filter-append}
 use Rattle.tsp_format.specs.declared.kinds.CoordKind.{CoordKind}

@@ -1,4 +1,5 @@
--- What may come of reading the canonical text of a file: that file, or that memory was refused.
+-- What may come of reading the canonical text of a file: that file, or that memory was refused. For the laws in
+-- src/round_trip.rt alone.
 use Rattle.tsp_read.specs.Prelude.{Result, Ok, Err, Fields, ReadFault}
 use Rattle.std.specs.Prelude.{◌≡◌}
 use Rattle.tsp_text.specs.declared.fault.ReadFault.TheVariants as faults

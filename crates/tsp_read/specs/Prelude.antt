@@ -1,4 +1,5 @@
--- Names from other crates that definitions and contracts here use often, re-exported so that a file needs one import.
+-- Names of other crates, passed on to the files of this crate alone. It defines nothing: add or remove names freely;
+-- `tests/repository/names` sees that each is imported from here.
 pub use Rattle.std.specs.List.{filter, find, list_all, list_any, position, position_or_len, prefix_len, slice_split}
 pub use Rattle.std.specs.Option.{ForSome, option_map, option_map_or}
 pub use Rattle.std.specs.Prelude.{Bool, Err, IfErr, IfOk, IfSome, IsTrue, List, MatchOption, MatchResult, None, Ok, OnOk, Option, Result, Some, cond, drop, false, is_err, is_none, is_some, length, map, nat_le, nat_lt, negsuc, not, pos, replicate, reverse, slice_index_or, suc, take, true, unsigned_abs, unwrap_or, vec_capacity, vec_len, zero, ℕ, ℤ, []}

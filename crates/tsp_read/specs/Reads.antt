@@ -17,14 +17,14 @@ use Rattle.tsp_read.specs.declared.reading.Reading.{Reading}
 use Rattle.tsp_read.specs.states.Holds.{Finishes, Holds}
 use Rattle.tsp_read.specs.states.Onward.{is_bare, IsPaused}
 
--- `new` is the reader after `count` reads, each of which gave what the reader may give. It has failed where the last of
+-- `new` is the reader after `count` reads, each of which gave what the reader may give. It has failed if the last of
 -- them returned an error, and no read follows an error.
 abbrev pub HasReads : {R : Type 0} → (R → List ℕ → Result ℕ Error → List ℕ → R → Type 0) → ℕ → R → R → Bool → Type 0
 HasReads gives zero old new failed = (new ≡ old) × (failed ≡ false)
 HasReads {R = R} gives (suc count) old new failed = (between : R) × HasReads gives count old between false
     × ((room filled : List ℕ) × (answer : Result ℕ Error) × gives between room answer filled new × (failed ≡ is_err answer))
 
--- A call asked some reads of a watched reader. It has failed where it had before, or where the last of these reads
+-- A call asked some reads of a watched reader. It has failed if it had before, or if the last of these reads
 -- returned an error.
 abbrev pub IsReadOn : {R : Type 0} → (R → List ℕ → Result ℕ Error → List ℕ → R → Type 0) → Watched R → Watched R → Type 0
 IsReadOn gives old new = (count : ℕ) × (failed : Bool) × HasReads gives count (watched old) (watched new) failed
@@ -56,11 +56,11 @@ Completes items (Err faults.TooLong) = ⊥
 abbrev pub most_taken : ℕ
 most_taken = most_file_bytes + 4096
 
--- the bytes that the reader delivered parse to the file, and so do all its bytes, where these are known
+-- the bytes that the reader delivered parse to the file, and so do all its bytes, if these are known
 abbrev pub IsFile : ReadTrace → Fields → Type 0
 IsFile read_trace file = GaveAll read_trace (λ bytes. ParsesTo bytes file)
 
--- the bytes that the reader delivered have this first fault, and so do all its bytes, where these are known
+-- the bytes that the reader delivered have this first fault, and so do all its bytes, if these are known
 abbrev pub HasFault : ReadFault → ReadTrace → Type 0
 HasFault found read_trace = GaveAll read_trace (λ bytes. fault bytes ≡ Some found)
 
@@ -144,7 +144,7 @@ pub record SpellsWhole (reading : Reading) (bytes : List ℕ) : Type 0 where
   pub holds : Holds reading (part bytes)
   pub short : (is_too_long bytes && not (has_end_line (part bytes))) ≡ false
 
--- where the end line was settled, no section is open, so that the end of the text takes no memory
+-- if the end line was settled, no section is open, so that the end of the text takes no memory
 abbrev pub EndsClosed : Result Reading ReadFault → Type 0
 EndsClosed (Ok reading) = is_some reading.opened ≡ false
 EndsClosed (Err found) = ⊥

@@ -1,4 +1,6 @@
--- The files of definitions that look into structs of the code.
+-- Definitions of the reader's state: the words of an open section (Parts, HeldParts), the draft and the section between
+-- two items (Holds), what is left of a text (Left), pieces of it (Onward), and runs of numbers (ReadingRun). No circle
+-- rests on them.
 pub mod Parts
 pub mod HeldParts
 pub mod Holds

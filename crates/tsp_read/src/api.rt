@@ -1,6 +1,6 @@
-//! The public calls of this crate: a file from bytes in memory, from a reader, or from pieces.
-//! `Reads`, `ReadsFrom` and `Feeds` in `specs/Reads.antt` say what each returns and how many bytes
-//! it takes, which users rely on when they read from a pipe.
+//! The calls of this crate: read a file from bytes in memory, from a reader, or from pieces.
+//! tsp_judge and tsp_c call them. `Reads`, `ReadsFrom` and `Feeds` in `specs/Reads.antt` pin what
+//! each returns and how many bytes it takes.
 
 ghost use Rattle.std.specs.Prelude.{◌≡◌, Err, false, []};
 ghost use Rattle.tsp_io.specs.states.Watched.{read_trace_of, has_failed};
@@ -22,11 +22,11 @@ use tsp_text::ReadFault;
 /// # Errors
 ///
 /// - `Line`: the first line with a fault, and in a number line the first word with one.
-/// - `TooLong`: there are more bytes than a file may have, and so far neither a fault nor a line
-///   EOF.
-/// - `End`: no line has a fault, but the lines together are no file.
-/// - `OutOfMemory`: out of memory. This can replace any other answer, except for a text that
-///   consists of blanks and bytes 10.
+/// - `TooLong`: there are more bytes than a file may have, and so far neither a fault nor an EOF
+///   line.
+/// - `End`: no line has a fault, but the lines together aren't a valid file.
+/// - `OutOfMemory`: memory ran out. This can replace any other answer, except for a text of only
+///   blanks and bytes 10.
 pub fn read_bytes(alloc: Global, bytes: &[u8]) -> Result<File, ReadFault>
     ensures answer { Reads bytes.now result }
     ensures memory { result ≡ Err OutOfMemory → is_bare bytes.now ≡ false }
@@ -34,19 +34,19 @@ pub fn read_bytes(alloc: Global, bytes: &[u8]) -> Result<File, ReadFault>
     Ok(file_of_bytes(alloc, bytes)?)
 }
 
-/// Reads a file from a reader, in pieces of at most 4,096 bytes, until the reader ends, a line EOF
+/// Reads a file from a reader, in pieces of at most 4,096 bytes, until the reader ends, an EOF line
 /// or a fault is found, or the limit on the bytes of a file is exceeded.
 ///
 /// The answer is that of `read_bytes` for the bytes that the reader delivered, and also for all
-/// bytes that it has. At most 4,096 bytes are taken past 1,073,741,824, past a line EOF, or past a
-/// fault that is settled. A reader that had failed before isn't read. The reader fails only if a
-/// read returns an error, and that read is the last one.
+/// bytes that it has. At most 4,096 bytes are taken past 1,073,741,824, past an EOF line, or past a
+/// settled fault. A reader that had failed before isn't read. The reader fails only if a read
+/// returns an error, and that read is the last one.
 ///
 /// # Errors
 ///
 /// - `Line`, `End` and `TooLong`: as `read_bytes` says.
 /// - `Device`: a read failed, or had failed before.
-/// - `OutOfMemory`: out of memory. This can replace any answer except `Device`, if the reader
+/// - `OutOfMemory`: memory ran out. This can replace any answer except `Device`, if the reader
 ///   delivered more than blanks and bytes 10.
 pub fn read_from<R: Gives>(alloc: Global, reader: &mut Watched<R>) -> Result<File, ReadFault>
     ensures answer { ReadsFrom (read_trace_of R.remaining reader.old reader.new) result }
@@ -64,16 +64,16 @@ impl Feed {
     ghost use Rattle.tsp_read.specs.Reads.{Reads};
     ghost use Rattle.tsp_read.specs.Reads.{HasTaken, refusal, Feeds};
 
-    /// Takes the next piece. After a line EOF every piece is taken, and nothing in it is looked at.
+    /// Takes the next piece. After an EOF line, every piece is taken without looking at it.
     ///
     /// # Errors
     ///
     /// After a refusal every later call returns the same fault, and takes no bytes.
     ///
     /// - `Line`: a line or a word that is complete, or already too long, has the first fault.
-    /// - `TooLong`: there are more bytes than a file may have, and so far neither a fault nor a
-    ///   line EOF.
-    /// - `OutOfMemory`: out of memory.
+    /// - `TooLong`: there are more bytes than a file may have, and so far neither a fault nor an
+    ///   EOF line.
+    /// - `OutOfMemory`: memory ran out.
     pub fn feed(&mut self, piece: &[u8]) -> Result<(), ReadFault>
         ensures taken { (bytes : List ℕ) → HasTaken self.old bytes
             → Feeds (bytes ++ piece.now) self.new result }
@@ -93,8 +93,8 @@ impl Feed {
     /// A refusal by `feed` is returned again. Otherwise:
     ///
     /// - `Line`: the last line, or its last word, has the first fault.
-    /// - `End`: no line has a fault, but the lines together are no file.
-    /// - `OutOfMemory`: out of memory. After a settled line EOF no memory is needed.
+    /// - `End`: no line has a fault, but the lines together aren't a valid file.
+    /// - `OutOfMemory`: memory ran out. After a settled line EOF no memory is needed.
     pub fn finish(self) -> Result<File, ReadFault>
         ensures read { (bytes : List ℕ) → HasTaken self bytes → Reads bytes result }
         ensures memory { (bytes : List ℕ) → HasTaken self bytes → result ≡ Err OutOfMemory
@@ -107,9 +107,9 @@ impl Feed {
     }
 }
 
-// ---- reads a whole text, or a reader to its end
+// ---- read a whole text, or a reader to its end
 
-/// What `read_bytes` does, with a `ReadError` as its error.
+/// Like [`read_bytes`], but returns a `ReadError`.
 ///
 /// # Errors
 ///
@@ -128,7 +128,7 @@ pub fn file_of_bytes(alloc: Global, bytes: &[u8]) -> Result<File, ReadError>
     }
 }
 
-/// What [`read_from`] does, with a `ReadError` as its error.
+/// Like [`read_from`], but returns a `ReadError`.
 ///
 /// # Errors
 ///
@@ -151,12 +151,12 @@ pub fn file_of_reader<R: Gives>(alloc: Global, reader: &mut Watched<R>) -> Resul
     }
 }
 
-// ---- reads a reader in pieces of 4,096 bytes and feeds them to a `Feed`
+// ---- read a reader in pieces of 4,096 bytes, and feed them to a `Feed`
 
 /// The size of a piece: the most bytes that a reader is asked for at once.
 const MOST_AT_ONCE: usize = 4_096;
 
-/// Feeds the bytes of a reader until it ends, a line EOF or a fault is found, or the limit on the
+/// Feeds the bytes of a reader until it ends, an EOF line or a fault is found, or the limit on the
 /// bytes of a file is exceeded.
 fn feed_all<R: Gives>(feed: &mut Feed, reader: &mut Watched<R>) -> Result<(), ReadError>
     requires start { HasTaken feed.old [] }

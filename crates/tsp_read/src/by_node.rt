@@ -1,7 +1,7 @@
 //! Reads the sections with a line for each node: NODE_COORD_SECTION and DISPLAY_DATA_SECTION as
-//! points, DEMAND_SECTION and the sections of potentials as whole numbers. Nodes may come in any
-//! order, so each value is stored at the place of its node (`HoldsPoints` and `HoldsNumbers` in
-//! `specs/states/HeldParts.antt`).
+//! points, DEMAND_SECTION and the sections of potentials as integers. `section_builder.rt` passes
+//! the words in. Nodes may come in any order, so each value is stored at the place of its node;
+//! `HoldsPoints` and `HoldsNumbers` in `specs/states/HeldParts.antt` pin the lists.
 
 ghost use Rattle.tsp_read.specs.Prelude.{ForSome, None, Some, Ok, [], ℕ, List, length, vec_len, IfOk, IfErr, Err, is_some, true, false, pos, slice_index_or, replicate, Bool, ℤ, points_of};
 ghost use Rattle.std.specs.Prelude.{◌≡◌, ◌<◌, ◌≤◌, ◌^◌, ◌∷◌, ◌++◌, ◌≢◌, ◌-◌, ◌≤ℤ◌};

@@ -1,5 +1,7 @@
-//! Values of the definitions in `specs/Reads.antt`, worked out by hand: which texts are blank, how
-//! many bytes a read takes at most, and when the reader is read on.
+//! Laws that state values of the definitions in `specs/Reads.antt`, worked out by hand: which texts
+//! are blank, how many bytes a read takes at most, and when reading goes on. No code calls them. If
+//! someone makes the same mistake in a definition and in the code, every contract still holds, but
+//! one of these laws fails.
 
 ghost use Rattle.std.specs.Prelude.{◌≡◌, ◌+◌, ◌^◌, true, false, [], ◌∷◌, replicate};
 ghost use Rattle.tsp_read.specs.states.Onward.{is_bare};
@@ -9,7 +11,7 @@ ghost use Rattle.tsp_text.specs.declared.fault.ReadFault.{ReadFault};
 
 /// Which texts consist of blanks and line ends, how many bytes are taken at most, and which bytes
 /// come before the last piece: none up to 4,096 bytes, and the first one if there is one more. A
-/// reader is read on while the text goes on, and not after its line EOF or a refusal.
+/// reader is read on while the text goes on, and not after its EOF line or a refusal.
 pub fn examples_of_reading()
     ensures nothing { is_bare [] ≡ true }
     ensures blanks { is_bare (9 ∷ 10 ∷ 11 ∷ 12 ∷ 13 ∷ 32 ∷ []) ≡ true }

@@ -1,6 +1,6 @@
-//! `Feed` takes a file in pieces of any size and reports a fault as soon as no later byte can
-//! change it. It decides only whether reading goes on (`Stage`): lines and words are cut in
-//! `items.rt`. `HasTaken` in `specs/Reads.antt` is what it knows after each piece.
+//! `Feed` takes a file in pieces of any size, and reports a fault as soon as no later byte can
+//! change it. `api.rt` offers it. It only decides whether reading goes on (`Stage`); `items.rt`
+//! cuts lines and words. `HasTaken` in `specs/Reads.antt` pins its state after each piece.
 
 ghost use Rattle.tsp_read.specs.Prelude.{[], List, ℕ, length, Ok, true, false, most_file_bytes, is_not_empty};
 ghost use Rattle.std.specs.Prelude.{◌≡◌, ◌+◌, ◌≤◌, ◌++◌};
@@ -12,8 +12,8 @@ use std::alloc::Global;
 use tsp_file::File;
 use tsp_format::MOST_FILE_BYTES;
 
-/// Reads a piece that is within the limit on the bytes of a file. An item that it cuts is kept for
-/// the next piece. Returns whether the line EOF was found.
+/// Reads a piece that is within the limit on the bytes of a file. An item that the piece's end cuts
+/// is kept for the next piece. Returns whether the EOF line was found.
 fn read_on(
     intake: &mut Intake,
     begun: &mut Begun,
@@ -78,7 +78,7 @@ fn outcome(stage: Stage) -> Result<(), ReadError>
     }
 }
 
-/// A file that is read in pieces, however these are cut.
+/// A file that is read in pieces, wherever they are cut.
 ///
 /// It keeps only the bytes of a line or word whose end hasn't come yet, at most 4,096.
 ///
@@ -101,8 +101,8 @@ pub struct Feed {
     ghost read: { ∥ HasBytes stage intake begun count ∥₁ },
 }
 
-/// Drops each field, as a derive would. Functions that drop a feed call this one function, so that
-/// they are proved faster.
+/// Drops each field, as a derive would. Functions that drop a feed call this function, because that
+/// makes their proofs faster.
 impl Drop for Feed {
     fn drop(self) {
         let Feed {
@@ -158,7 +158,7 @@ impl Feed {
         matches!(self.stage, Stage::Going)
     }
 
-    /// Takes the next piece of a text, with the error of [`feed`](Feed::feed) as a `ReadError`.
+    /// Like [`feed`](Feed::feed), but returns a `ReadError`.
     ///
     /// # Errors
     ///
@@ -183,7 +183,7 @@ impl Feed {
         }
     }
 
-    /// All that was read, after the line or word that has begun is taken as the last.
+    /// All that was read, with the line or word that has begun taken as the last one.
     fn end(self) -> Result<Reading, ReadError>
         ensures ends { (bytes : List ℕ) → HasTaken self bytes → EndsReading bytes result }
         ensures again { (found : ReadFault) → refusal self ≡ Some found → result ≡ Err found }
@@ -214,7 +214,7 @@ impl Feed {
         }
     }
 
-    /// The file that the bytes so far parse to, as `finish` gives it.
+    /// Like `finish`, but returns a `ReadError`.
     ///
     /// # Errors
     ///
@@ -233,9 +233,9 @@ impl Feed {
     }
 }
 
-// ---- how far a text is that comes in pieces
+// ---- how far a text has come
 
-/// How far a text has come: it goes on, its line EOF was found, or it was refused.
+/// How far a text has come: it goes on, its EOF line was found, or it was refused.
 #[derive(Clone, Copy)]
 pub(crate) enum Stage {
     Going,

@@ -1,6 +1,6 @@
 //! Cuts the bytes of a piece into lines and words, and keeps the one that the piece's end has cut
-//! in two (`Begun`). `Intake` hands each to `reading.rt` and counts lines and words, so the places
-//! in printed faults come from here.
+//! in two (`Begun`). `feed.rt` passes the pieces in. `Intake` hands each line or word to
+//! `reading.rt` and counts them, so the places in printed faults come from here.
 
 ghost use Rattle.tsp_read.specs.Prelude.{position, [], List, ℕ, length, IfOk, IfSome, Err, true, IsTrue, Ok, false, MatchOption, most_file_bytes, Item, NumberWord, line_item, WordLine, Line, is_end_line, line_number, words_before, word_number, without_start};
 ghost use Rattle.std.specs.Prelude.{◌≡◌, ◌+◌, ◌≤◌, ◌<◌, ◌∷◌};
@@ -51,7 +51,7 @@ impl Intake {
         }
     }
 
-    /// The fields that were read, and the section that is open.
+    /// The fields so far, and the open section.
     pub(crate) fn into_reading(self) -> Reading
         ensures { result ≡ self.reading }
     {
@@ -64,7 +64,7 @@ impl Intake {
         reading
     }
 
-    /// Takes the next item. Returns whether it is the line EOF.
+    /// Takes the next item. Returns whether it is the EOF line.
     pub(crate) fn take_next(&mut self, alloc: Global, next: &Next<'_>) -> Result<bool, ReadError>
         requires line { self.old.line ≤ most_file_bytes }
         requires words { self.old.words < most_file_bytes }
@@ -129,7 +129,7 @@ impl Intake {
 
     /// Takes the complete items of a piece, and returns the rest of the piece.
     ///
-    /// An item is complete if no further byte can change it. Returns `None` after the line EOF.
+    /// An item is complete if no further byte can change it. Returns `None` after the EOF line.
     ///
     /// # Errors
     ///
@@ -160,9 +160,9 @@ impl Intake {
     }
 }
 
-// ---- takes one item: a word line, a word or a line end
+// ---- take one item: a word line, a word or a line end
 
-/// Takes an item into the state. Returns whether it is the line EOF.
+/// Takes an item into the state. Returns whether it is the EOF line.
 fn take(reading: &mut Reading, alloc: Global, next: &Next<'_>) -> Result<bool, StepFault>
     ensures item { (earlier : List Item) → Holds reading.old earlier
         → TakesItem earlier (item_next next.now) reading.new result }
@@ -191,8 +191,8 @@ fn is_end(key: Keyword) -> bool
     }
 }
 
-/// Takes a word line, given from its first byte that isn't blank. Returns whether it is the line
-/// EOF.
+/// Takes a word line, given from its first byte that isn't blank. Returns whether it is the EOF
+/// line.
 fn take_line(reading: &mut Reading, alloc: Global, text: &[u8]) -> Result<bool, StepFault>
     ensures { (earlier : List Item) → Holds reading.old earlier
         → TakesItem earlier (line_item text.now) reading.new result }
@@ -228,7 +228,7 @@ fn line_after(line: u32, next: &Next<'_>) -> u32
     }
 }
 
-// ---- cuts a text into word lines, the words of number lines
+// ---- cut a text into word lines, the words of number lines, and line ends
 
 /// The next part of a text.
 #[derive(Clone, Copy)]
@@ -269,7 +269,7 @@ impl<'a> Next<'a> {
 /// The next part of a text, and what is left after it; `None` at its end.
 ///
 /// `inside` says that an item of the first line was already taken. `goes_on` says that more bytes
-/// follow. Then an item counts only if no further byte can change it, or if it is already too long.
+/// follow: then an item counts only if no further byte can change it, or if it is already too long.
 #[inline(always)]
 fn next_item(text: &[u8], inside: bool, goes_on: bool) -> Option<(Next<'_>, &[u8])>
     ensures items { MatchOption result (items_left goes_on inside text.now ≡ [])
@@ -327,8 +327,8 @@ impl Token {
         }
     }
 
-    /// Where it ends in a text that it begins, or in which it goes on: at a byte 10, and a word
-    /// also at a blank.
+    /// Where it ends in a text that it begins, or in which it continues: at a byte 10, and for a
+    /// word also at a blank.
     #[inline(always)]
     fn end(self, text: &[u8]) -> Option<usize>
         ensures { result ≡ position (ends_token self) text.now }
@@ -370,7 +370,7 @@ impl Token {
     }
 }
 
-// ---- a line or a word that the end of a piece has cut, until the next piece brings its end
+// ---- a line or a word that the end of a piece has cut
 
 /// The bytes so far of a word line or word whose end hasn't come, from its first byte that isn't
 /// blank; empty if nothing has begun.
@@ -414,7 +414,7 @@ impl Begun {
     /// Completes the item that was cut, if any, from the front of the next piece.
     ///
     /// It is taken if its end is in the piece. Returns the rest of the piece, or `None` after the
-    /// line EOF.
+    /// EOF line.
     ///
     /// # Errors
     ///
@@ -454,7 +454,7 @@ impl Begun {
 
     /// Takes the item that was cut, if there is one, as the last item of the text.
     ///
-    /// Returns whether it is the line EOF.
+    /// Returns whether it is the EOF line.
     ///
     /// # Errors
     ///

@@ -1,10 +1,9 @@
 //! Reads TSPLIB 95 files: the file that bytes parse to, or the first fault and its place.
 //!
-//! It reads a text, a reader, or pieces ([`Feed`]), and each gives the same answer. `items` cuts
-//! lines and words from the bytes, `runs` takes runs of numbers at once, `reading` puts them into
-//! the draft of a file, and `section_builder` holds the list of the open section. The law
-//! [`canonical_texts_are_read_back`] says that the canonical text of a valid file parses to that
-//! file. This crate judges nothing and opens no files.
+//! It reads a text, a reader, or pieces ([`Feed`]), all with the same answer. `items` cuts lines
+//! and words from the bytes, `runs` takes runs of numbers at once, `reading` puts them into the
+//! draft of a file, and `section_builder` holds the list of the open section. tsp_text defines
+//! which file a text parses to, and its first fault. This crate judges nothing and opens no files.
 //!
 //! As example_check does it, with a text in memory:
 //!
@@ -20,7 +19,6 @@ mod feed;
 mod items;
 mod line;
 mod lists;
-mod long_lists;
 mod memory_lists;
 mod reading;
 mod round_trip;
@@ -37,8 +35,7 @@ pub use line::{
     CutLine, add_comment, add_other, may_open, number_of, says_space, set_name, set_named,
     without_start,
 };
-pub use lists::{DepotList, FixedList};
-pub use long_lists::{Gathered, GatheredNodes, TourList, WeightList};
+pub use lists::{DepotList, FixedList, Gathered, GatheredNodes, TourList, WeightList};
 pub use memory_lists::{MemoryList, RowList};
 pub use reading::ReadError;
 pub use round_trip::{canonical_texts_are_read_back, written_numbers_are_read_back};

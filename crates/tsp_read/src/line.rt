@@ -1,6 +1,6 @@
 //! A line that begins with a keyword: `CutLine` divides it into keyword, colon and value, reads the
-//! value, and sets a field of the draft. `cut_item`, `SetsNamed` and the definitions next to them
-//! in `specs/states/Holds.antt` say what each step does.
+//! value, and sets a field of the draft. `items.rt` and `reading.rt` call it. `cut_item`,
+//! `SetsNamed` and the definitions next to them in `specs/states/Holds.antt` pin each step.
 
 ghost use Rattle.tsp_read.specs.Prelude.{position, prefix_len, option_map, cond, drop, not, map, IfOk, is_blank, is_keyword_byte, is_too_long_to_keep, line_item, first_word, keyword_in, is_colon, begins, without_start, without_end, is_left_out, says_space};
 ghost use Rattle.std.specs.Prelude.{◌≡◌};
@@ -244,7 +244,7 @@ fn without_end(text: &[u8]) -> &[u8]
     front
 }
 
-// ---- sets a field of the draft by a keyword line
+// ---- set a field of the draft by a keyword line
 
 /// Sets the value that a line names, if none is set yet. `late` says that the value would come too
 /// late.

@@ -1,6 +1,6 @@
 //! Reads MEMORY_SECTION, lists of nodes, and SUBSET_ROW_SECTION, two lists of nodes for each row.
-//! Both are this project's own sections, for certificates of routes; `specs/MemoryWords.antt` in
-//! tsp_text says which words they may have.
+//! Both are this project's own sections, for certificates for routes. `section_builder.rt` passes
+//! the words in, and `specs/MemoryWords.antt` in tsp_text pins which words may come.
 
 ghost use Rattle.std.specs.Prelude.{◌≡◌, [], ℕ, List, ◌∷◌, ◌++◌, ◌<◌, length, OnOk, IfErr, false};
 

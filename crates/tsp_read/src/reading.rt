@@ -1,7 +1,7 @@
 //! `Reading`, the state between two lines: the draft so far, and the open section. It decides what
-//! a line or a word means where it stands, and at the end whether the fields make a file (`Holds`
-//! and `Finishes` in `specs/states/Holds.antt`). `ReadError` is here too: an error that can say
-//! `out of memory` only after a refusal.
+//! a line or a word from `items.rt` means at its place, and at the end whether the fields make a
+//! valid file. `Holds` and `Finishes` in `specs/states/Holds.antt` pin both. Also `ReadError`,
+//! which can say that memory ran out only after a refusal.
 
 ghost use Rattle.tsp_read.specs.Prelude.{[], List, Some, IfErr, OnOk, is_some, true, ℕ, Bool, IfOk, None, Err, shape_of, fields_in_order, spatial, fields_of, AreCut, Item, NumberWord, same_field, place_in, wants_more};
 ghost use Rattle.std.specs.Prelude.{◌≡◌};
@@ -22,23 +22,23 @@ use tsp_format::{Field, Keyword, MOST_LINE_BYTES, Shape, ValueShape};
 use tsp_io::Refused;
 use tsp_text::{LineFault, ReadFault};
 
-/// The section that is open, and the list that takes its words.
+/// The open section, and the list that takes its words.
 #[derive(Drop)]
 pub(crate) struct OpenSection {
     pub(crate) field: Field,
     pub(crate) part: SectionBuilder,
 }
 
-/// What was read so far: the fields from lines and closed sections, the first of those sections in
-/// canonical order that is incomplete, and the section that is open.
+/// What was read so far: the fields from lines and closed sections, the first of these sections in
+/// canonical order that is incomplete, and the open section.
 pub(crate) struct Reading {
     pub(crate) draft: Draft,
     pub(crate) incomplete: Option<Field>,
     pub(crate) opened: Option<OpenSection>,
 }
 
-/// Drops each field, as a derive would. Functions that drop a reading call this one function, so
-/// that they are proved faster.
+/// Drops each field, as a derive would. Functions that drop a reading call this function, because
+/// that makes their proofs faster.
 impl Drop for Reading {
     fn drop(self) {
         let Reading {
@@ -263,7 +263,7 @@ impl Reading {
     }
 }
 
-// ---- puts the words of a section into its field of the draft
+// ---- put the words of a section into its field of the draft
 
 /// Puts the list of a section into its field. Returns whether the section is incomplete.
 fn store(draft: &mut Draft, alloc: Global, section: OpenSection) -> Result<bool, Refused>
@@ -331,7 +331,7 @@ fn store(draft: &mut Draft, alloc: Global, section: OpenSection) -> Result<bool,
 
 // ---- the end of a text
 
-/// Why the fields that were read are no file.
+/// Why the fields that were read make no valid file.
 #[derive(Clone, Copy)]
 pub(crate) enum FinishFault {
     /// Out of memory.
@@ -363,7 +363,8 @@ impl Reading {
     ///
     /// # Requires
     ///
-    /// Fields that were read from lines and words. These are valid, so they aren't judged again.
+    /// Fields that were read from lines and words. Their values are valid, so they aren't judged
+    /// again.
     pub(crate) fn finish(mut self, alloc: Global) -> Result<File, FinishFault>
         requires { IsReadFrom self }
         ensures file { (earlier : List Item) → Holds self earlier → AreCut earlier
@@ -408,8 +409,8 @@ pub(crate) fn completed(reading: Reading, alloc: Global) -> Result<File, ReadErr
 
 /// Why a file wasn't read. Contracts see the fault.
 ///
-/// Only reading makes one, and one that says out of memory only from the token of a refusal. So a
-/// function with this error can't claim on its own to be out of memory.
+/// Only this file makes one, and one that says that memory ran out only from the token of a
+/// refusal. So no function can return it unless memory was really refused.
 #[derive(Clone, Copy, Debug, Drop)]
 pub struct ReadError {
     found: ReadFault,

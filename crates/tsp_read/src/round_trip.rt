@@ -1,5 +1,5 @@
-//! The promise to users of `tsp convert`: the canonical text of a valid file parses to that file,
-//! and each number in it is read back as it was. No code calls these laws.
+//! Laws that promise to users of `tsp convert` that the canonical text of a valid file parses to
+//! that file, and that each number in it is read back unchanged. No code calls them.
 
 ghost use Rattle.tsp_read.specs.Prelude.{ℕ, ℤ, List, true, None, Result, Ok, unsigned_abs, decimal_of, whole_of, spelling, Fields, ReadFault, ParsesTo};
 ghost use Rattle.std.specs.Prelude.{◌≡◌, ◌≤◌, ◌<◌, ◌^◌};

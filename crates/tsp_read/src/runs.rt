@@ -1,6 +1,6 @@
-//! The fast path for long sections (`Intake::take_items`): takes a run of plain numbers in a
-//! matrix, in tours, in points or in numbers by node. It may leave any word to `Intake::take_next`,
-//! which reads everything, so it affects only speed.
+//! The fast path for long sections (`Intake::take_items`, which `feed.rt` calls): takes a run of
+//! plain numbers in a matrix, in tours, in points or in numbers by node. It may leave any word to
+//! `Intake::take_next` in `items.rt`, which reads everything, so it affects only speed.
 //!
 //! Most words of these sections are plain numbers, in a matrix mostly of a few digits. They are
 //! read in a single pass, which finds the end of a word while it reads the digits. A run looks up
@@ -18,7 +18,7 @@ ghost use Rattle.tsp_read.specs.states.ReadingRun.{RunsTo, StepsTo, front_word, 
 
 use crate::by_node::{NumberList, PointList};
 use crate::items::{Intake, without_start};
-use crate::long_lists::{Gathered, GatheredNodes, TourList, WeightList};
+use crate::lists::{Gathered, GatheredNodes, TourList, WeightList};
 use crate::reading::Reading;
 use crate::section_builder::SectionBuilder;
 use std::alloc::Global;

@@ -1,5 +1,5 @@
-//! Why a line or a word isn't taken: the text has a fault, or memory was refused. The lists return
-//! it by `?` from either, and the caller adds the place.
+//! Why a line or a word isn't taken: the text has a fault, or memory was refused. The lists of this
+//! crate return it, and `items.rt` adds the place.
 
 ghost use Rattle.std.specs.Prelude.{◌≡◌};
 ghost use Rattle.tsp_text.specs.declared.fault.LineFault.TheVariants.{Number};

@@ -1,7 +1,7 @@
-//! Reads the two sections of a branches file: COMB_SECTION, families of sets of nodes
-//! (`FamilyList`), and BRANCH_SECTION, the steps of a tree of cases (`TreeList`). Whether the tree
-//! and the families are any good is for the judges to say; here only words, limits and the end of
-//! each list count.
+//! Reads COMB_SECTION, families of sets of nodes (`FamilyList`), and BRANCH_SECTION, the steps of a
+//! tree of cases (`TreeList`). `section_builder.rt` passes the words in. Only words, limits and the
+//! end of each list are tested here, which tsp_text defines; tsp_verdict judges the tree and the
+//! families.
 
 ghost use Rattle.std.specs.Prelude.{◌≡◌, [], ℕ, List, ◌∷◌, ◌++◌, ◌<◌, length, OnOk, IfErr, false, ◌≢◌, ◌+◌, ◌≤◌, None, Some, true};
 

@@ -1,4 +1,4 @@
--- The lines of reports, put together.
+-- For src/report.rt, src/compared.rt and src/shown.rt: the lines of reports, put together.
 use Rattle.tsp_report.proofs.Prelude.{◌≡◌, ℕ, ◌+◌, ◌<◌, List, [], ◌∷◌, ◌++◌, length, take, map, get_or, false, Some, refl, sym, ap, subst, ◌∙◌, append-nil, append_assoc, arith, Option, None, length-map, get_or-map, flat_map, enumerate_from, codes, ◌==◌, IsTrue, carried_then, carried_node, Way, Carried}
 use Rattle.std.proofs.lemmas.Bool.{false≢true}
 use Rattle.tsp_format.specs.declared.kinds.Kind.{Kind}
@@ -21,7 +21,7 @@ with_path a b c d x path h k m = subst (Carried a d) (sym whole) (two_parts a b 
     whole : x ++ codes " " ++ path ++ codes "\n" ≡ x ++ (codes " " ++ path ++ codes "\n")
     whole = ap (λ t. t ++ codes "\n") (append_assoc x (codes " ") path) ∙ append_assoc x (codes " " ++ path) (codes "\n")
 
--- the part of the next node, where the entries are seen by g
+-- the part of the next node, if the entries are seen by g
 pub next_mapped : {X Y : Type 0} (f : ℕ × Y → List ℕ) (g : X → Y) (xs : List X) (i : ℕ) (x : X) (a b c : Way) → i < length xs
     → x ≡ get_or xs i x
     → Carried a b (flat_map f (take i (enumerate_from 1 (map g xs)))) → Carried b c (f (i + 1, g x))

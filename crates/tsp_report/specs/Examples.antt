@@ -1,4 +1,4 @@
--- Small verdicts and files, whose reports are evaluated.
+-- Small verdicts and files, whose reports are evaluated. For src/examples.rt alone.
 use Rattle.std.specs.Prelude.{List, ℕ, [], ◌∷◌, Some, pos, codes, negsuc}
 use Rattle.tsp_format.specs.Steps.{Leaf, SubsetRow}
 use Rattle.tsp_format.specs.declared.keyword.Field.TheVariants.{CapacityKey}

@@ -1,6 +1,6 @@
 -- Circle 2 of docs/trust.md.
--- The bytes of the reports of `tsp check`, `tsp bound` and `tsp compare`, line by line. Each line ends with byte 10,
--- and one blank is between words.
+-- The bytes of the reports of `tsp check`, `tsp bound` and `tsp compare`, line by line, which src/report.rt and
+-- src/compared.rt write. Each line ends with byte 10, and words are separated by one blank.
 use Rattle.std.specs.Fmt.{signed_decimal}
 use Rattle.std.specs.List.{concat}
 use Rattle.std.specs.Option.{option_map_or}
@@ -13,7 +13,6 @@ use Rattle.tsp_text.specs.ParsesTo.{read_fault_text}
 use Rattle.tsp_text.specs.declared.fault.ReadFault.{ReadFault}
 use Rattle.tsp_report.specs.Verdicts.{ReasonRow, row_of_reason}
 use Rattle.tsp_report.specs.declared.verdict.KnownBound.{KnownBound}
-use Rattle.tsp_report.specs.declared.verdict.KnownBound.TheVariants as known_bounds
 use Rattle.tsp_report.specs.declared.verdict.BoundVerdict.{BoundVerdict}
 use Rattle.tsp_report.specs.declared.verdict.BoundVerdict.TheVariants as bounds
 use Rattle.tsp_report.specs.declared.verdict.Reason.{Reason}
@@ -50,11 +49,11 @@ after_blank (Some number) = codes " " ++ signed_decimal number
 abbrev pub row_text : ReasonRow → List ℕ
 row_text row = row.name ++ after_blank row.numbers.0 ++ after_blank row.numbers.1
 
--- the same of a reason, by its row in the table
+-- the same for a reason, by its row in the table
 abbrev pub reason_text : Reason → List ℕ
 reason_text reason = row_text (row_of_reason reason)
 
--- the gap of a length to the bound; `optimal` where it is 0
+-- the gap of a length to the bound; `optimal` if it is 0
 abbrev pub gap_lines : ℤ → List ℕ
 gap_lines gap = cond (int_eq gap (pos 0)) (codes "\noptimal\n") (codes "\ngap " ++ signed_decimal gap ++ codes "\n")
 
@@ -68,7 +67,7 @@ abbrev pub first_keyword : List (List ℕ × List ℕ) → List ℕ
 first_keyword [] = []
 first_keyword (other ∷ others) = codes " " ++ other.0
 
--- the same where that is the reason; the word of the field that isn't used
+-- the same if that is the reason; the word of the field that isn't used
 abbrev pub keyword_after_blank : Fields → Reason → List ℕ
 keyword_after_blank instance NotJudged = first_keyword instance.others
 keyword_after_blank instance (NotUsed field) = codes " " ++ field_word field
@@ -94,7 +93,7 @@ verdict_lines instance (No reason) = no_line instance reason
 abbrev pub IsGapSized : Option ℤ → Type 0
 IsGapSized bound = IfSome bound (λ b. unsigned_abs b ≤ 2 ^ 126)
 
--- the same of the bound of a verdict
+-- the same for the bound of a verdict
 abbrev pub IsSized : Verdict → Type 0
 IsSized (Tour length bound) = IsGapSized bound
 IsSized (Routes length routes least bound) = IsGapSized bound
@@ -106,7 +105,7 @@ report_of instance verdict = instance_lines instance ++ verdict_lines instance v
 
 -- ---- a bound without a solution
 
--- the bound, or `none` where the instance has no solution; or the first reason against instance and certificate
+-- the bound, or `none` if the instance has no solution; or the first reason against the instance or the certificate
 abbrev pub bound_found_lines : Fields → BoundVerdict → List ℕ
 bound_found_lines instance (bounds.Bound bound) = codes "bound " ++ signed_decimal bound ++ codes "\nyes\n"
 bound_found_lines instance bounds.NoSolution = codes "bound none\nyes\n"
@@ -120,30 +119,34 @@ bound_report_of instance found = instance_lines instance ++ bound_found_lines in
 
 -- ---- the head
 
--- the line of the bound, if there is one
-abbrev pub known_bound_bound : Option ℤ → List ℕ
-known_bound_bound None = []
-known_bound_bound (Some bound) = codes "bound " ++ signed_decimal bound ++ codes "\n"
+-- the line of the least number of routes, for routes
+abbrev pub least_line : Option ℕ → List ℕ
+least_line None = []
+least_line (Some least) = codes "least " ++ decimal least ++ codes "\n"
 
--- the bound, or `none` where the instance has no solution, after the least number of routes; or the first reason
--- against the instance or the certificate
-abbrev pub known_bound_lines : Fields → KnownBound → List ℕ
-known_bound_lines instance (known_bounds.Tours bound) = known_bound_bound bound
-known_bound_lines instance known_bounds.NoSolution = codes "bound none\n"
-known_bound_lines instance (known_bounds.Routes least bound) = codes "least " ++ decimal least ++ codes "\n" ++ known_bound_bound bound
-known_bound_lines instance (known_bounds.No reason) = no_line instance reason
+-- the line of a bound
+abbrev pub line_of_bound : ℤ → List ℕ
+line_of_bound bound = codes "bound " ++ signed_decimal bound ++ codes "\n"
 
--- the head: the lines of the instance, then those of the known bound
+-- the bound, if there is one, after the least number of routes; or `none` if the instance has no solution; or the first
+-- reason against the instance or the certificate
+abbrev pub known_lines : Fields → Option ℕ → Option BoundVerdict → List ℕ
+known_lines instance least None = least_line least
+known_lines instance least (Some (bounds.Bound bound)) = least_line least ++ line_of_bound bound
+known_lines instance least (Some bounds.NoSolution) = codes "bound none\n"
+known_lines instance least (Some (bounds.No reason)) = no_line instance reason
+
+-- the head: the lines of the instance, then those of what is known about all solutions
 abbrev pub head_of : Fields → KnownBound → List ℕ
-head_of instance known_bound = instance_lines instance ++ known_bound_lines instance known_bound
+head_of instance known_bound = instance_lines instance ++ known_lines instance known_bound.least known_bound.found
 
 -- ---- a solution
 
--- the gap of a length to the bound; `optimal` where it is 0
+-- the gap of a length to the bound; `optimal` if it is 0
 abbrev pub gap_words : ℤ → List ℕ
 gap_words gap = cond (int_eq gap (pos 0)) (codes " optimal") (codes " gap " ++ signed_decimal gap)
 
--- the same where there is a bound
+-- the same if there is a bound
 abbrev pub bound_words : ℤ → Option ℤ → List ℕ
 bound_words length None = []
 bound_words length (Some bound) = gap_words (length -ℤ bound)

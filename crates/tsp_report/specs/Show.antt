@@ -1,4 +1,5 @@
--- The lines that `tsp show` prints of a file. Each line ends with byte 10, and one blank is between words.
+-- The lines that `tsp show` prints for a file, which src/shown.rt writes. Each line ends with byte 10, and words are
+-- separated by one blank. In no circle of docs/trust.md, because the lines contain no `yes`.
 use Rattle.std.specs.Prelude.{ℕ, List, [], ◌∷◌, ◌++◌, length, codes, decimal, cond, ℤ, Option, None, Some, unwrap_or}
 use Rattle.std.specs.List.{flat_map, enumerate_from}
 use Rattle.std.specs.Option.{option_map_or}
@@ -18,13 +19,13 @@ use Rattle.tsp_report.specs.Report.{type_line, nodes_line, not_judged}
 
 -- ---- any file
 
--- the value of NAME, where it isn't empty
+-- the value of NAME, if it isn't empty
 abbrev pub name_line : Option (List ℕ) → List ℕ
 name_line None = []
 name_line (Some []) = []
 name_line (Some (first ∷ rest)) = codes "name " ++ (first ∷ rest) ++ codes "\n"
 
--- the name, the TYPE, and the number of nodes where it is present
+-- the name, the TYPE, and the number of nodes if it is present
 abbrev pub head_lines : Fields → List ℕ
 head_lines f = name_line f.name ++ (type_line f.kind ++ option_map_or nodes_line f.dimension [])
 
@@ -34,7 +35,7 @@ head_lines f = name_line f.name ++ (type_line f.kind ++ option_map_or nodes_line
 abbrev pub layout_part : Option WeightKind → Option WeightFormat → List ℕ
 layout_part kind format = cond (is_explicit kind) (codes " " ++ option_map_or weight_format_word format []) []
 
--- the weight type, and of listed weights their layout
+-- the weight type, and for listed weights their layout
 abbrev pub weights_line : Option WeightKind → Option WeightFormat → List ℕ
 weights_line kind format = codes "weights " ++ option_map_or weight_kind_word kind [] ++ layout_part kind format ++ codes "\n"
 
@@ -46,7 +47,7 @@ canonical_of f = length_of (cost f) (nodes_to (nodes_of f))
 abbrev pub canonical_line : ℤ → List ℕ
 canonical_line canonical = codes "canonical " ++ signed_decimal canonical ++ codes "\n"
 
--- how many fixed pairs are listed, where a section lists them
+-- how many fixed pairs are listed, if a section lists them
 abbrev pub fixed_line : Option (List (ℕ × ℕ)) → List ℕ
 fixed_line None = []
 fixed_line (Some pairs) = codes "fixed " ++ decimal (length pairs) ++ codes "\n"
@@ -65,26 +66,26 @@ tour_line tour = codes "tour " ++ decimal tour.0 ++ codes " nodes " ++ decimal (
 abbrev pub all_tour_lines : List (List ℕ) → List ℕ
 all_tour_lines tours = codes "tours " ++ decimal (length tours) ++ codes "\n" ++ flat_map tour_line (enumerate_from 1 tours)
 
--- the scale, which is 1 where SCALE is missing
+-- the scale, which is 1 if SCALE is missing
 abbrev pub scale_line : Option ℤ → List ℕ
 scale_line scale = codes "scale " ++ signed_decimal (meant_scale scale) ++ codes "\n"
 
--- the load unit, where LOAD_UNIT is present
+-- the load unit, if LOAD_UNIT is present
 abbrev pub load_unit_line : Option ℤ → List ℕ
 load_unit_line None = []
 load_unit_line (Some unit) = codes "load unit " ++ signed_decimal unit ++ codes "\n"
 
--- how many families there are, where a section lists them
+-- how many families there are, if a section lists them
 abbrev pub families_line : Option (List (List (List ℕ))) → List ℕ
 families_line None = []
 families_line (Some families) = codes "combs " ++ decimal (length families) ++ codes "\n"
 
--- how many lists a memory has, where a section has them
+-- how many lists a memory has, if a section has them
 abbrev pub memory_line : Option (List (List ℕ)) → List ℕ
 memory_line None = []
 memory_line (Some lists) = codes "memory " ++ decimal (length lists) ++ codes "\n"
 
--- how many subset rows there are, where a section lists them
+-- how many subset rows there are, if a section lists them
 abbrev pub rows_line : Option (List SubsetRow) → List ℕ
 rows_line None = []
 rows_line (Some rows) = codes "rows " ++ decimal (length rows) ++ codes "\n"

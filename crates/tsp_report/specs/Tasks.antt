@@ -1,4 +1,5 @@
 -- A task on files: its files in the order in which they are read, the role of each, and the same task on other files.
+-- src/task.rt promises it, and tsp_cli opens files by it. In no circle of docs/trust.md.
 use Rattle.std.specs.Prelude.{ℕ, List, [], ◌∷◌, ◌-◌, ◌==◌, Option, None, Some, cond, slice_get, ◌≡◌}
 use Rattle.tsp_report.specs.declared.task.CertificateKind.{CertificateKind}
 use Rattle.tsp_report.specs.declared.task.CertificateKind.TheVariants as certificates
@@ -17,7 +18,7 @@ role_by certificates.Branches = Branches
 
 -- ---- the files of a task in the order in which they are read, each with its role
 
--- the file of a certificate, where one is named
+-- the file of a certificate, if one is named
 abbrev pub file_named : {F : Type 0} → Option (CertificateKind × F) → List (Option Role × F)
 file_named None = []
 file_named (Some named) = (Some (role_by named.0), named.1) ∷ []
@@ -65,7 +66,7 @@ abbrev pub IsMappedComparison : {F G : Type 0} → (F → G → Type 0) → Comp
 IsMappedComparison gives old new = gives old.instance new.instance × IsMappedCertificate gives old.certificate new.certificate
     × (new.solutions.now ≡ old.solutions.now) × (new.strict ≡ old.strict)
 
--- the same of either
+-- the same for either
 abbrev pub IsMappedTask : {F G : Type 0} → (F → G → Type 0) → Task F → Task G → Type 0
 IsMappedTask gives (tasks.Files a) (tasks.Files x) = IsMapped gives a x
 IsMappedTask gives (tasks.Compare a) (tasks.Compare x) = IsMappedComparison gives a x

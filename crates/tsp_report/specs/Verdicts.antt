@@ -1,10 +1,11 @@
 -- Circle 2 of docs/trust.md.
--- The table of reasons, one row each, and which verdicts end with the line `yes`.
+-- The table of reasons, one row each, and which verdicts end with the line `yes`. src/verdict.rt is proved to have the
+-- same table.
 use Rattle.std.specs.Prelude.{Bool, true, false, ℕ, List, Option, None, Some, codes, ℤ, pos}
+use Rattle.std.specs.Option.{option_map_or}
 use Rattle.tsp_report.specs.declared.task.Role.{Role}
 use Rattle.tsp_report.specs.declared.task.Role.TheVariants.{Instance, Solution, Potentials, Branches}
 use Rattle.tsp_report.specs.declared.verdict.KnownBound.{KnownBound}
-use Rattle.tsp_report.specs.declared.verdict.KnownBound.TheVariants as known_bounds
 use Rattle.tsp_report.specs.declared.verdict.BoundVerdict.{BoundVerdict}
 use Rattle.tsp_report.specs.declared.verdict.BoundVerdict.TheVariants as bounds
 use Rattle.tsp_report.specs.declared.verdict.Reason.{Reason}
@@ -26,10 +27,7 @@ is_bound_yes (bounds.No reason) = false
 
 -- no reason applies whatever the solution, so solutions are judged one by one
 abbrev pub is_clear : KnownBound → Bool
-is_clear (known_bounds.Tours bound) = true
-is_clear known_bounds.NoSolution = true
-is_clear (known_bounds.Routes least bound) = true
-is_clear (known_bounds.No reason) = false
+is_clear known_bound = option_map_or is_bound_yes known_bound.found true
 
 -- ---- the table of reasons, one row each
 

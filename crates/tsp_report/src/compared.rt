@@ -1,4 +1,5 @@
-//! Writes the head and the lines of `tsp compare`.
+//! Writes the head and the lines of `tsp compare`. tsp_judge calls it. `head_of` and
+//! `solution_line` in `specs/Report.antt` pin every byte, and users' scripts rely on the lines.
 
 ghost use Rattle.std.specs.Prelude.{◌++◌, codes, IfOk, ◌≡◌};
 ghost use Rattle.tsp_number.specs.NumberWord.{number_fault_text};
@@ -6,10 +7,10 @@ ghost use Rattle.tsp_io.specs.Streams.{Writes};
 ghost use Rattle.tsp_io.specs.states.Output.{sink_of, Puts};
 ghost use Rattle.tsp_file.specs.Rules.{end_fault_text};
 ghost use Rattle.tsp_text.specs.ParsesTo.{line_fault_text, read_fault_text};
-ghost use Rattle.tsp_report.specs.Report.{head_of, known_bound_lines, known_bound_bound, gap_words, bound_words, verdict_words, found_words, solution_line, IsGapSized, IsSized};
+ghost use Rattle.tsp_report.specs.Report.{head_of, known_lines, least_line, line_of_bound, gap_words, bound_words, verdict_words, found_words, solution_line, IsGapSized, IsSized};
 
 use crate::report::{gap_of, put_instance, put_named, put_no, put_reason};
-use crate::verdict::{KnownBound, Verdict};
+use crate::verdict::{BoundVerdict, KnownBound, Verdict};
 use tsp_file::{EndFault, File};
 use tsp_format::Word;
 use tsp_io::{Output, Piece, Takes, WriteFault, hand_over, put, put_number};
@@ -84,31 +85,39 @@ fn put_known_bound<W: Takes>(
     instance: &File,
     known_bound: KnownBound,
 )
-    ensures { Puts W.contents out.old piece.old out.new piece.new (known_bound_lines instance.now known_bound) }
+    ensures { Puts W.contents out.old piece.old out.new piece.new
+        (known_lines instance.now known_bound.least known_bound.found) }
 {
-    match known_bound {
-        KnownBound::Tours { bound } => put_bound_line(piece, out, bound),
-        KnownBound::NoSolution => put(piece, out, b"bound none\n"),
-        KnownBound::Routes { least, bound } => {
-            put_named(piece, out, b"least ", least);
-            put(piece, out, b"\n");
+    match known_bound.found {
+        None => put_least(piece, out, known_bound.least),
+        Some(BoundVerdict::Bound(bound)) => {
+            put_least(piece, out, known_bound.least);
             put_bound_line(piece, out, bound);
         }
-        KnownBound::No(reason) => put_no(piece, out, instance, reason),
+        Some(BoundVerdict::NoSolution) => put(piece, out, b"bound none\n"),
+        Some(BoundVerdict::No(reason)) => put_no(piece, out, instance, reason),
     }
 }
 
-/// Adds the line of a bound, if there is one.
-fn put_bound_line<W: Takes>(piece: &mut Piece, out: &mut Output<W>, bound: Option<i128>)
-    ensures { Puts W.contents out.old piece.old out.new piece.new (known_bound_bound bound) }
+/// Adds the line of the least number of routes, if it is known.
+fn put_least<W: Takes>(piece: &mut Piece, out: &mut Output<W>, least: Option<u64>)
+    ensures { Puts W.contents out.old piece.old out.new piece.new (least_line least) }
 {
-    if let Some(bound) = bound {
-        put_named(piece, out, b"bound ", bound);
+    if let Some(least) = least {
+        put_named(piece, out, b"least ", least);
         put(piece, out, b"\n");
     }
 }
 
-/// Adds the words on what was found of a solution.
+/// Adds the line of a bound.
+fn put_bound_line<W: Takes>(piece: &mut Piece, out: &mut Output<W>, bound: i128)
+    ensures { Puts W.contents out.old piece.old out.new piece.new (line_of_bound bound) }
+{
+    put_named(piece, out, b"bound ", bound);
+    put(piece, out, b"\n");
+}
+
+/// Adds the words on what was found about a solution.
 fn put_found<W: Takes>(piece: &mut Piece, out: &mut Output<W>, found: Result<Verdict, ReadFault>)
     requires { IfOk found IsSized }
     ensures { Puts W.contents out.old piece.old out.new piece.new (found_words found) }
@@ -182,7 +191,7 @@ fn put_path<W: Takes>(piece: &mut Piece, out: &mut Output<W>, path: &[u8])
     put(piece, out, b"\n");
 }
 
-// ---- writes the fault of a solution that is no file, in its line of `tsp compare`
+// ---- write the fault of a solution that isn't valid, in its line of `tsp compare`
 
 /// Adds the text of a fault, as it is displayed.
 fn put_fault<W: Takes>(piece: &mut Piece, out: &mut Output<W>, fault: ReadFault)

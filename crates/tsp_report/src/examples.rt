@@ -1,5 +1,7 @@
 //! Laws that state values of the definitions in `specs/`, worked out by hand: reports, lines of
-//! `tsp show` and `tsp compare`, the files of tasks, and the names of reasons.
+//! `tsp show` and `tsp compare`, the files of tasks, and the names of reasons. No code calls them.
+//! If someone makes the same mistake in a definition and in the code, every contract still holds,
+//! but one of these laws fails.
 
 ghost use Rattle.std.specs.Fmt.{signed_decimal};
 ghost use Rattle.std.specs.List.{All};
@@ -28,25 +30,24 @@ ghost use Rattle.tsp_report.specs.declared.task.FileTask.TheVariants as file_tas
 ghost use Rattle.tsp_report.specs.declared.task.Role.TheVariants.{Instance, Solution, Potentials, Branches};
 ghost use Rattle.tsp_report.specs.declared.task.Role.TheVariants as roles;
 ghost use Rattle.tsp_report.specs.declared.task.Task.TheVariants as tasks;
-ghost use Rattle.tsp_report.specs.declared.verdict.KnownBound.TheVariants as known_bounds;
 ghost use Rattle.tsp_report.specs.declared.verdict.BoundVerdict.TheVariants as bounds;
 ghost use Rattle.tsp_report.specs.declared.verdict.Reason.TheVariants as reasons;
 ghost use Rattle.tsp_report.specs.declared.verdict.Verdict.TheVariants as verdicts;
 
 /// The head, with a bound or without, for an instance without tours, for routes, and with a reason.
 pub fn examples_of_heads()
-    ensures alone { head_of matrix (known_bounds.Tours None)
+    ensures alone { head_of matrix (record { least = None; found = None })
         ≡ codes "type TSP\nnodes 2\nnot judged FOO\nnot judged BAR\n" }
-    ensures bounded { head_of matrix (known_bounds.Tours (Some (pos 12)))
+    ensures bounded { head_of matrix (record { least = None; found = Some (bounds.Bound (pos 12)) })
         ≡ codes "type TSP\nnodes 2\nnot judged FOO\nnot judged BAR\nbound 12\n" }
-    ensures no_tour { head_of matrix known_bounds.NoSolution
+    ensures no_tour { head_of matrix (record { least = None; found = Some bounds.NoSolution })
         ≡ codes "type TSP\nnodes 2\nnot judged FOO\nnot judged BAR\nbound none\n" }
-    ensures routes { head_of shown_routes (known_bounds.Routes 3 None) ≡ codes "type CVRP\nnodes 2\nleast 3\n" }
-    ensures bounded_routes { head_of shown_routes (known_bounds.Routes 3 (Some (pos 12)))
+    ensures routes { head_of shown_routes (record { least = Some 3; found = None }) ≡ codes "type CVRP\nnodes 2\nleast 3\n" }
+    ensures bounded_routes { head_of shown_routes (record { least = Some 3; found = Some (bounds.Bound (pos 12)) })
         ≡ codes "type CVRP\nnodes 2\nleast 3\nbound 12\n" }
-    ensures no { head_of matrix (known_bounds.No reasons.TooFewNodes)
+    ensures no { head_of matrix (record { least = None; found = Some (bounds.No reasons.TooFewNodes) })
         ≡ codes "type TSP\nnodes 2\nnot judged FOO\nnot judged BAR\nno TooFewNodes\n" }
-    ensures unjudged { head_of matrix (known_bounds.No reasons.NotJudged)
+    ensures unjudged { head_of matrix (record { least = None; found = Some (bounds.No reasons.NotJudged) })
         ≡ codes "type TSP\nnodes 2\nnot judged FOO\nnot judged BAR\nno NotJudged FOO\n" }
 {}
 
@@ -156,7 +157,7 @@ pub fn examples_of_shown_lines()
         ≡ codes "leaves " ++ decimal 2 ++ codes "\n" }
 {}
 
-/// Whole reports on an instance with two lines that aren't judged.
+/// Whole reports on an instance with two ignored lines.
 pub fn examples_of_whole_reports()
     ensures yes { report_of matrix (verdicts.Tour (pos 14) (Some (pos 12))) ≡ codes
         "type TSP\nnodes 2\nnot judged FOO\nnot judged BAR\nlength 14\nbound 12\ngap 2\nyes\n" }
@@ -204,7 +205,7 @@ pub fn examples_of_shown_files()
     ensures untyped { shown untyped ≡ codes "type \nnot judged FOO\n" }
 {}
 
-/// Which file has which number, and what it is given for. Here files are numbers.
+/// Which file has which number, and which role. Here, files are numbers.
 pub fn examples_of_files()
     ensures shown { (a : ℕ) → numbered 1 (files_of (file_tasks.Show a)) ≡ Some (None, a) }
     ensures converted { (a : ℕ) (to : Option Layout) → numbered 1 (files_of (file_tasks.Convert a to)) ≡ Some (None, a) }
@@ -222,7 +223,7 @@ pub fn examples_of_files()
     ensures from_one { (task : FileTask ℕ) → numbered 0 (files_of task) ≡ None }
 {}
 
-/// A task of other files keeps all but its files, and these in their places. Here each file is
+/// Mapping the files of a task keeps their places and changes nothing else. Here, each file is
 /// mapped to the next number.
 pub fn examples_of_mapped_tasks()
     ensures shown { IsMappedTask (λ a x. x ≡ a + 1) (tasks.Files (file_tasks.Show 1)) (tasks.Files (file_tasks.Show 2)) }

@@ -1,8 +1,8 @@
 //! Tasks on files, verdicts with their reasons, and the texts that the program prints for them.
 //!
-//! A command line asks for a task (`task`), and so does a call for C. A verdict (`verdict`) isn't
-//! found here, so a crate that prints or explains one doesn't depend on tsp_verdict. The contracts
-//! of `report`, `compared` and `shown` name every byte. No call takes memory.
+//! A command line or a C call asks for a task (`task`). Verdicts are defined here (`verdict`) but
+//! found in tsp_verdict, so that a crate can print or explain one without depending on tsp_verdict.
+//! The contracts of `report`, `compared` and `shown` pin every byte. No call takes memory.
 //!
 //! ```text
 //! let task = FileTask::Show { file: path };

@@ -1,4 +1,5 @@
-//! Writes the reports of `tsp check` and `tsp bound`.
+//! Writes the reports of `tsp check` and `tsp bound`. tsp_judge calls it. `report_of` and
+//! `bound_report_of` in `specs/Report.antt` pin every byte.
 
 ghost use Rattle.std.specs.Prelude.{◌≡◌, ◌++◌, ◌≤◌, ◌^◌, ◌-ℤ◌, Some, map, codes, unsigned_abs};
 ghost use Rattle.tsp_io.specs.Streams.{Writes};
@@ -220,7 +221,7 @@ fn put_gap<W: Takes>(piece: &mut Piece, out: &mut Output<W>, gap: i128)
     put(piece, out, b"\n");
 }
 
-// ---- writes a reason: its name and its numbers
+// ---- write a reason: its name and its numbers
 
 /// Adds the name of a reason, and its numbers.
 pub(crate) fn put_reason<W: Takes>(piece: &mut Piece, out: &mut Output<W>, reason: Reason)
@@ -241,7 +242,7 @@ fn put_after_blank<W: Takes>(piece: &mut Piece, out: &mut Output<W>, number: Opt
     }
 }
 
-// ---- writes the report of `tsp bound`
+// ---- write the report of `tsp bound`
 
 /// Writes the report on the bound of an instance, line by line: the lines on the instance; the
 /// bound, or `none` if the instance has no solution, and `yes`; or `no` with the first reason

@@ -1,4 +1,5 @@
-//! Writes the lines of `tsp show`.
+//! Writes the lines of `tsp show`. tsp_judge calls it. `shown` in `specs/Show.antt` pins every
+//! byte.
 
 ghost use Rattle.std.specs.List.{flat_map, enumerate_from};
 ghost use Rattle.std.specs.Option.{option_map, option_map_or};
@@ -97,7 +98,7 @@ fn put_dimension<W: Takes>(piece: &mut Piece, out: &mut Output<W>, dimension: Op
     }
 }
 
-/// Adds the lines of an instance alone.
+/// Adds the lines that only an instance has.
 fn put_costs<W: Takes>(piece: &mut Piece, out: &mut Output<W>, instance: &Instance)
     ensures { Puts W.contents out.old piece.old out.new piece.new (cost_lines instance.now) }
 {
@@ -166,8 +167,8 @@ fn put_fixed<W: Takes>(piece: &mut Piece, out: &mut Output<W>, pairs: Option<&[(
     }
 }
 
-/// Adds the lines of a file that is no instance: those of tours, the scale of potentials, or those
-/// of a tree of cases.
+/// Adds the lines of a file that isn't an instance: those of tours, the scale of potentials, or
+/// those of a tree of cases.
 fn put_solution<W: Takes>(piece: &mut Piece, out: &mut Output<W>, file: &File)
     requires { is_instance file.now.kind ≡ false }
     ensures { Puts W.contents out.old piece.old out.new piece.new
@@ -176,7 +177,7 @@ fn put_solution<W: Takes>(piece: &mut Piece, out: &mut Output<W>, file: &File)
     match file.kind() {
         Kind::Tour => put_tours(piece, out, file.tours().unwrap_or(&[])),
         Kind::Branches => put_tree(piece, out, file),
-        // Which is no instance, and so holds potentials.
+        // It isn't an instance, so it contains potentials.
         _ => put_scale(piece, out, file.scale()),
     }
 }

@@ -1,5 +1,6 @@
-//! A task: a verb with its options and files. A file is a place, a reader or a name, since tsp_cli
-//! opens the files of a task before tsp_judge does it.
+//! A task: a verb with its options and files. Each file is a place, then a reader or a name,
+//! because tsp_cli opens the files of a task before tsp_judge runs it. Verdicts and explanations
+//! name a file by the roles and certificates defined here.
 
 ghost use Rattle.std.specs.Fn.{FnReturnsAt};
 ghost use Rattle.std.specs.Prelude.{◌≡◌, option_map};
@@ -9,8 +10,7 @@ ghost use Rattle.tsp_report.specs.Verdicts.{role_of};
 use crate::verdict::{Reason, row_of_reason};
 use tsp_format::Layout;
 
-/// A task. `F` is what is known of a file: its place, a reader, its text, or what a user calls
-/// it.
+/// A task. `F` stands for a file: its place, a reader, its text, or the user's name for it.
 #[derive(Drop)]
 pub enum Task<'a, F> {
     /// A task on files that are all known when it begins.
@@ -26,14 +26,14 @@ pub enum FileTask<F> {
     Show {
         file: F,
     },
-    /// Write a file anew, its matrix in this layout if one is named.
+    /// Write a file in its normal form, with its matrix in this layout if one is named.
     Convert {
         file: F,
         layout: Option<Layout>,
     },
     /// Judge a solution of an instance. `certificate` asks for a bound, `claimed` is the length
-    /// that the solution has to have, and with `strict` a line of the instance that isn't judged is
-    /// a reason.
+    /// that the solution must have, and with `strict` a line of the instance that the verdict
+    /// ignores is a reason.
     Check {
         instance: F,
         solution: F,
@@ -41,8 +41,8 @@ pub enum FileTask<F> {
         claimed: Option<i64>,
         strict: bool,
     },
-    /// Bound all tours, or for a CVRP all routes, of an instance by a certificate. With `strict`, a
-    /// line of the instance that isn't judged is a reason.
+    /// Compute a bound for an instance by a certificate. With `strict`, a line of the instance that
+    /// the verdict ignores is a reason.
     Bound {
         instance: F,
         certificate: (CertificateKind, F),
@@ -50,8 +50,8 @@ pub enum FileTask<F> {
     },
 }
 
-/// The solutions that are compared, and by which files. They are opened one after the other, so
-/// their paths stay as they are given: `-` is standard input.
+/// The solutions of a comparison, and the files by which they are judged. Solutions are opened one
+/// after the other, so their paths stay as they were given: `-` is standard input.
 #[derive(Drop)]
 pub struct Comparison<'a, F> {
     /// The instance.
@@ -60,7 +60,7 @@ pub struct Comparison<'a, F> {
     pub certificate: Option<(CertificateKind, F)>,
     /// The paths of the solutions, one at least, in the order in which they are judged.
     pub solutions: &'a [String],
-    /// Whether lines of the instance that aren't judged are a reason.
+    /// Whether a line of the instance that the verdict ignores is a reason.
     pub strict: bool,
 }
 
@@ -79,7 +79,7 @@ impl<'a, F> Task<'a, F> {
         }
     }
 
-    /// The same task of what `map` gives for each file.
+    /// The same task, with each file replaced by what `map` makes of it.
     pub fn map<G, M: Fn(&F) -> G>(&self, map: M) -> Task<'a, G>
         requires { M.IsAlwaysCallable map }
         ensures { IsMappedTask (FnReturnsAt M.Fn map) self.now result }
@@ -163,8 +163,8 @@ impl<F> FileTask<F> {
 }
 
 impl<'a, F> Comparison<'a, F> {
-    /// The file with this number, counted from 1, and what it is given for: the instance, or the
-    /// certificate if one is named.
+    /// The file with this number, counted from 1, and its role: the instance, or the certificate if
+    /// one is named.
     pub fn file(&self, number: u32) -> Option<(Option<Role>, &F)>
         ensures { option_map (λ file. (file.0, file.1.now)) result
             ≡ numbered number (files_compared self.now) }
@@ -176,7 +176,7 @@ impl<'a, F> Comparison<'a, F> {
         }
     }
 
-    /// The same comparison by what `map` gives for each file.
+    /// The same comparison, with each file replaced by what `map` makes of it.
     pub fn map<G, M: Fn(&F) -> G>(&self, map: M) -> Comparison<'a, G>
         requires { M.IsAlwaysCallable map }
         ensures { IsMappedComparison (FnReturnsAt M.Fn map) self.now result }
@@ -190,7 +190,7 @@ impl<'a, F> Comparison<'a, F> {
     }
 }
 
-/// The same certificate, with what `map` gives for its file.
+/// The same certificate, with its file replaced by what `map` makes of it.
 fn mapped<F, G, M: Fn(&F) -> G>(
     certificate: &Option<(CertificateKind, F)>,
     map: M,
@@ -204,7 +204,7 @@ fn mapped<F, G, M: Fn(&F) -> G>(
     }
 }
 
-/// What `map` gives for a file.
+/// What `map` makes of a file.
 fn applied<F, G, M: Fn(&F) -> G>(map: &M, file: &F) -> G
     requires { M.IsAlwaysCallable map.now }
     ensures { FnReturnsAt M.Fn map.now file.now result }
@@ -224,9 +224,9 @@ pub enum CertificateKind {
     Branches,
 }
 
-// ---- what a file is given for, instance, solution or certificate
+// ---- the role of a file: instance, solution or certificate
 
-/// What a file of a task is given for.
+/// The role of a file in a task.
 #[derive(Clone, Copy, Debug, PartialEq, Eq)]
 pub enum Role {
     /// The instance.
@@ -239,7 +239,7 @@ pub enum Role {
     Branches,
 }
 
-/// What the file of a certificate is given for.
+/// The role of a certificate's file.
 pub fn role_by(by: CertificateKind) -> Role
     ensures { result ≡ role_by by }
 {

@@ -1,5 +1,7 @@
-//! The verdict on a solution, the verdict on a bound, and the reasons against them. tsp_verdict
-//! finds them, tsp_report prints them, tsp_explain explains them.
+//! The verdict on a solution, the verdict on a bound, and the reasons against them, in the order in
+//! which they are judged. tsp_verdict finds them, this crate prints them, and tsp_explain explains
+//! them. Names, ranks and numbers are here, in `specs/Verdicts.antt` (circle 2) and in
+//! `bindings/reasons.tsv`: change all three, but never a number for C.
 
 ghost use Rattle.std.specs.Prelude.{◌≡◌, None, Some, pos};
 ghost use Rattle.tsp_report.specs.Verdicts.{row_of_reason, number_of_reason};
@@ -17,7 +19,7 @@ use tsp_format::Field;
 pub enum Reason {
     /// The solution is not a file of TYPE TOUR.
     NotASolution,
-    /// The instance has fewer than 3 nodes, or fewer than 2 if routes are judged.
+    /// The instance has fewer than 3 nodes or, if routes are judged, fewer than 2.
     TooFewNodes,
     /// The instance is of TYPE TSP, and this is the first pair, the smaller node first, by rows,
     /// whose two costs differ.
@@ -47,8 +49,8 @@ pub enum Reason {
     Unserved { node: u32 },
     /// This route is the first one whose demands sum to more than the capacity.
     Overload { route: u32 },
-    /// No other reason applies to the solution, and its length, which is this one, isn't the
-    /// length that is claimed.
+    /// No other reason applies to the solution, but its length, which is this one, isn't the
+    /// claimed one.
     LengthClaimed { length: i64 },
     /// The certificate is not a file of TYPE POTENTIALS.
     NotPotentials,
@@ -115,15 +117,15 @@ pub enum Reason {
 /// applies.
 #[derive(Clone, Copy, Debug, PartialEq, Eq)]
 pub enum Verdict {
-    /// Accepted: the solution is a tour of this length. If a certificate was judged too, no tour
+    /// Accepted: the solution is a tour of this length. If a certificate was judged, too, no tour
     /// of the instance is shorter than the bound.
     Tour {
         length: i64,
         bound: Option<i128>,
     },
-    /// Accepted: the solution is a plan of this many routes, of this length in all. No plan of the
-    /// instance has fewer than `least` routes. If a certificate was judged too, no plan whose
-    /// routes each have a customer is shorter than the bound.
+    /// Accepted: the solution is a plan with this many routes and this total length. No plan of the
+    /// instance has fewer than `least` routes. If a certificate was judged, too, no plan without
+    /// empty routes is shorter than the bound.
     Routes {
         length: i64,
         routes: u32,
@@ -152,10 +154,10 @@ impl Verdict {
 /// The verdict on an instance with a certificate, without a solution.
 #[derive(Clone, Copy, Debug, PartialEq, Eq)]
 pub enum BoundVerdict {
-    /// Accepted: no tour of the instance is shorter than this bound, or for a CVRP no plan whose
-    /// routes each have a customer.
+    /// Accepted: no tour of the instance is shorter than this bound or, for a CVRP, no plan without
+    /// empty routes.
     Bound(i128),
-    /// Accepted: the instance has no tour, or for a CVRP no such plan.
+    /// Accepted: the instance has no tour or, for a CVRP, no such plan.
     NoSolution,
     /// Rejected, with the first reason that applies to the instance or the certificate.
     No(Reason),
@@ -176,22 +178,16 @@ impl BoundVerdict {
     }
 }
 
-// ---- what is known of all solutions of an instance, before any is read
+// ---- what is known about all solutions of an instance, before any is read
 
-/// What is known of all solutions of an instance, before any is read.
+/// What is known about all solutions of an instance, before any is read.
 #[derive(Clone, Copy, Debug, PartialEq, Eq)]
-pub enum KnownBound {
-    /// Tours are judged. No tour of the instance is shorter than the bound, if there is one.
-    Tours { bound: Option<i128> },
-    /// The certificate shows that the instance has no tour, or no plan whose routes each have a
-    /// customer.
-    NoSolution,
-    /// Routes are judged. No plan of the instance has fewer than `least` routes, and none whose
-    /// routes each have a customer is shorter than the bound, if there is one.
-    Routes { least: u64, bound: Option<i128> },
-    /// No solution is accepted, with the first reason that applies to the instance or the
-    /// certificate.
-    No(Reason),
+pub struct KnownBound {
+    /// For TYPE CVRP, the least number of routes: no plan of the instance has fewer.
+    pub least: Option<u64>,
+    /// What the certificate gives, or the first reason that applies to the instance or the
+    /// certificate. Without a certificate it is `None` if no reason applies to the instance.
+    pub found: Option<BoundVerdict>,
 }
 
 impl KnownBound {
@@ -203,9 +199,9 @@ impl KnownBound {
     pub fn is_clear(self) -> bool
         ensures { result ≡ is_clear self }
     {
-        match self {
-            KnownBound::Tours { .. } | KnownBound::NoSolution | KnownBound::Routes { .. } => true,
-            KnownBound::No(_) => false,
+        match self.found {
+            None => true,
+            Some(found) => found.is_yes(),
         }
     }
 }
@@ -270,7 +266,7 @@ pub fn row_of_reason(reason: Reason) -> ReasonRow
     }
 }
 
-/// The number of a reason for C. It stays when reasons come in between, unlike the rank.
+/// The number of a reason for C. Unlike the rank, it never changes when a reason is added.
 pub fn number_of_reason(reason: Reason) -> u32
     ensures { result ≡ number_of_reason reason }
 {

@@ -1,5 +1,5 @@
-//! Assertions of the tests: each is a function with no contract, proved once, so that a test is a
-//! row of calls. tsp_tests has none, since no library may end the program.
+//! The assertions of the tests: functions without a contract, each proved once, so that a test is a
+//! series of calls.
 
 use std::fmt::Debug;
 use std::process::Abort;

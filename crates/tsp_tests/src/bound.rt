@@ -1,4 +1,5 @@
-//! A test that the least 1-tree of tsp_bound asks for each cost once.
+//! A test that growing a minimum 1-tree in tsp_bound asks for each cost only once. Contracts don't
+//! count calls, and each call computes the cost of two points.
 
 ghost use Rattle.std.specs.Prelude.{refl, pos};
 

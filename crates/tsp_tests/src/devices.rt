@@ -1,4 +1,5 @@
-//! Readers and writers that do little at a time, fail, or never end, and count their calls.
+//! Readers and writers that do little at a time, fail, or never end, and count their calls. The
+//! tests of reading, writing and judging take them from here.
 
 use std::alloc::Global;
 use std::io::{self, ErrorKind, Read, Write};

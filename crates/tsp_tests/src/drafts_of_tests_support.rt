@@ -1,4 +1,5 @@
-//! Drafts and files that are made by hand.
+//! Drafts and files that are made by hand. The tests of drafts and of the writer take them from
+//! here; a new field goes into them.
 
 use std::alloc::{AllocError, Global};
 use std::test::Fail;

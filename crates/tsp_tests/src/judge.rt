@@ -1,5 +1,4 @@
-//! The modules of tests of the verbs, from the bytes read to the bytes written, and of the texts of
-//! faults.
+//! Tests of the verbs, from the bytes read to the bytes written, and of the texts of faults.
 
 mod compares;
 mod failures;

@@ -1,5 +1,5 @@
-//! Tests of the canonical text: one with each field, and writers that take little, or fail. (Other
-//! texts are in the tables of runs of the program.)
+//! Tests of the canonical text: one with each field, and writers that take little, or fail. (For
+//! other texts, see tests/program/tables.)
 
 use crate::asserts::{holds, holds_at, same, same_at};
 use crate::devices::{Drip, NEVER, Refusal};
@@ -181,7 +181,7 @@ fn long_file(alloc: Global) -> Result<File, Fail> {
 }
 
 /// The bytes of its text: nine of the name, twelve of the type, 4,001 of each comment, 25 of the
-/// tours and four of the line EOF.
+/// tours and four of the EOF line.
 const LONG_BYTES: usize = 12_053;
 
 #[test]

@@ -1,4 +1,5 @@
-//! Calls on drafts, files, instances of one node, and texts of line ends, which take no memory.
+//! The calls of `main.rt` on drafts, files, instances with one node, and texts of line ends, which
+//! take no memory.
 
 use std::alloc::Global;
 use tsp_bound::{Duals, dual_bound};
@@ -131,7 +132,7 @@ fn has_no_costs(instance: &Instance) -> bool {
         && dual_bound(instance, &duals) == Ok(0)
 }
 
-/// A thousand line ends, one in each piece, are no file.
+/// A thousand line ends, one in each piece, aren't a valid file.
 fn blanks_have_no_type(alloc: Global) -> bool {
     let mut feed = Feed::new(alloc);
     let mut fed = true;
@@ -148,7 +149,7 @@ fn blanks_have_no_type(alloc: Global) -> bool {
     fed && right
 }
 
-/// Line ends and blanks are no file.
+/// Line ends and blanks aren't a valid file.
 fn has_no_type(alloc: Global) -> bool {
     let mut feed = Feed::new(alloc);
     let fed = feed.feed(b"\n \n\t");

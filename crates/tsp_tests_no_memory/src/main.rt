@@ -1,8 +1,8 @@
 //! A program that tests/program/refusals runs while requests for memory are refused.
 //!
-//! First it makes the calls that take no memory, which have to succeed though every request is
-//! refused; then it traces tours, which takes some. The exit status is 0 if each answer is the
-//! one that is wanted, 1 if one isn't, and 3 if there was no memory for the tours.
+//! First it makes calls that take no memory, which must succeed although every request is refused;
+//! then it traces tours, which takes some memory. The exit status is 0 if every answer is right, 1
+//! if one is wrong, and 3 if there was no memory for the tours.
 #![tactic(auto)]
 
 mod files;

@@ -1,5 +1,5 @@
-//! Calls on number words, distances, statuses, streams and numbers of certificates, which take no
-//! memory.
+//! The calls of `main.rt` on number words, distances, statuses, streams and numbers of
+//! certificates, which take no memory.
 
 use tsp_bound::{Duals, Multipliers, Potentials};
 use tsp_format::Layout;

@@ -1,5 +1,5 @@
-//! Calls on instances of points and of a matrix that take no memory, and the lengths of tours,
-//! which take some.
+//! The calls of `main.rt` on instances with points or a matrix, which take no memory, and on
+//! lengths of tours, which take some.
 
 use std::alloc::{AllocError, Global};
 use tsp_cost::{Costs, Instance, View, tour_length, trace_tours};

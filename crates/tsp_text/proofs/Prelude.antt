@@ -1,4 +1,5 @@
--- Names from std and other crates that proofs here use often, re-exported so that a file needs one import.
+-- Names of other crates, passed on to the files of this crate alone. It defines nothing: add or remove names freely;
+-- `tests/repository/names` sees that each is imported from here.
 pub use Rattle.std.proofs.Common.{Bool, Err, List, None, Ok, Option, Result, Some, ap, append_assoc, arith, cond, false, get_or, inl, inr, length, length-append, map, refl, reverse, subst, suc, sym, true, zero, ℕ, [], ◌*◌, ◌++◌, ◌+◌, ◌-◌, ◌<◌, ◌∙◌, ◌∷◌, ◌≡◌, ◌≢◌, ◌≤◌}
 pub use Rattle.std.proofs.Math.ListN.{drop, take}
 pub use Rattle.std.proofs.lemmas.Bool.{and_from, and_parts, eq-eqb, eqb-false, eqb-true, false≢true, le-leb, leb-false, leb-true, lt-leb, lt-ltb, ltb-false, ltb-true, ne_eqb, not_from_false, or_parts, true≢false}

@@ -1,4 +1,5 @@
--- How to prove something of every section: from one proof for each of them. Also the line that opens a section.
+-- How to prove something of every section: from one proof for each of them. Also the line that opens a section. Proofs
+-- in tsp_read go section by section in this way.
 use Rattle.tsp_text.proofs.Prelude.{◌≡◌, Bool, true, false, cond, List, ◌∷◌, refl, Some, None, ℕ, nat_lt, is_some, option_map_or, Field, NameKey, TypeKey, CommentKey, OtherKey, DimensionKey, CapacityKey, ScaleKey, LoadUnitKey, EdgeWeightTypeKey, EdgeWeightFormatKey, NodeCoordTypeKey, DisplayDataTypeKey, NodeCoordPart, DisplayDataPart, DemandPart, DepotPart, FixedEdgesPart, EdgeWeightPart, TourPart, NodePotentialPart, RowPotentialPart, ColumnPotentialPart, FixedEdgePotentialPart, FamilyPart, MemoryPart, SubsetRowPart, BranchPart, Known, most_line_bytes, shape_of, is_section_field}
 use Rattle.tsp_format.specs.declared.keyword.Shape.{Shape}
 use Rattle.tsp_format.specs.declared.keyword.Shape.TheVariants.{Points, SpacePoints}
@@ -95,7 +96,7 @@ opening in_space earlier line short = by_section (λ f. row_of earlier (Line (Kn
     (rw short refl) (rw short refl) (rw short refl) (rw short refl) (rw short refl)
     (rw short refl) (rw short refl) (rw short refl) (rw short refl) (rw short refl)
 
--- a section is among the fields where a line opened it
+-- a section is among the fields if a line opened it
 pub standing : (earlier : List Item) (f : Field) → is_section_field f ≡ true
     → stands_in (fields_by (λ field. has_line field earlier) earlier) f ≡ has_line f earlier
 standing earlier = by_section (λ f. stands_in (fields_by (λ field. has_line field earlier) earlier) f ≡ has_line f earlier)

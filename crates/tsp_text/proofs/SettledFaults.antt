@@ -27,7 +27,7 @@ clean_more earlier item clean row =
 
 -- ---- the first fault of items is that of the first item to which a row applies
 
--- an item with a row, where there was no fault
+-- an item with a row, if there was no fault
 pub found_here : (earlier : List Item) (item : Item) (fault : LineFault) → IsClean earlier → row_of earlier item ≡ Some fault
     → fault_in (item ∷ earlier) ≡ Some (fault_here earlier item fault)
 found_here earlier item fault clean row =
@@ -391,7 +391,7 @@ part_fault bytes more found true t e h = ap fault_in (part_long (bytes ++ more) 
 part_fault bytes more found false t e h =
     ap fault_in (part_short (bytes ++ more) t) ∙ fault_of_items (settled_items bytes) (items_of (bytes ++ more)) found (items_stay bytes more) (short_fault bytes found e h)
 
--- the same with more bytes, where there are too many already
+-- the same with more bytes, if there are too many already
 long_fault_kept : (bytes more : List ℕ) (found : ReadFault) → is_too_long bytes ≡ true → settled_fault bytes ≡ Some found
     → first_row (fault_in (settled_part bytes) ∷ when (is_too_long (bytes ++ more) && not (has_end_line (settled_part bytes))) faults.TooLong ∷ []) ≡ Some found
 long_fault_kept bytes more found e h =

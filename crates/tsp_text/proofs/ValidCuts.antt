@@ -1,4 +1,5 @@
--- Tours and families of a section without a fault are valid, and what the items are that are cut from a text.
+-- Tours and families of a section without a fault are valid, and what the items are that are cut from a text. For
+-- ValidItems.antt, and for the reader's proofs in tsp_read.
 use Rattle.tsp_text.proofs.Prelude.{◌≡◌, ℕ, suc, ◌+◌, Bool, true, false, cond, List, [], ◌∷◌, ◌++◌, length, map, refl, sym, ap, ◌∙◌, arith, None, ◌<◌, ◌≤◌, subst, zero, ◌-◌, get_or, reverse, take, drop, and_from, and_parts, le-leb, leb-false, true≢false, false≢true, nat_tests, length-map, length_push, append-nil, reverse-append, reverse-reverse, take-append-drop, get_or_push, list_all-append, list_all-map, list_all, filter, slice_split, onto_first, sum_by, prefix_len, take_while, not, ◌&&◌, ◌||◌, nat_le, nat_abs, nat_lt, slice_index, most_nodes, most_tour_nodes, most_families, most_family_nodes, most_line_bytes, most_file_bytes, is_blank, is_letter, is_keyword_byte, TourPart, FamilyPart, is_node, is_node_list, are_tours, is_set_of, are_sets, are_family_lists}
 use Rattle.std.proofs.Math.Numerals.{one-add}
 use Rattle.std.proofs.lemmas.List.Elements.{filter-append}

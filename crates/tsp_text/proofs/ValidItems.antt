@@ -57,7 +57,7 @@ stands_late field section_value other (Line Eof line ∷ earlier) clean stands =
 stands_late field section_value other (Line Unknown line ∷ earlier) clean stands =
     stands_late field section_value other earlier (clean_parts earlier (Line Unknown line) clean).0 stands
 
--- a section is valid where its value fits that number of nodes
+-- a section is valid if its value fits that number of nodes
 standing_fits : {A : Type 0} (fits : ℕ → A → Bool) (value : List (List ℕ) → A) (words : List (List ℕ)) (n : ℕ) (dimension : Option ℕ) (b : Bool)
     → (b ≡ true → dimension ≡ Some n) → (b ≡ true → fits n (value words) ≡ true)
     → if_there (with_dimension fits dimension) (cond b (Some (value words)) None) ≡ true
@@ -183,7 +183,7 @@ tours_there items false clean = refl
 potentials_fit : (n : ℕ) (words : List (List ℕ)) → is_by_node (is_within most_potential) n (potentials_by_node n words) ≡ true
 potentials_fit n words = numbers_fit (neg_ℤ (pos most_potential)) (pos most_potential) n words refl
 
--- each field by itself, if the tree, where there is one, is whole
+-- each field by itself, if the tree, if there is one, is whole
 -- plan: by the field: each has its lemma, `name_fits` to `steps_fit`
 pub each_fits : (items : List Item) → AreCut items → IsClean items → is_incomplete items BranchPart ≡ false → (field : Field)
     → fits (spelled items) field ≡ true
@@ -258,7 +258,7 @@ none_incomplete None None rest e = refl
 none_incomplete None (Some field) rest e = absurd cc
 none_incomplete (Some fault) incomplete rest e = absurd cc
 
--- where none of some fields is found, none of them passes
+-- if none of some fields is found, none of them passes
 not_first : (test : Field → Bool) (field f : Field) (fields : List Field) (passes same : Bool) → test f ≡ passes
     → same_field field f ≡ same
     → cond passes (Some f) (find test fields) ≡ None → (same || list_any (same_field field) fields) ≡ true

@@ -1,4 +1,5 @@
--- Keywords of items without a fault have valid values, as have numbers, lists and depots.
+-- Keywords of items without a fault have valid values, as have numbers, lists and depots. Other files named Valid..
+-- rest on it, and the reader's proofs in tsp_read.
 use Rattle.tsp_text.proofs.Prelude.{◌≡◌, Bool, true, false, ◌||◌, ◌&&◌, cond, List, [], ◌∷◌, ◌++◌, refl, ap, ◌∙◌, ℕ, length, arith, suc, zero, ◌*◌, ◌≤◌, map, sym, subst, Option, Some, None, Result, Ok, Err, ◌+◌, take, true≢false, and_from, and_parts, le-leb, leb-false, false≢true, leb-true, eq-eqb, ne_eqb, ltb-false, not_from_false, Decides-int_eq, length_push, length-map, map_push, list_any-append, list_all-append, list_all-map, list_any, list_all, option_map, option_and_then, not, nat_le, ◌==◌, ℤ, pos, negsuc, neg_ℤ, unwrap_or, unsigned_abs, int_le, if◌then◌else◌, nat_abs, ◌-◌, codes, slice_index, result_err, result_ok, most_coordinate, most_depots, is_other_key, field_of, known_or_not, keyword_of, is_unknown, most_nodes, most_capacity, most_scale, most_load_unit, most_kept_bytes, most_comments, most_others, is_blank, is_letter, is_keyword_byte, field_word, fields_in_order, Field, DepotPart, NameKey, CommentKey, DimensionKey, CapacityKey, ScaleKey, LoadUnitKey, FixedEdgesPart, Known, EdgeDataFormat, EdgeDataSection, Eof, Unknown, is_from_to, is_within, is_node, is_by_node, is_point, are_depots, if_there, is_kept, is_unknown_keyword, is_other, are_comments, are_others}
 use Rattle.std.proofs.Math.Bool.{or-false}
 use Rattle.std.proofs.lemmas.List.FromFn.{length-range_with_len}

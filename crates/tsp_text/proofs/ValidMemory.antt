@@ -1,4 +1,5 @@
--- The lists of a memory and the subset rows of a section without a fault are within their limits, and of nodes.
+-- The lists of a memory and the subset rows of a section without a fault are within their limits, and of nodes. For
+-- ValidItems.antt.
 use Rattle.tsp_text.proofs.Prelude.{◌≡◌, ℕ, ◌+◌, Bool, true, false, cond, List, [], ◌∷◌, ◌++◌, length, refl, sym, ap, ◌∙◌, arith, None, ◌<◌, ◌≤◌, subst, and_from, le-leb, false≢true, length_push, list_all, sum_by, ◌&&◌, ◌||◌, nat_le, nat_abs, most_rows, most_family_nodes, MemoryPart, SubsetRowPart, is_node, is_set_of, are_memory_lists, is_row_of, are_subset_rows}
 use Rattle.std.proofs.lemmas.List.Sums.{fold-append, sum_by_push}
 use Rattle.tsp_format.specs.Steps.{SubsetRow, row_size}

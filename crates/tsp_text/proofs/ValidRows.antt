@@ -1,4 +1,5 @@
--- What follows if no row of the table of faults applies to an item, and what stays true as a text grows.
+-- What follows if no row of the table of faults applies to an item, and what stays true as a text grows. Most files
+-- here rest on it, and the reader's proofs in tsp_read, too.
 use Rattle.tsp_text.proofs.Prelude.{◌≡◌, ℕ, Bool, true, false, List, [], ◌∷◌, refl, Option, Some, None, cond, sym, ap, subst, ◌∙◌, Result, Ok, Err, ◌++◌, true≢false, false≢true, AllByRecursion, find, option_map, option_and_then, option_map_or, not, ◌&&◌, ℤ, is_some, unwrap_or, nat_abs, nat_lt, ◌||◌, result_ok, result_err, is_section_field, most_line_bytes, field_word, fields_in_order, field_found, weighs_three, has_three, Field, DimensionKey, TourPart, NameKey, TypeKey, CommentKey, OtherKey, CapacityKey, ScaleKey, LoadUnitKey, EdgeWeightTypeKey, EdgeWeightFormatKey, NodeCoordTypeKey, DisplayDataTypeKey, NodeCoordPart, DisplayDataPart, DemandPart, DepotPart, FixedEdgesPart, EdgeWeightPart, NodePotentialPart, RowPotentialPart, ColumnPotentialPart, FixedEdgePotentialPart, FamilyPart, MemoryPart, SubsetRowPart, BranchPart, Known, EdgeDataFormat, EdgeDataSection, Eof, Unknown}
 use Rattle.std.proofs.Math.Bool.{or-false, or_comm}
 use Rattle.std.proofs.lemmas.Option.{none-some, same_Some, cond_some}

@@ -1,5 +1,5 @@
 -- The steps of a section without a fault: each in its range, no more than may be, and a whole tree if no more are
--- wanted.
+-- wanted. For ValidItems.antt.
 use Rattle.tsp_text.proofs.Prelude.{◌≡◌, ℕ, zero, suc, ◌+◌, ◌-◌, ◌≤◌, Bool, true, false, cond, List, [], ◌∷◌, ◌++◌, length, refl, sym, ap, subst, ◌∙◌, Option, None, Some, Result, Ok, Err, arith, not, ◌==◌, ◌&&◌, ℤ, pos, negsuc, neg_ℤ, nat_le, nat_abs, int_le, list_all, result_err, true≢false, false≢true, and_from, and_parts, not_from_false, le-leb, leb-false, nat_tests, append_assoc, append-nil, length_push, BranchPart, most_families, most_rows, most_branches, most_changes, most_difference, is_from_to, is_within, is_node, is_branch_of, is_change, is_step, are_tree_steps}
 use Rattle.std.specs.Ordering.{int_eq}
 use Rattle.std.proofs.lemmas.List.Sums.{fold-append}
@@ -85,7 +85,7 @@ read_first n word = by_result (index_or_leaf n word) (λ z read. whole_in_range 
     by_result (Ok z) each e other = let found = first_node (n + most_families) z (each z refl) other in (found.0, ap (λ y. Ok y) found.1, found.2)
     by_result (Err fault) each e other = absurd cc
 
--- ---- one word more, where the tree isn't whole
+-- ---- one word more, if the tree isn't whole
 
 -- plan: by whether the word begins a leaf; else it is the first number of a branch (`read_first`), within the limit
 first_holds : (n : ℕ) (s : TreeSoFar) (word : List ℕ) (leaf : Bool) → begins_leaf n word ≡ leaf

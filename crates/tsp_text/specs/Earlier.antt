@@ -223,11 +223,11 @@ place_by Memories n words = place_of_memory n words
 place_by SubsetRows n words = place_of_row n words
 place_by Steps n words = place_of_step n words
 
--- the same of a section, in a spatial file or in another; no other field has words
+-- the same for a section, in a spatial file or in another; no other field has words
 abbrev pub place_in : Bool → Field → ℕ → List (List ℕ) → Place
 place_in in_space field n words = option_map_or (λ shape. place_by shape n words) (shape_of in_space field) PastEnd
 
--- n, the value of DIMENSION; 0 where there is none (a section other than the tours is then a fault)
+-- n, the value of DIMENSION; 0 if there is none (a section other than the tours is then a fault)
 abbrev pub dimension_in : List Item → ℕ
 dimension_in earlier = unwrap_or (dimension_of earlier) 0
 

@@ -1,8 +1,9 @@
 -- Small texts for src/examples.rt, and short names for what they parse to or for their first fault. In them `/` means
--- byte 10.
-use Rattle.tsp_text.specs.Prelude.{ℕ, true, false, cond, List, [], map, replicate, None, Some, codes, pos, negsuc, Field, NumberFault}
+-- byte 10. No other contract uses them.
+use Rattle.tsp_text.specs.Prelude.{ℕ, Bool, true, false, cond, not, List, [], map, replicate, None, Some, codes, pos, negsuc, Field, NumberFault}
 use Rattle.std.specs.Prelude.{◌≡◌, ◌==◌, ◌∷◌, ◌++◌}
 use Rattle.tsp_format.specs.Steps.{Branch, Leaf}
+use Rattle.tsp_format.specs.Words.{field_word}
 use Rattle.tsp_number.specs.Distances.{on_plane}
 use Rattle.tsp_file.specs.declared.rules.EndFault.{EndFault}
 use Rattle.tsp_file.specs.declared.rules.EndFault.TheVariants.{Missing}
@@ -12,7 +13,7 @@ use Rattle.tsp_text.specs.declared.fault.ReadFault.TheVariants as faults
 use Rattle.tsp_text.specs.Items.{line_item}
 use Rattle.tsp_text.specs.MemoryWords.{row_with}
 use Rattle.tsp_text.specs.SectionWords.{Place}
-use Rattle.tsp_text.specs.FaultRows.{is_surplus, is_surplus_at}
+use Rattle.tsp_text.specs.FaultRows.{is_surplus, is_surplus_at, repeats_keyword}
 use Rattle.tsp_text.specs.ParsesTo.{spelled, part, fault}
 
 -- byte 10 in place of `/`
@@ -27,7 +28,7 @@ text bytes = map newline bytes
 abbrev pub FaultAt : List ℕ → ℕ → ℕ → LineFault → Type 0
 FaultAt bytes line word found = fault (text bytes) ≡ Some (faults.Line line word found)
 
--- the same, where it is the fault of a number
+-- the same, if it is the fault of a number
 abbrev pub IsNumberFault : List ℕ → ℕ → ℕ → NumberFault → Type 0
 IsNumberFault bytes line word found = FaultAt bytes line word (Number found)
 
@@ -46,6 +47,10 @@ OthersAre bytes keyword value = (spelled (part (text bytes))).others ≡ (keywor
 -- the text parses to a file with the tours (3) and (4, 5)
 abbrev pub ToursAre : List ℕ → Type 0
 ToursAre bytes = (fault (text bytes) ≡ None) × ((spelled (part (text bytes))).tours ≡ Some ((3 ∷ []) ∷ (4 ∷ 5 ∷ []) ∷ []))
+
+-- it parses to a file with the depots 2 and 3
+abbrev pub DepotsAre : List ℕ → Type 0
+DepotsAre bytes = (fault (text bytes) ≡ None) × ((spelled (part (text bytes))).depots ≡ Some (2 ∷ 3 ∷ []))
 
 -- it parses to a file with the fixed pairs (1, 2) and (3, 1)
 abbrev pub PairsAre : List ℕ → Type 0
@@ -102,6 +107,14 @@ longest_line = codes "COMMENT" ++ replicate 4089 32
 abbrev pub long_line : List ℕ
 long_line = codes "COMMENT" ++ replicate 4090 32
 
+-- one of 4097 bytes whose keyword is unknown, without a colon
+abbrev pub long_unknown_line : List ℕ
+long_unknown_line = codes "FOO" ++ replicate 4094 32
+
+-- two lines of TYPE, the second of 4097 bytes
+abbrev pub long_second_line : List ℕ
+long_second_line = codes "TYPE : TSP/TYPE" ++ replicate 4093 32
+
 -- a word of 65 digits
 abbrev pub long_word : List ℕ
 long_word = replicate 65 49
@@ -109,6 +122,18 @@ long_word = replicate 65 49
 -- the line of an unknown keyword of three bytes, with this many bytes as its value
 abbrev pub filled_line : ℕ → List ℕ
 filled_line count = codes "FOO:" ++ replicate count 120
+
+-- a line without a colon that is too long to be kept
+abbrev pub filled_words : ℕ → List ℕ
+filled_words count = codes "FOO " ++ replicate count 120
+
+-- a second line with the keyword of this field repeats it
+abbrev pub is_repeated_by : Field → Bool
+is_repeated_by field = repeats_keyword (line_item (field_word field) ∷ []) (line_item (field_word field))
+
+-- a second line with it doesn't
+abbrev pub may_come_twice : Field → Bool
+may_come_twice field = not (is_repeated_by field)
 
 -- one line more is one too many after `past` lines with this text, and not after `last`
 abbrev pub IsLimitOfLines : ℕ → ℕ → List ℕ → Type 0

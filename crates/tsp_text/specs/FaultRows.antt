@@ -13,7 +13,7 @@ use Rattle.tsp_text.specs.Items.{is_not_empty, first_word, WordLine, Item, Line,
 use Rattle.tsp_text.specs.Earlier.{same_field, has_line, values_at, others_in, open_section, is_unknown_word, is_left_out, has_number, read_as, is_kept_as_is, says_space, spatial_after, dimension_in, next_place}
 use Rattle.tsp_text.specs.SectionWords.{reads_as, node, whole_of_size, node_or_end, is_end, is_minus_one, Place, NodeAfter, Coordinate, Amount, PastGroups, DepotAfter, FirstAfter, SecondOf, PastEnd, Weight, PastWeights, TourNode, SetNode, StepAfter, IndexAfter, index_or_leaf, begins_leaf, index_or_end, ends_leaf}
 
--- a test of a word at its place, where a section is open
+-- a test of a word at its place, if a section is open
 abbrev pub at_place : (ℕ → Place → List ℕ → Bool) → List Item → List ℕ → Bool
 at_place test earlier word = option_map_or (λ place. test (dimension_in earlier) place word) (next_place earlier) false
 

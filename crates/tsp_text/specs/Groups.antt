@@ -223,7 +223,7 @@ nodes_by (Some Points) n words = nodes_of_groups (point_groups n words)
 nodes_by (Some SpacePoints) n words = nodes_of_groups (space_point_groups n words)
 nodes_by shape n words = []
 
--- the same of a section, in a spatial file or in another
+-- the same for a section, in a spatial file or in another
 abbrev pub group_nodes : Bool → Field → ℕ → List (List ℕ) → List ℤ
 group_nodes in_space field n words = nodes_by (shape_of in_space field) n words
 
@@ -267,7 +267,7 @@ with_set so_far = record so_far { sets = so_far.sets ++ so_far.nodes ∷ []; nod
 abbrev pub with_family : FamiliesSoFar → FamiliesSoFar
 with_family so_far = record so_far { families = so_far.families ++ so_far.sets ∷ []; sets = [] }
 
--- a -1: it ends the set that isn't whole; where there is none, the family; where there is none, the section
+-- a -1: it ends the set that isn't whole; if there is none, the family; if there is none, the section
 abbrev pub with_end : FamiliesSoFar → FamiliesSoFar
 with_end so_far = cond (is_not_empty so_far.nodes) (with_set so_far)
     (cond (is_not_empty so_far.sets) (with_family so_far) (record so_far { ended = true }))

@@ -57,7 +57,7 @@ is_colon b = b == 58
 abbrev pub has_colon : List ℕ → Bool
 has_colon text = begins is_colon (after_keyword text)
 
--- the value: the bytes after the colon, or after the keyword where there is none, without blanks at either end
+-- the value: the bytes after the colon, or after the keyword if there is none, without blanks at either end
 abbrev pub value_in : List ℕ → List ℕ
 value_in text = without_end (without_start (drop (cond (has_colon text) 1 0) (after_keyword text)))
 
@@ -106,7 +106,7 @@ items_of bytes = items_by items_in (lines_of bytes)
 
 -- ---- the items that are settled, whatever bytes follow
 
--- the pieces of a line between blanks that another piece follows, and the last one where it is longer than any number
+-- the pieces of a line between blanks that another piece follows, and the last one if it is longer than any number
 -- word
 abbrev pub settled_pieces : List (List ℕ) → List (List ℕ)
 settled_pieces [] = []
@@ -117,7 +117,7 @@ settled_pieces (piece ∷ next ∷ pieces) = piece ∷ settled_pieces (next ∷ 
 abbrev pub settled_words : List ℕ → List (List ℕ)
 settled_words line = filter is_not_empty (settled_pieces (slice_split is_blank line))
 
--- a word line that goes on is settled where it is longer than any word line
+-- a word line that goes on is settled if it is longer than any word line
 abbrev pub settled_line : List ℕ → List Item
 settled_line text = cond (nat_lt most_line_bytes (length text)) (line_item text ∷ []) []
 
@@ -132,7 +132,7 @@ settled_items bytes = items_by settled_in (lines_of bytes)
 
 -- ---- the end line
 
--- the line EOF, which ends the file
+-- the EOF line, which ends the file
 abbrev pub is_end_line : Item → Bool
 is_end_line (Line (Known field) line) = false
 is_end_line (Line EdgeDataFormat line) = false
@@ -145,7 +145,7 @@ is_end_line LineEnd = false
 abbrev pub has_end_line : List Item → Bool
 has_end_line items = list_any is_end_line items
 
--- the items up to and with the first line EOF; items after it don't count
+-- the items up to and with the first EOF line; items after it don't count
 abbrev pub to_end_line : List Item → List Item
 to_end_line [] = []
 to_end_line (item ∷ items) = item ∷ cond (is_end_line item) [] (to_end_line items)
@@ -172,7 +172,7 @@ word_number earlier (Line key line) = 0
 word_number earlier (NumberWord word) = words_before earlier + 1
 word_number earlier LineEnd = 0
 
--- ---- what holds of every item that is cut from a text
+-- ---- what holds for every item that is cut from a text
 
 -- no byte ends a line
 abbrev pub has_no_line_end : List ℕ → Bool

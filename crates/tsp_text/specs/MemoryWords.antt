@@ -32,7 +32,7 @@ with_memory_node so_far node = record so_far { nodes = so_far.nodes ++ node ∷ 
 abbrev pub with_list : MemoriesSoFar → MemoriesSoFar
 with_list so_far = record so_far { lists = so_far.lists ++ so_far.nodes ∷ []; nodes = [] }
 
--- a -1: it ends the list that isn't whole; where there is none, the section
+-- a -1: it ends the list that isn't whole; if there is none, the section
 abbrev pub with_list_end : MemoriesSoFar → MemoriesSoFar
 with_list_end so_far = cond (is_not_empty so_far.nodes) (with_list so_far) (record so_far { ended = true })
 
@@ -91,7 +91,7 @@ row_with set further = record { set = set; further = further }
 abbrev pub with_row : RowsSoFar → RowsSoFar
 with_row so_far = record so_far { rows = so_far.rows ++ row_with so_far.set so_far.nodes ∷ []; set = []; nodes = [] }
 
--- a -1: after the set of a row it ends the row; else it ends the set that isn't whole; where there is none, the section
+-- a -1: after the set of a row it ends the row; otherwise the set that isn't whole, or if there is none, the section
 abbrev pub with_row_end : RowsSoFar → RowsSoFar
 with_row_end so_far = cond (is_not_empty so_far.set) (with_row so_far)
     (cond (is_not_empty so_far.nodes) (with_row_set so_far) (record so_far { ended = true }))

@@ -1,6 +1,6 @@
 -- Circle 2 of docs/trust.md.
 -- Which file a text parses to, or its first fault, and the printed words for each fault. Every text has exactly one of
--- the two. All that is said of files elsewhere reaches a user's bytes through `ParsesTo`.
+-- the two. tsp_read promises to find it, and every statement about a file reaches a user's bytes through `ParsesTo`.
 use Rattle.tsp_text.specs.Prelude.{find, filter, ℕ, List, codes, decimal, [], Option, None, Some, Bool, true, false, cond, ℤ, pos, neg_ℤ, not, nat_lt, length, take, reverse, Result, Ok, Err, number_fault_text, most_demand, most_potential, is_section_field, most_file_bytes, most_matrix_nodes, Field, NameKey, TypeKey, CommentKey, CapacityKey, ScaleKey, LoadUnitKey, EdgeWeightTypeKey, EdgeWeightFormatKey, NodeCoordTypeKey, DisplayDataTypeKey, NodeCoordPart, DisplayDataPart, DemandPart, DepotPart, FixedEdgesPart, EdgeWeightPart, TourPart, NodePotentialPart, RowPotentialPart, ColumnPotentialPart, FixedEdgePotentialPart, FamilyPart, MemoryPart, SubsetRowPart, BranchPart}
 use Rattle.std.specs.Option.{option_or, option_map}
 use Rattle.std.specs.Prelude.{◌++◌, ◌≡◌, ◌∷◌, ◌&&◌}
@@ -88,7 +88,7 @@ potentials_by_node n words = numbers_by_node (neg_ℤ (pos most_potential)) (pos
 abbrev pub demands_in : ℕ → List (List ℕ) → List ℤ
 demands_in n words = numbers_by_node (pos 0) (pos most_demand) n words
 
--- the value of a section by its words, where `stands` says that it is present
+-- the value of a section by its words, if `stands` says that it is present
 abbrev pub section_value : {A : Type 0} → (Field → Bool) → (List (List ℕ) → A) → Field → List Item → Option A
 section_value stands value field items = cond (stands field) (Some (value (words_of field items))) None
 
@@ -124,7 +124,7 @@ fields_by stands items = record {
   branches = section_value stands (whole_steps (dimension_in items)) BranchPart items;
 }
 
--- a section is present where a line opens it
+-- a section is present if a line opens it
 abbrev pub stands : List Item → Field → Bool
 stands items field = has_line field items
 
@@ -175,7 +175,7 @@ fault_at_end items = end_fault (standing_of (spelled items)) (first_incomplete i
 abbrev pub is_too_long : List ℕ → Bool
 is_too_long bytes = nat_lt most_file_bytes (length bytes)
 
--- The items that count, the last one first: all of them up to and with the line EOF. Of a text that is too long those
+-- The items that count, the last one first: all of them up to and with the EOF line. Of a text that is too long those
 -- that are settled in the bytes that a file may have.
 abbrev pub part : List ℕ → List Item
 part bytes = reverse (to_end_line (cond (is_too_long bytes) (settled_items (take most_file_bytes bytes)) (items_of bytes)))
@@ -197,7 +197,7 @@ pub record ParsesTo (bytes : List ℕ) (file : Fields) : Type 0 where
 abbrev pub settled_part : List ℕ → List Item
 settled_part bytes = reverse (to_end_line (settled_items (take most_file_bytes bytes)))
 
--- the fault of a text that begins with these bytes, where they decide it
+-- the fault of a text that begins with these bytes, if they decide it
 abbrev pub settled_fault : List ℕ → Option ReadFault
 settled_fault bytes = first_row
     (fault_in (settled_part bytes) ∷ when (is_too_long bytes && not (has_end_line (settled_part bytes))) faults.TooLong ∷ [])

@@ -1,18 +1,23 @@
-//! Small texts, each with its file or its first fault, worked out by hand from docs/format.md and
-//! stated as laws. They hold the rows of `specs/FaultRows.antt` in place; a new fault or limit
-//! belongs in here too.
+//! Laws that state for small texts, worked out by hand from docs/format.md, which file each is or
+//! which first fault it has. No code calls them. If someone makes the same mistake in a definition
+//! and in the code, every contract still holds, but one of these laws fails, so a new fault or
+//! limit needs a row here.
 
-ghost use Rattle.tsp_text.specs.Prelude.{codes, decimal, ℕ, List, length, IsTrue, true, false, IsShort, most_coordinate, most_word_bytes};
-ghost use Rattle.std.specs.Prelude.{◌≡◌, ◌≤◌, ◌++◌, Some};
+ghost use Rattle.tsp_text.specs.Prelude.{[], codes, decimal, ℕ, List, filter, length, replicate, IsTrue, true, false, IsShort, most_coordinate, most_word_bytes};
+ghost use Rattle.std.specs.Prelude.{◌≡◌, ◌≤◌, ◌∷◌, ◌++◌, None, Some, pos};
 ghost use Rattle.tsp_number.specs.Decimal.{most_count};
 ghost use Rattle.tsp_number.specs.declared.word.NumberFault.TheVariants as numbers;
+ghost use Rattle.tsp_format.specs.Words.{fields_in_order};
 ghost use Rattle.tsp_format.specs.declared.keyword.Field.TheVariants as fields;
+ghost use Rattle.tsp_format.specs.declared.keyword.Shape.TheVariants as shapes;
 ghost use Rattle.tsp_file.specs.declared.rules.EndFault.TheVariants as ends;
 ghost use Rattle.tsp_text.specs.declared.fault.LineFault.TheVariants as faults;
 ghost use Rattle.tsp_text.specs.declared.fault.ReadFault.TheVariants as reads;
-ghost use Rattle.tsp_text.specs.ParsesTo.{line_fault_text, read_fault_text};
-ghost use Rattle.tsp_text.specs.Examples.{FaultAt, IsNumberFault, MissingAtEnd, EndsWithFault, OthersAre, ToursAre, PairsAre, TriplesAre, FamilyIs, MemoryIs, RowsAre, TreeIs, DemandsAre, HasSpacePoint, HasPlanePoint, quad, longest_line, long_line, long_word, filled_line, IsLimit, IsLimitOfLines};
-ghost use Rattle.tsp_text.specs.FaultRows.{is_surplus_at, word_fault};
+ghost use Rattle.tsp_text.specs.Groups.{has_groups, nodes_by};
+ghost use Rattle.tsp_text.specs.Items.{line_item};
+ghost use Rattle.tsp_text.specs.ParsesTo.{is_of_text, is_too_long, line_fault_text, read_fault_text};
+ghost use Rattle.tsp_text.specs.Examples.{FaultAt, IsNumberFault, MissingAtEnd, EndsWithFault, OthersAre, ToursAre, DepotsAre, PairsAre, TriplesAre, FamilyIs, MemoryIs, RowsAre, TreeIs, DemandsAre, HasSpacePoint, HasPlanePoint, quad, longest_line, long_line, long_unknown_line, long_second_line, long_word, filled_line, filled_words, may_come_twice, IsLimit, IsLimitOfLines};
+ghost use Rattle.tsp_text.specs.FaultRows.{is_surplus_at, row_of, word_fault};
 ghost use Rattle.tsp_text.specs.SectionWords.{DepotAfter, FirstAfter, TourNode, SetNode, StepAfter, IndexAfter};
 
 /// The first faults of some texts of word lines. In the texts, `/` separates lines.
@@ -30,6 +35,11 @@ pub fn faults_of_word_lines()
     ensures refused_section { FaultAt (codes "EDGE_DATA_SECTION") 1 0 faults.Outside }
     ensures not_accepted { FaultAt (codes "TYPE : FOO") 1 0 faults.BadValue }
     ensures no_value { FaultAt (codes "TYPE") 1 0 faults.BadValue }
+    ensures longer_word { FaultAt (codes "TYPE : TSPX") 1 0 faults.BadValue }
+    ensures shorter_word { FaultAt (codes "TYPE : TS") 1 0 faults.BadValue }
+    ensures no_layout { FaultAt (codes "EDGE_WEIGHT_FORMAT : FULL") 1 0 faults.BadValue }
+    ensures no_coordinates { FaultAt (codes "NODE_COORD_TYPE : NONE") 1 0 faults.BadValue }
+    ensures no_display { FaultAt (codes "DISPLAY_DATA_TYPE : GRID") 1 0 faults.BadValue }
     ensures twice { FaultAt (codes "TYPE : TOUR/TYPE : HCP") 2 0 faults.Repeated }
     ensures no_number { IsNumberFault (codes "DIMENSION : x") 1 0 numbers.BadNumber }
     ensures empty_number { FaultAt (codes "DIMENSION :") 1 0 faults.BadValue }
@@ -42,6 +52,13 @@ pub fn faults_of_word_lines()
         (codes "DIMENSION : 2/FIXED_EDGES/1 2/FIXED_EDGES x") 4 0 faults.Repeated }
     ensures refused_and_valued { FaultAt (codes "EDGE_DATA_SECTION x") 1 0 faults.Outside }
     ensures long { FaultAt long_line 1 0 faults.LongLine }
+    ensures long_and_unknown { FaultAt long_unknown_line 1 0 faults.LongLine }
+    ensures long_and_twice { FaultAt long_second_line 2 0 faults.LongLine }
+    ensures unknown_and_too_long { FaultAt (filled_words 3998) 1 0 faults.UnknownLine }
+    ensures too_long_past_the_limit { row_of (replicate 1000 (line_item (filled_line 1)))
+        (line_item (filled_line 3998)) ≡ Some faults.BadValue }
+    ensures twice_at_most { filter may_come_twice fields_in_order
+        ≡ fields.CommentKey ∷ fields.OtherKey ∷ [] }
     ensures late { FaultAt
         (codes "TYPE : TSP/DIMENSION : 1/NODE_COORD_SECTION/1 0 0/EDGE_WEIGHT_TYPE : EUC_3D")
         5 0 faults.LateSpace }
@@ -117,6 +134,8 @@ pub fn faults_of_words()
         3 3 faults.RepeatedNode }
     ensures past_the_groups { FaultAt
         (codes "DIMENSION : 2/DEMAND_SECTION/1 0 2 5 7") 3 5 faults.Surplus }
+    ensures other_spelling_past_the_groups { FaultAt
+        (codes "DIMENSION : 2/DEMAND_SECTION/1 0 2 5 -1.0") 3 5 faults.Surplus }
     ensures zero_in_a_tour { IsNumberFault (codes "TOUR_SECTION/1 0 2") 2 2 numbers.OutOfRange }
     ensures third_in_the_plane { FaultAt
         (codes "DIMENSION : 1/NODE_COORD_SECTION/1 0 0 5") 3 4 faults.Surplus }
@@ -141,6 +160,11 @@ pub fn faults_at_the_end()
         (codes "DIMENSION : 2/DEMAND_SECTION/1 0 2 5 -1") fields.TypeKey }
     ensures after_the_end_line { MissingAtEnd (codes "TYPE : TSP/EOF/FOO") fields.DimensionKey }
     ensures end_line_with_a_value { MissingAtEnd (codes " EOF : x/FOO") fields.TypeKey }
+    ensures words_after_the_first { MissingAtEnd
+        (codes "TYPE : TOUR (a route)/DIMENSION : 3 nodes/SCALE 5 5") fields.TourPart }
+    ensures first_of_two { EndsWithFault
+        (codes "TYPE : TOUR/DIMENSION : 3/COMB_SECTION/1 2/FIXED_EDGES_SECTION/1/TOUR_SECTION")
+        (ends.Incomplete fields.FixedEdgesPart) }
     ensures cut_pair { EndsWithFault
         (codes "TYPE : TOUR/DIMENSION : 3/FIXED_EDGES_SECTION/1 2 3/TOUR_SECTION")
         (ends.Incomplete fields.FixedEdgesPart) }
@@ -265,6 +289,12 @@ pub fn fields_of_texts()
     ensures no_value { OthersAre (codes "FOO: ") (codes "FOO") (codes "") }
     ensures colon_in_value { OthersAre (codes "FOO :BAR : X ") (codes "FOO") (codes "BAR : X") }
     ensures tours { ToursAre (codes "TYPE:TOUR/TOUR_SECTION/3 -1 -1/4 5/EOF") }
+    ensures depots { DepotsAre
+        (codes "TYPE:TOUR/DIMENSION 3/DEPOT_SECTION/2 +3 -1.0/TOUR_SECTION") }
+    ensures depots_without_an_end { DepotsAre
+        (codes "TYPE:TOUR/DIMENSION 3/DEPOT_SECTION/2/3/TOUR_SECTION") }
+    ensures pairs_without_an_end { PairsAre
+        (codes "TYPE:TOUR/DIMENSION 3/FIXED_EDGES/1 2/3 1/TOUR_SECTION") }
     ensures pairs { PairsAre
         (codes "TYPE:TOUR/DIMENSION 3/FIXED_EDGES/1 2 +3 1.0 -1/TOUR_SECTION") }
     ensures triples { TriplesAre (codes
@@ -293,9 +323,11 @@ pub fn fields_of_texts()
 {}
 
 /// The limits that tsp_number has are those of a file: the most bytes of a number word, and the
-/// largest coordinate.
+/// largest coordinate. A text of 2^30 bytes isn't too long, and one of a byte more is.
 pub fn limits_agree()
     ensures coordinate { most_count ≡ most_coordinate }
+    ensures longest_text { (bytes : List ℕ) → length bytes ≡ 1073741824 → is_too_long bytes ≡ false }
+    ensures longer_text { (bytes : List ℕ) → length bytes ≡ 1073741825 → is_too_long bytes ≡ true }
     ensures no_more_bytes { (word : List ℕ) → IsShort word → length word ≤ most_word_bytes }
     ensures no_fewer_bytes { (word : List ℕ) → length word ≤ most_word_bytes → IsShort word }
 {}
@@ -323,4 +355,34 @@ pub fn examples_of_fault_texts()
     ensures out_of_memory { read_fault_text reads.OutOfMemory ≡ codes "out of memory" }
     ensures device { read_fault_text reads.Device ≡ codes "device" }
     ensures too_long { read_fault_text reads.TooLong ≡ codes "too long" }
+{}
+
+/// Which shapes of sections have a group for each node, and the nodes of groups in the order of the
+/// text. A group that isn't complete is left out, and so are words after n groups.
+#[tactic(auto, unfolding(tsp_number::specs::NumberWord::decimal_of, tsp_number::specs::NumberWord::whole_of))]
+pub fn examples_of_groups()
+    ensures numbers { has_groups (Some (shapes.Numbers (pos 0) (pos 9))) ≡ true }
+    ensures points { has_groups (Some shapes.Points) ≡ true }
+    ensures points_in_space { has_groups (Some shapes.SpacePoints) ≡ true }
+    ensures weights { has_groups (Some shapes.Weights) ≡ false }
+    ensures tours { has_groups (Some shapes.Tours) ≡ false }
+    ensures keyword { has_groups None ≡ false }
+    ensures nodes_of_numbers { nodes_by (Some (shapes.Numbers (pos 0) (pos 9))) 2
+        (codes "2" ∷ codes "7" ∷ codes "1" ∷ codes "0" ∷ []) ≡ pos 2 ∷ pos 1 ∷ [] }
+    ensures nodes_of_points { nodes_by (Some shapes.Points) 2
+        (codes "2" ∷ codes "7" ∷ codes "5" ∷ codes "1" ∷ codes "0" ∷ codes "0" ∷ []) ≡ pos 2 ∷ pos 1 ∷ [] }
+    ensures nodes_in_space { nodes_by (Some shapes.SpacePoints) 2
+        (codes "2" ∷ codes "7" ∷ codes "5" ∷ codes "1" ∷ []) ≡ pos 2 ∷ [] }
+    ensures past_the_groups { nodes_by (Some (shapes.Numbers (pos 0) (pos 9))) 1
+        (codes "1" ∷ codes "7" ∷ codes "1" ∷ codes "0" ∷ []) ≡ pos 1 ∷ [] }
+    ensures no_groups { nodes_by (Some shapes.Tours) 2 (codes "2" ∷ codes "1" ∷ []) ≡ [] }
+{}
+
+/// Which faults are those of a text: not that memory was refused, or that a reader failed.
+pub fn examples_of_faults_of_texts()
+    ensures line { is_of_text (reads.Line 1 0 faults.UnknownLine) ≡ true }
+    ensures end { is_of_text (reads.End ends.WrongCount) ≡ true }
+    ensures too_long { is_of_text reads.TooLong ≡ true }
+    ensures memory { is_of_text reads.OutOfMemory ≡ false }
+    ensures device { is_of_text reads.Device ≡ false }
 {}

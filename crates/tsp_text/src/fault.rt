@@ -1,5 +1,6 @@
-//! Why a text isn't a file: `LineFault` for a line or a word, `ReadFault` for the whole read. Their
-//! texts are printed, and listed in docs/format.md.
+//! Why a text isn't a valid file: `LineFault` for a line or a word, `ReadFault` for the whole read.
+//! tsp_read returns them. `specs/ParsesTo.antt` pins their printed texts, which docs/format.md
+//! lists.
 //!
 //! A new variant needs its row in `specs/FaultRows.antt` and its text in `specs/ParsesTo.antt`.
 //! tsp_report, tsp_explain and tsp_c name every variant, too.
@@ -82,14 +83,14 @@ pub enum ReadFault {
         word: u32,
         fault: LineFault,
     },
-    /// No line has a fault, but the lines together are no file.
+    /// No line has a fault, but the lines together aren't a valid file.
     End(EndFault),
     /// Out of memory.
     OutOfMemory,
     /// A read failed.
     Device,
-    /// There are more than 1,073,741,824 bytes, and the first of them have neither a fault nor a
-    /// line EOF.
+    /// There are more than 1,073,741,824 bytes, and the first of them have neither a fault nor an
+    /// EOF line.
     TooLong,
 }
 

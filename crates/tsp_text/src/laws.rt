@@ -1,6 +1,6 @@
-//! Why a text may be read in pieces: it has exactly one answer, its file or its first fault, and
-//! what is settled stays settled whatever bytes follow. Nothing runs here; tsp_read cites these
-//! laws in its proofs.
+//! Laws that say why a text may be read in pieces: it has exactly one answer, its file or its first
+//! fault, and what is settled stays settled, whatever bytes follow. Proofs in tsp_read rest on
+//! them.
 
 ghost use Rattle.tsp_text.specs.Prelude.{ℕ, List, Some, true, None, false, Field, BranchPart};
 ghost use Rattle.std.specs.Prelude.{◌≡◌, ◌≢◌, ◌++◌};

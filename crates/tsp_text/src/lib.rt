@@ -1,7 +1,7 @@
 //! Which file a text parses to, or its first fault: definitions, laws, and the type of a fault.
 //!
 //! The definitions in `specs/` take a text apart into lines and words, and the laws say what holds
-//! of every text, whoever reads it. The code that reads texts is in tsp_read.
+//! for every text, whoever reads it. The code that reads texts is in tsp_read.
 //!
 //! ```text
 //! texts_have_one_answer();

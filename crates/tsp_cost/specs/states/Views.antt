@@ -62,7 +62,7 @@ matrix_nodes m = m.nodes
 abbrev pub matrix_cost : Matrix → ℕ → ℕ → ℤ
 matrix_cost m i j = listed_cost FullMatrix m.nodes m.weights.now i j
 
--- the same of a full matrix with symmetric costs
+-- the same for a full matrix with symmetric costs
 abbrev pub even_nodes : EvenMatrix → ℕ
 even_nodes e = matrix_nodes e.matrix
 
@@ -82,7 +82,7 @@ pub record HasCosts (f : Fields) (nodes : ℕ) (costs : ℕ → ℕ → ℤ) : T
   pub count : f.dimension ≡ Some nodes
   pub every : (i j : ℕ) → costs i j ≡ cost f i j
 
--- a view of the file: points where its weights are distances, a matrix where all are listed, a triangle where half of
+-- a view of the file: points if its weights are distances, a matrix if all are listed, a triangle if half of
 -- them are
 abbrev pub IsViewOf : Fields → View → Type 0
 IsViewOf f (views.Plane p) = (is_explicit f.weight_kind ≡ false)

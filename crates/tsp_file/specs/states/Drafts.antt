@@ -37,10 +37,10 @@ past_own LowerCol n row = n + 1
 past_own UpperDiagCol n row = row + 1
 past_own LowerDiagCol n row = n + 1
 
--- ---- what holds of a file whose weights get into another layout in one of four ways
+-- ---- what holds for a file whose weights get into another layout in one of four ways
 
 -- the weights are in that layout; or they are a full matrix; or half of one, to be made full; or these weights are
--- listed anew
+-- listed again
 abbrev pub LeadsTo : Fields → Layout → Way → Type 0
 LeadsTo f to Already = (f.weight_format ≡ Some (Listed to)) × (f.weights ≡ Some (costs_in to (nodes_of f) (cost f)))
 LeadsTo f to Within = f.weight_format ≡ Some (Listed FullMatrix)
@@ -104,7 +104,7 @@ HasLaterLines from n line half full = (l k : ℕ) → line < l → l ≤ n → k
     ≡ listed_cost from n half (slice_index_or (cells_of_line from n l) k (0, 0)).0
     (slice_index_or (cells_of_line from n l) k (0, 0)).1
 
--- After a loop the cells that had their cost have it, and so have the cells of which Kind holds.
+-- After a loop the cells that had their cost have it, and so have the cells for which Kind holds.
 abbrev pub Fills : (ℕ → ℕ → ℤ) → ℕ → List ℤ → List ℤ → (ℕ → ℕ → Type 0) → Type 0
 Fills cost n old new Kind = KeepsCosts cost n old new
     × ((i j : ℕ) → IsNode n i → IsNode n j → Kind i j → IsCostOfCell cost n new i j)

@@ -1,6 +1,6 @@
-//! Writes EDGE_WEIGHT_SECTION, a line for each line of the layout (`matrix_lines` in
-//! `specs/CanonicalText.antt`). It is by far the longest section of most files that have one, so
-//! numbers are written into blocks of bytes here, and not one by one.
+//! Writes EDGE_WEIGHT_SECTION, a line for each line of the layout, for `writer.rt`. `matrix_lines`
+//! in `specs/CanonicalText.antt` pins the bytes. The section can be very long, so numbers are
+//! written into blocks of bytes, for speed.
 
 ghost use Rattle.tsp_file.specs.Prelude.{decimal, flat_map, option_map, length, map, drop, IfSome, cells_of_line, nodes_to};
 ghost use Rattle.std.specs.Fmt.{signed_decimal};

@@ -1,6 +1,6 @@
 //! Writes the sections of a canonical text that list points or numbers by node, nodes, pairs,
-//! triples, or tours. Each line is fixed by `specs/CanonicalText.antt`; a point's line is built in
-//! one block of bytes, for speed.
+//! triples, or tours, for `writer.rt`. `specs/CanonicalText.antt` pins each line; a point's line is
+//! built in one block of bytes, for speed.
 
 ghost use Rattle.tsp_file.specs.Prelude.{decimal, flat_map, option_map, [], map, cond, length, drop, field_word};
 ghost use Rattle.std.specs.Fmt.{signed_decimal};

@@ -1,5 +1,5 @@
--- The steps and subset rows of Steps.antt where code holds them as vectors (`TreeStep` and `RowSets`, src/steps.rt). A
--- bridge between the two, and nothing more.
+-- The steps and subset rows of Steps.antt for those that code holds as vectors (`TreeStep` and `RowSets`,
+-- src/steps.rt).
 use Rattle.std.specs.Prelude.{List, map}
 use Rattle.tsp_format.specs.declared.steps.RowSets.{RowSets}
 use Rattle.tsp_format.specs.declared.steps.TreeStep.{TreeStep}

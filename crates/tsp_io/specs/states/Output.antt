@@ -1,5 +1,5 @@
--- What the code of this crate keeps of a writer (`Output`), and `Puts`, by which functions say that they added bytes to a
--- text on its way out.
+-- What the code of this crate keeps of a writer (`Output`), and `Puts`, by which functions say that they added bytes to
+-- a text on its way out. Functions that write lines, here and in crates above, promise `Puts`.
 use Rattle.std.specs.Io.KnownBytes.{Appends}
 use Rattle.std.specs.IoError.{error_kind}
 use Rattle.std.specs.Prelude.{◌≡◌, ℕ, ◌<◌, Bool, true, false, List, Option, Some, Result, Ok, Err, ◌++◌}
@@ -8,7 +8,7 @@ use Rattle.std.specs.declared.io.ErrorKind.TheVariants as kinds
 use Rattle.arrayvec.specs.ArrayVec.{ArrayVec}
 use Rattle.tsp_io.specs.Streams.{Sink}
 use Rattle.tsp_io.specs.Writing.{LeftByFailedWrite}
-use Rattle.tsp_io.specs.declared.output.Output.{Output}
+use Rattle.tsp_io.specs.declared.watched.Output.{Output}
 
 -- the writer inside
 abbrev pub writer_of : {W : Type 0} {T : _} → Output W T → W
@@ -18,18 +18,18 @@ writer_of out = out.inner
 abbrev pub output_failed : {W : Type 0} {T : _} → Output W T → Bool
 output_failed out = out.failed
 
--- the error of the system at the failure, where it is known
+-- the error of the system at the failure, if it is known
 abbrev pub output_error : {W : Type 0} {T : _} → Output W T → Option Error
 output_error out = out.error
 
--- the error after a write of a part: that of the write; one of the kind WriteZero where it took nothing; else the one
+-- the error after a write of a part: that of the write; one of the kind WriteZero if it took nothing; otherwise the one
 -- from before
 abbrev pub KeepsError : Result ℕ Error → Option Error → Option Error → Type 0
 KeepsError (Err error) old new = new ≡ Some error
 KeepsError (Ok count) old new = (count ≡ 0 → (error : Error) × (new ≡ Some error) × (error_kind error ≡ kinds.WriteZero))
     × (0 < count → new ≡ old)
 
--- Where the writer has failed, a write left it so that returned an error or took nothing.
+-- If the writer has failed, a write left it so that returned an error or took nothing.
 abbrev pub FailsByWrite : {W : Type 0} {T : _} → (W → List ℕ → Result ℕ Error → W → Type 0) → Output W T → Type 0
 FailsByWrite takes out = output_failed out ≡ true → ∥ LeftByFailedWrite takes (writer_of out) ∥₁
 
@@ -44,14 +44,14 @@ sink_of contents old new = record {
 
 -- ---- how far a text has come on its way to a writer
 
--- the bytes that the writer has, where they are known; whether it has failed; and the buffer's bytes, which wait to be
+-- the bytes that the writer has, if they are known; whether it has failed; and the buffer's bytes, which wait to be
 -- written
 pub record Way : Type 0 where
   pub held : Option (List ℕ)
   pub failed : Bool
   pub piece : List ℕ
 
--- the same of a writer and its buffer
+-- the same for a writer and its buffer
 abbrev pub way_of : {W : Type 0} {T : _} → (W → Option (List ℕ)) → Output W T → List ℕ → Way
 way_of contents out piece = record { held = contents (writer_of out); failed = output_failed out; piece = piece }
 

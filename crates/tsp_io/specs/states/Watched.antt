@@ -1,10 +1,10 @@
--- What the code of this crate keeps of a reader (`Watched`).
+-- What the code of this crate keeps of a reader (`Watched`). Contracts of runs say by `read_trace_of` what was read.
 use Rattle.std.specs.Prelude.{◌≡◌, ℕ, Bool, List, Option, Result, Ok, ◌++◌, ◌⊎◌, [], ◌∷◌}
 use Rattle.std.specs.declared.io.Error.{Error}
 use denote.Param.Members.{Once}
 use denote.Ref.{MutBor}
 use Rattle.tsp_io.specs.Streams.{ReadTrace}
-use Rattle.tsp_io.specs.declared.script.Script.{Script}
+use Rattle.tsp_io.specs.declared.watched.Script.{Script}
 use Rattle.tsp_io.specs.declared.watched.Watched.{Watched}
 
 -- the reader inside
@@ -26,9 +26,9 @@ pub record Calls {F T B R : Type 0} (g : Once F (MutBor T × (MutBor B × Unit {
   pub met : g.post f (first, (second, tt)) (r, (first_left, (second_left, tt)))
   pub leaves : (first_left.now ≡ x') × (second_left.now ≡ y')
 
--- ---- the turn of a call
+-- ---- the read trace of a call
 
--- the turn of a watched reader
+-- the read trace of a watched reader
 abbrev pub read_trace_of : {R : Type 0} → (R → Option (List ℕ)) → Watched R → Watched R → List ℕ → ReadTrace
 read_trace_of remaining old new given = record {
   known = remaining (watched old);

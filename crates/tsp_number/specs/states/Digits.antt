@@ -15,7 +15,7 @@ pub record BeginsWithNumber (bytes : List ℕ) (count : ℕ) (k : ℤ) : Type 0 
 
 -- ---- how far such a number goes
 
--- how many bytes the sign at the beginning has: one for `-` or `+`, else none
+-- how many bytes the sign at the beginning has: one for `-` or `+`, otherwise none
 abbrev pub sign_count : List ℕ → ℕ
 sign_count [] = 0
 sign_count (byte ∷ bytes) = cond ((byte == 45) || (byte == 43)) 1 0
@@ -58,11 +58,11 @@ decimal_end bytes = end_with_point bytes (sign_count bytes) (digit_count 9 (drop
 
 -- ---- the parts of a number word as code has them
 
--- the number, or the largest of 64 bits where that is less
+-- the number, or the largest of 64 bits if that is less
 abbrev pub saturated : ℕ → ℕ
 saturated n = min n (2 ^ 64 - 1)
 
--- an exponent, or the one of size 10,000 with its sign where that is smaller in size
+-- an exponent, or the one of size 10,000 with its sign if that is smaller in size
 abbrev pub clamped : ℤ → ℤ
 clamped (pos n) = pos (min n 10000)
 clamped (negsuc n) = negsuc (min n 9999)

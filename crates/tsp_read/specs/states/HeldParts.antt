@@ -14,8 +14,8 @@ use Rattle.tsp_read.specs.declared.memory_lists.RowList.{RowList}
 use Rattle.tsp_read.specs.declared.section_builder.SectionBuilder.{SectionBuilder}
 use Rattle.tsp_read.specs.declared.section_builder.SectionBuilder.TheVariants as parts
 use Rattle.tsp_read.specs.declared.section_builder.TripleList.{TripleList}
-use Rattle.tsp_read.specs.declared.long_lists.TourList.{TourList}
-use Rattle.tsp_read.specs.declared.long_lists.WeightList.{WeightList}
+use Rattle.tsp_read.specs.declared.lists.TourList.{TourList}
+use Rattle.tsp_read.specs.declared.lists.WeightList.{WeightList}
 use Rattle.tsp_read.specs.declared.tree.FamilyList.{FamilyList}
 use Rattle.tsp_read.specs.declared.tree.TreeList.{TreeList}
 use Rattle.tsp_read.specs.states.Parts.{NumbersHold, CoordsHold, are_in_space, DepotsHold, PairsHold, TriplesHold, WeightsHold, ToursHold, EndsRun, Takes}

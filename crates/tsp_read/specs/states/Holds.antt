@@ -50,7 +50,7 @@ keywords_there earlier = has_line NameKey earlier ∷ has_line TypeKey earlier �
     ∷ has_line EdgeWeightTypeKey earlier ∷ has_line EdgeWeightFormatKey earlier ∷ has_line NodeCoordTypeKey earlier
     ∷ has_line DisplayDataTypeKey earlier ∷ []
 
--- the fields have a keyword's value exactly where the items have the keyword
+-- the fields have a keyword's value exactly if the items have the keyword
 abbrev pub KeywordsStand : Fields → List Item → Type 0
 KeywordsStand fields earlier = fields_there fields ≡ keywords_there earlier
 
@@ -69,7 +69,7 @@ pub record Holds (reading : Reading) (earlier : List Item) : Type 0 where
   pub incomplete : reading.incomplete ≡ find (is_closed_incomplete earlier) sections_in_order
   pub part : OpenHolds reading.opened earlier
 
--- the same where no section is open: the draft has all fields of the items
+-- the same if no section is open: the draft has all fields of the items
 pub record Closed (reading : Reading) (earlier : List Item) : Type 0 where
   pub clean : IsClean earlier
   pub stand : KeywordsStand (fields_of reading.draft) earlier
@@ -87,7 +87,7 @@ AnswersItem earlier item new (Ok done) = Holds new (item ∷ earlier)
 AnswersItem earlier item new (Err (steps.Memory refused)) = Unit {0}
 AnswersItem earlier item new (Err (steps.Fault fault)) = row_of earlier item ≡ Some fault
 
--- the answer for the line of a known keyword, from a state where no section is open; the line isn't too long
+-- the answer for the line of a known keyword, from a state if no section is open; the line isn't too long
 abbrev pub LineAnswers : Reading → Field → WordLine → Reading → Result (Unit {0}) StepFault → Type 0
 LineAnswers old field line new result = (earlier : List Item) → Closed old earlier → nat_lt most_line_bytes line.size ≡ false
     → AnswersItem earlier (Line (Known field) line) new result
@@ -187,7 +187,7 @@ Finishes items (Ok file) = IsClean items × (fault_at_end items ≡ None) × (fi
 Finishes items (Err (faults.Memory refused)) = Unit {0}
 Finishes items (Err (faults.End fault)) = IsClean items × (fault_at_end items ≡ Some fault)
 
--- The file of these fields, where this is the first incomplete section; or the fault of the end table.
+-- The file of these fields, if this is the first incomplete section; or the fault of the end table.
 abbrev pub FileOf : Fields → Option Field → Result Fields EndFault → Type 0
 FileOf fields incomplete (Ok file) = (end_fault (standing_of fields) incomplete ≡ None) × (file ≡ fields)
 FileOf fields incomplete (Err fault) = end_fault (standing_of fields) incomplete ≡ Some fault

@@ -1,4 +1,5 @@
--- The items of the part of a text that hasn't been taken yet, and where its next line or word ends.
+-- The items of the part of a text that hasn't been taken yet, and where its next line or word ends. For src/items.rt,
+-- and for the definitions on pieces; in no circle of docs/trust.md.
 use Rattle.tsp_read.specs.Prelude.{position_or_len, ℕ, Bool, true, false, not, nat_lt, List, [], length, map, take, drop, cond, most_word_bytes, most_line_bytes, is_blank, is_letter, lines_of, words_in, ends_line, is_not_empty, Item, NumberWord, LineEnd, line_item, items_in, items_by, settled_words, settled_in}
 use Rattle.std.specs.Prelude.{◌||◌, ◌∷◌, ◌++◌, ◌&&◌}
 use Rattle.tsp_read.specs.declared.items.Next.{Next}
@@ -13,7 +14,7 @@ abbrev pub items_of_rest : Bool → List ℕ → List Item
 items_of_rest true line = map (λ word. NumberWord word) (words_in line)
 items_of_rest false line = items_in line
 
--- the same of the last line, which may go on
+-- the same for the last line, which may go on
 abbrev pub last_items : Bool → Bool → List ℕ → List Item
 last_items false inside line = items_of_rest inside line
 last_items true true line = map (λ word. NumberWord word) (settled_words line)
@@ -26,7 +27,7 @@ items_left_by goes_on inside (line ∷ []) = last_items goes_on inside line
 items_left_by goes_on inside (line ∷ next ∷ lines) = items_of_rest inside line ++ LineEnd
     ∷ items_by (λ last. last_items goes_on false last) (next ∷ lines)
 
--- The items of the rest of a text: all of them, or the settled ones where the text goes on. After an item of a line the
+-- The items of the rest of a text: all of them, or the settled ones if the text goes on. After an item of a line the
 -- rest of it has words alone.
 abbrev pub items_left : Bool → Bool → List ℕ → List Item
 items_left goes_on inside bytes = items_left_by goes_on inside (lines_of bytes)

@@ -1,4 +1,5 @@
--- That a run of plain numbers read in one pass (src/runs.rt) leaves the same state as its words read one by one.
+-- That a run of plain numbers read in one pass (src/runs.rt) leaves the same state as its words read one by one. It is
+-- why the fast path affects only speed.
 use Rattle.tsp_read.specs.Prelude.{ℕ, List, length, Option, None, Some, Bool, true, [], is_blank, ends_line, without_start, NumberWord}
 use Rattle.std.specs.Prelude.{◌+◌, ◌≤◌, ◌<◌, ◌≡◌, ◌∷◌, ◌⊎◌}
 use Rattle.tsp_format.specs.declared.keyword.Field.{Field}
@@ -16,12 +17,12 @@ use Rattle.tsp_read.specs.states.Onward.{IsReadTo, GivesNext}
 abbrev pub counted : Reading → Count → Intake
 counted reading count = record { reading = reading; line = count.line; words = count.words; inside = count.inside }
 
--- the same where the state has these fields and this part of the open section
+-- the same if the state has these fields and this part of the open section
 abbrev pub in_run : Draft → Option Field → Field → SectionBuilder → Count → Intake
 in_run draft incomplete field part count =
     counted (record { draft = draft; incomplete = incomplete; opened = Some (record { field = field; part = part }) }) count
 
--- Whatever the fields and the bytes so far are: where they were read with the old part and counts, and `text` is left,
+-- Whatever the fields and the bytes so far are: if they were read with the old part and counts, and `text` is left,
 -- the new part and counts have read them on, and `rest` is left.
 abbrev pub TakesRun : SectionBuilder → Count → List ℕ → SectionBuilder → Count → List ℕ → Type 0
 TakesRun old before text new after rest = (draft : Draft) (incomplete : Option Field) (field : Field) (bytes : List ℕ)

@@ -244,7 +244,7 @@ const NO_FILE: &str = "TYPE : TSP\n";
 
 const ITS_FAULT: ReadFault = ReadFault::End(EndFault::Missing(Field::DimensionKey));
 
-/// Runs, the first of their files that is none, and its fault.
+/// Runs, the first of their files that isn't valid, and its fault.
 const NO_FILES: &[(Job, u32, ReadFault)] = &[
     ((Task::Check, [NO_FILE, TOUR, ""]), 1, ITS_FAULT),
     ((Task::Check, [THREE_NODES, NO_FILE, ""]), 2, ITS_FAULT),
@@ -361,8 +361,8 @@ const READERS_HAD_FAILED: &[(Job, [bool; 3], u32, ReadFault)] = &[
         2,
         ReadFault::Device,
     ),
-    // an earlier file that is none decides; the wrong kind of the first file and a rejected one
-    // don't
+    // an earlier file that isn't valid ends the run; the wrong kind of the first file and a
+    // rejected one don't
     (
         (Task::BoundCheck, [THREE_NODES, NO_FILE, DUALS]),
         [false, false, true],

@@ -1,4 +1,5 @@
-//! Runs of the verbs on texts, from the bytes read to the bytes written.
+//! Runs of the verbs on texts, from the bytes read to the bytes written. The tests in this folder
+//! call these.
 
 use crate::devices::{Drip, Trickle};
 use std::alloc::Global;
@@ -18,7 +19,7 @@ pub(crate) enum Task<'a> {
     BranchCheck,
     /// The first is shown.
     Show,
-    /// The first is written anew, in the layout with this word, or if it is empty in its own.
+    /// The first is rewritten, in the layout with this word, or if it is empty in its own.
     Convert(&'a str),
 }
 

@@ -1,4 +1,5 @@
-//! What a reading returns, as the canonical text of its file or its fault.
+//! What a reading returns, as the canonical text of its file or its fault. The tests in this folder
+//! compare these.
 
 use crate::asserts::{same, same_at};
 use crate::devices::Drip;

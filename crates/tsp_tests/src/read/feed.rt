@@ -1,4 +1,4 @@
-//! Tests of files that are read in pieces: however they are cut, the answer is that of the whole
+//! Tests of files that are read in pieces: wherever they are cut, the answer is that for the whole
 //! text.
 
 mod cuts;
@@ -32,7 +32,7 @@ fn at(line: u32, word: u32, fault: LineFault) -> ReadFault {
 /// A text, and its answer: the canonical text of its file, or its fault.
 type Example = (&'static str, Result<&'static str, ReadFault>);
 
-/// A tour that ends with its line EOF.
+/// A tour that ends with its EOF line.
 const TOUR: &str = "TYPE : TOUR\nTOUR_SECTION\n1 2 3\n-1\nEOF\n";
 
 /// The canonical text of the tour.
@@ -81,7 +81,7 @@ const EXAMPLES: &[Example] = &[
         Err(ReadFault::End(EndFault::Incomplete(Field::NodeCoordPart))),
     ),
     // As producers write it: lines ended by CRLF, a tab before a colon, a value in two words, and
-    // no line EOF.
+    // no EOF line.
     (
         "NAME: x\r\nTYPE : TSP (somebody)\r\nDIMENSION\t: 3\r\nEDGE_WEIGHT_TYPE : EUC_2D\r\nNODE_COORD_SECTION\r\n1 0.00000e+00 0\r\n2 3 0\r\n3 3 4\r\n",
         Ok(
@@ -103,7 +103,7 @@ const EXAMPLES: &[Example] = &[
             "TYPE : TSP\nDIMENSION : 3\nEDGE_WEIGHT_TYPE : EUC_3D\nNODE_COORD_SECTION\n1 0 0 0\n2 2.5 3 -6\n3 0.5 -1 4\nEOF\n",
         ),
     ),
-    // What follows the line EOF isn't looked at.
+    // What follows the EOF line isn't looked at.
     (
         "TYPE : TOUR\nTOUR_SECTION\n1 2 3\n-1\nEOF\n###\n1 x",
         Ok(CANONICAL_TOUR),

@@ -39,7 +39,7 @@ const TOUR: &str = "TYPE : TOUR\nTOUR_SECTION\n1 2 3\n-1\nEOF\n";
 /// The canonical text of the tour.
 const CANONICAL_TOUR: &str = "TYPE : TOUR\nTOUR_SECTION\n1\n2\n3\n-1\nEOF\n";
 
-/// Texts, after how many bytes their answer is settled, by the line EOF or by a fault, and the
+/// Texts, after how many bytes their answer is settled, by the EOF line or by a fault, and the
 /// answer.
 const SETTLED: &[(&str, usize, Result<&str, ReadFault>)] = &[
     (TOUR, 38, Ok(CANONICAL_TOUR)),

@@ -27,6 +27,10 @@ pub returns-clause-weights : goal.returns-clause-weights
 unfolding digits decimals nodes_to cells_of_line
 returns-clause-weights c = search rules
 
+pub returns-clause-no_line_without_weights : goal.returns-clause-no_line_without_weights
+unfolding digits decimals nodes_to cells_of_line
+returns-clause-no_line_without_weights c = search rules
+
 pub returns-clause-tours : goal.returns-clause-tours
 unfolding digits decimals nodes_to cells_of_line
 returns-clause-tours c = search rules

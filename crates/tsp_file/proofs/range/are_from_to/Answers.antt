@@ -3,7 +3,7 @@ use Rattle.std.proofs.Common.{sym, rules}
 use Rattle.tsp_file.proofs.ValidFields.{all_from_to}
 use Rattle.tsp_file.proofs.range.are_from_to.Goals as goal
 
--- plan: where the bits of all numbers are within the limit and none is negative, each number is in the range
+-- plan: if the bits of all numbers are within the limit and none is negative, each number is in the range
 -- (`all_from_to`)
 pub returns-then-all_bits-cast_unsigned : goal.returns-then-all_bits-cast_unsigned
 returns-then-all_bits-cast_unsigned c =

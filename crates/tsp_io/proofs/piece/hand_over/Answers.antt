@@ -4,7 +4,7 @@ use Rattle.tsp_io.specs.states.Output.{way_of}
 use Rattle.tsp_io.proofs.Carrying.{carried_sent}
 use Rattle.tsp_io.proofs.piece.hand_over.Goals as goal
 
--- plan: the bytes of the piece are with the writer, or a prefix of them where it fails, and the piece is empty
+-- plan: the bytes of the piece are with the writer, or a prefix of them if it fails, and the piece is empty
 -- (`carried_sent`)
 pub returns-clause-carried : goal.returns-clause-carried
 returns-clause-carried g c =

@@ -11,6 +11,6 @@ invariant-parts g l = record {
   sent : Sent (g.W.Takes.contents (writer_of l.initial.out)) (g.W.Takes.contents (writer_of l.out)) l.text l.rest;
 }
 
--- the loop goes on only where one or more bytes of `rest` were sent
+-- the loop goes on only if one or more bytes of `rest` were sent
 abbrev pub decreases-parts : goal.decreases-parts
 decreases-parts g l = length l.rest

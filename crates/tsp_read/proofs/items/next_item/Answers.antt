@@ -42,7 +42,7 @@ pub returns-then-first-eq10-clause-shorter : goal.returns-then-first-eq10-clause
 returns-then-first-eq10-clause-shorter c =
     omega (arith, start_shorter c.args.text.now, ap length c.without_start-filled.ensures, ap length c.in-Some.ensures.cases.0)
 
--- what follows the first byte is shorter, where that byte doesn't end the token
+-- what follows the first byte is shorter, if that byte doesn't end the token
 from_shorter : (test : ℕ → Bool) (first : ℕ) (after : List ℕ) → test first ≡ false → length (from test (first ∷ after)) ≤ length after
 from_shorter test first after on = grind (arith, common_steps)
 

@@ -3,7 +3,7 @@ use Rattle.tsp_report.proofs.Prelude.{◌++◌, rules, codes, FitsSigned, signed
 use Rattle.tsp_report.specs.Report.{bound_lines}
 use Rattle.tsp_report.proofs.report.put_accepted.Goals as goal
 
--- plan: the line of the length, then those of the bound where there is one, then the line yes, after each other
+-- plan: the line of the length, then those of the bound if there is one, then the line yes, after each other
 pub returns : goal.returns
 returns g c =
     let start = way_of g.W.Takes.contents c.args.out.now c.args.piece.now.items in

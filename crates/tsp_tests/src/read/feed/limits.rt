@@ -1,5 +1,4 @@
-//! Tests of texts at the limit of bytes, in pieces. (Lines and words at theirs are in the tables,
-//! and on pipes.)
+//! Tests of `Feed` at the limit of bytes. (`tests/program` tests the limits of lines and words.)
 
 use crate::asserts::same_at;
 use crate::read::answers::{fault_at_end, fed};
@@ -41,7 +40,7 @@ const LIMITS: &[(usize, &[(&str, Result<(), ReadFault>)], ReadFault)] = &[
         ],
         ReadFault::TooLong,
     ),
-    // a line EOF that ends at the limit counts
+    // an EOF line that ends at the limit counts
     (
         4,
         &[("EO", Ok(())), ("F\n### ", Ok(())), ("1 x\n", Ok(()))],

@@ -113,7 +113,7 @@ const TAKEN: &[(&[&str], Result<&str, ReadFault>)] = &[
         &["TYPE : TOUR\nTOUR_SECTION\n", "1", "2 -1"],
         Ok("TYPE : TOUR\nTOUR_SECTION\n12\n-1\nEOF\n"),
     ),
-    // a line EOF has ended only with its byte 10
+    // an EOF line has ended only with its byte 10
     (
         &["EO", "F", "X"],
         Err(ReadFault::Line {
@@ -127,7 +127,7 @@ const TAKEN: &[(&[&str], Result<&str, ReadFault>)] = &[
         &["TYPE : TOUR\nTOUR_SECTION\n1 2 3\n-1\nE", "O", "F"],
         Ok(CANONICAL_TOUR),
     ),
-    // after the line EOF everything is accepted
+    // after the EOF line everything is accepted
     (&["EOF\n", "###"], Err(NO_TYPE)),
     (
         &[

@@ -1,4 +1,4 @@
-//! Tests of readers that must not be asked once more, since their text is settled.
+//! Tests that a reader isn't asked again once its text is settled.
 
 use crate::asserts::{holds_at, same_at};
 use crate::read::answers::{answer_from, answers};

@@ -1,4 +1,4 @@
--- The goals of `File::memories_or_none` in src/remembered.rt: what it ensures.
+-- The goals of `File::memories_or_none` in src/file.rt: what it ensures.
 use Rattle.tsp_file.proofs.Prelude.{◌≡◌, Some, sym, ap, ◌∙◌, map, option_map}
 use Rattle.tsp_file.specs.Fields.{Fields}
 use Rattle.tsp_file.proofs.FileFields.{memories_hold}

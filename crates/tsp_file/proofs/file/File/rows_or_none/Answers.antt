@@ -1,4 +1,4 @@
--- The goals of `File::rows_or_none` in src/remembered.rt: what it ensures.
+-- The goals of `File::rows_or_none` in src/file.rt: what it ensures.
 use Rattle.tsp_file.proofs.Prelude.{◌≡◌, Some, sym, ap, ◌∙◌, option_map, subset_rows_of}
 use Rattle.tsp_file.specs.Fields.{Fields}
 use Rattle.tsp_file.proofs.FileFields.{rows_hold}

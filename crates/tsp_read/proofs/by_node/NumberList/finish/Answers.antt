@@ -4,7 +4,7 @@ use Rattle.tsp_read.proofs.Prelude.{refl, Amount}
 use Rattle.tsp_read.proofs.GroupSteps as groups
 use Rattle.tsp_read.proofs.by_node.NumberList.finish.Goals as goal
 
--- plan: each group has set the entry of its node (`finish`); words are wanted exactly where groups are left to come
+-- plan: each group has set the entry of its node (`finish`); words are wanted exactly if groups are left to come
 -- (`to_come`)
 pub returns : goal.returns
 returns c = λ low high n words h.

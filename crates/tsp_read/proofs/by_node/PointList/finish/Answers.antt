@@ -4,7 +4,7 @@ use Rattle.tsp_file.specs.states.Drafts.{points_of}
 use Rattle.tsp_read.proofs.CoordSteps.{all_taken}
 use Rattle.tsp_read.proofs.by_node.PointList.finish.Goals as goal
 
--- plan: in the plane and in space: each group has set its point, and words are wanted where groups are left to come
+-- plan: in the plane and in space: each group has set its point, and words are wanted if groups are left to come
 -- (`all_taken`)
 pub returns : goal.returns
 returns c = λ in_space n words h.
