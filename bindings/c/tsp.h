@@ -1,4 +1,4 @@
-/* Yokecairn for C: reads, shows, converts and judges TSPLIB 95 texts, and gives their numbers.
+/* Yokecairn for C: reads, shows, converts and judges TSPLIB 95 texts and solutions, and gives their numbers.
  *
  * The calls are proved: the contracts are in crates/tsp_c, and docs/proof.md says what they mean. The
  * proof covers a call only if its caller follows "What the caller must do", which nothing checks.
@@ -93,6 +93,24 @@ enum {
     TSP_DISTANCE_MAX_3D = 8
 };
 
+/* Forms of solutions, in the order of "tsp solution --forms". TSP_FORM_FOUND is the first that the text has. */
+enum {
+    TSP_FORM_FOUND = 0,
+    TSP_FORM_TOUR = 1,
+    TSP_FORM_JSON = 2,
+    TSP_FORM_OR_TOOLS = 3,
+    TSP_FORM_CVRPLIB = 4,
+    TSP_FORM_LKH = 5,
+    TSP_FORM_R = 6,
+    TSP_FORM_CONCORDE_EDGES = 7,
+    TSP_FORM_CONCORDE = 8,
+    TSP_FORM_TABLE = 9,
+    TSP_FORM_LIST = 10
+};
+
+/* The number of the first node in a solution. TSP_FIRST_FOUND goes by the form and the numbers. */
+enum { TSP_FIRST_FOUND = 0, TSP_FIRST_0 = 1, TSP_FIRST_1 = 2 };
+
 /* TYPEs of instances. */
 enum { TSP_TYPE_TSP = 1, TSP_TYPE_ATSP = 2, TSP_TYPE_CVRP = 3 };
 
@@ -119,6 +137,15 @@ uint32_t tsp_show(const uint8_t *file, size_t file_len, uint8_t *out, size_t out
  * TSP_NO if the weights can't be written in the layout. */
 uint32_t tsp_convert(const uint8_t *file, size_t file_len, uint32_t layout, uint8_t *out, size_t out_len,
                      size_t *written);
+
+/* Reads a solution of another program, and gives it as the canonical text of a file of TYPE TOUR, as "tsp solution"
+ * does. instance_len may be 0: then no instance is known. form is one of TSP_FORM_FOUND, .., first one of
+ * TSP_FIRST_FOUND, .. . depot is a node, or 0 for the instance's depot, and node 1 without an instance. In the line that
+ * reports a fault, the solution is file 1 and the instance file 2. To check a solution in any form, give this text to
+ * tsp_check. */
+uint32_t tsp_solution(const uint8_t *solution, size_t solution_len, const uint8_t *instance, size_t instance_len,
+                      uint32_t form, uint32_t first, uint32_t depot, uint8_t *out, size_t out_len,
+                      size_t *written);
 
 /* Explains to a person the answer of one of these calls, as "tsp --explain" does: a fault, a no, or a yes whose
  * solution has a comment with another length. Otherwise the text is empty. The texts are those of the call, with

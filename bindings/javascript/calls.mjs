@@ -1,9 +1,8 @@
 // The calls of the package for Node on single files and solutions.
 
-import { By, Call, LAYOUTS, Status } from "./codes.mjs";
-import { SolutionError } from "./errors.mjs";
+import { By, Call, FORMS, LAYOUTS, Status } from "./codes.mjs";
+import { Fault, OutOfMemory, SolutionError } from "./errors.mjs";
 import { NO_FILE, errorOf, opened, reported, textOf } from "./reporting.mjs";
-import { NoSolution, converted } from "./solutions.mjs";
 import { certificateOf, given, solutionOf } from "./sources.mjs";
 
 /**
@@ -12,6 +11,8 @@ import { certificateOf, given, solutionOf } from "./sources.mjs";
  * @typedef {import("../node/index.mjs").Layout} Layout
  * @typedef {import("../node/index.mjs").CheckOptions} CheckOptions
  * @typedef {import("../node/index.mjs").CertificateOptions} CertificateOptions
+ * @typedef {import("../node/index.mjs").SolutionOptions} SolutionOptions
+ * @typedef {import("./sources.mjs").Given} Given
  * @typedef {import("./reporting.mjs").Asked} Asked
  * @typedef {import("./reporting.mjs").Report} Report
  */
@@ -68,28 +69,37 @@ export function bound(instance, options) {
 }
 
 /**
- * The text of a solution of another program, as one of TYPE TOUR.
+ * A solution in any form as a text of TYPE TOUR.
  *
- * @param {Uint8Array} bytes
- * @param {number} nodes of the instance, 0 where that isn't known
- * @param {boolean} hasDepot whether nodes above these are copies of it
+ * @param {Given} solution
+ * @param {Given} instance
+ * @param {SolutionOptions} [options] without the instance
  * @returns {Uint8Array}
  */
-export function foreign(bytes, nodes, hasDepot) {
-    try {
-        return converted(bytes, nodes, hasDepot)?.bytes ?? bytes;
-    } catch (error) {
-        throw error instanceof NoSolution ? new SolutionError(error.message) : error;
+export function tourIn(solution, instance, options = {}) {
+    const { form, first, depot } = options;
+    const number = form === undefined ? 0 : FORMS.indexOf(form) + 1;
+    if (form !== undefined && number === 0) {
+        throw new RangeError(`there is no form ${String(form)}`);
     }
+    const { status, bytes } = opened().solution(solution.bytes, instance.bytes, number, first === undefined ? 0 : first + 1, depot);
+    if (status === Status.YES) {
+        return bytes;
+    }
+    const told = textOf(bytes).trimEnd();
+    if (status !== Status.FAULT) {
+        throw new OutOfMemory(told || "out of memory");
+    }
+    throw told.startsWith("file 2: ") ? new Fault(told, "", instance.path) : new SolutionError(told, "", solution.path);
 }
 
 /**
  * @param {Source} source
- * @param {{ nodes?: number }} [options]
+ * @param {SolutionOptions} [options]
  * @returns {Uint8Array}
  */
 export function readSolution(source, options = {}) {
-    return foreign(given(source).bytes, options.nodes ?? 0, true);
+    return tourIn(given(source), options.of === undefined ? NO_FILE : given(options.of), options);
 }
 
 /**

@@ -15,6 +15,9 @@ export const Call = Object.freeze({ SHOW: 0, CONVERT: 1, CHECK: 2, BOUND: 3 });
 /** What a call finds. */
 export const Verdict = Object.freeze({ TOUR: 1, ROUTES: 2, REJECTED: 3, BOUND: 4, NO_TOUR: 5 });
 
+/** The forms of solutions, from number 1. */
+export const FORMS = ["tour", "json", "ortools", "cvrplib", "lkh", "r", "concorde-edges", "concorde", "table", "list"];
+
 /** The layouts of matrices, from number 1. */
 export const LAYOUTS = [
     "FULL_MATRIX",

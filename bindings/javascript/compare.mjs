@@ -1,6 +1,6 @@
 // The call `compare` of the package for Node.
 
-import { bound, check, foreign } from "./calls.mjs";
+import { bound, check, tourIn } from "./calls.mjs";
 import { By, Call } from "./codes.mjs";
 import { Comparison, basisOf } from "./comparison.mjs";
 import { OutOfMemory } from "./errors.mjs";
@@ -40,7 +40,7 @@ export function compare(instance, solutions, options = {}) {
         const outcomes = solutions.map((solution) => {
             try {
                 const second = solutionOf(solution);
-                const text = options.foreign ? { ...second, bytes: foreign(second.bytes, basis.nodes, basis.type === "CVRP") } : second;
+                const text = options.foreign ? { ...second, bytes: tourIn(second, first) } : second;
                 /** @type {Asked} */
                 const asked = { call: Call.CHECK, files: [first, text, certificate], number: by, claimed: null };
                 return reported(asked, judge.check(text.bytes, null), options.explain);

@@ -1,7 +1,7 @@
 // `Comparison`, the result of the call `compare`: a report or an error of each solution of one instance, and its text.
 // Imported by yokecairn.mjs alone.
 
-import { Fault, SolutionError } from "./errors.mjs";
+import { Fault } from "./errors.mjs";
 import { Status, Verdict } from "./codes.mjs";
 import { percentOf, reasonOf, reportOf } from "./report.mjs";
 
@@ -134,7 +134,7 @@ export class Comparison {
         const known = this.basis.bound ?? "";
         const rows = this.outcomes.map((outcome, at) => {
             if (outcome instanceof Error) {
-                const verdict = outcome instanceof Fault || outcome instanceof SolutionError ? "fault" : "unread";
+                const verdict = outcome instanceof Fault ? "fault" : "unread";
                 const detail = outcome instanceof Fault ? outcome.told.replace(/^file \d+: /, "") : outcome.message;
                 return [this.names[at], verdict, "", known, "", "", "", detail];
             }
@@ -160,7 +160,7 @@ function lineOf(name, outcome) {
         return `${outcome.told.replace(/^file \d+: /, "")} ${name}`;
     }
     if (outcome instanceof Error) {
-        return `${outcome instanceof SolutionError ? outcome.message : "device"} ${name}`;
+        return `device ${name}`;
     }
     const { yes, length, gap, optimal, routes, reason, numbers } = outcome;
     if (!yes) {

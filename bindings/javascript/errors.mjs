@@ -14,9 +14,6 @@ export class OutOfMemory extends YokecairnError {}
 /** A node that the instance doesn't have. */
 export class NodeError extends YokecairnError {}
 
-/** A solution of another program that has no known form, or breaks it. */
-export class SolutionError extends YokecairnError {}
-
 const LINE = /^(?:file (\d+): )?(?:line (\d+) word (\d+): )?(?:end: |relayout: )?(.*)$/;
 
 /** @type {Record<string, string>} Faults that are told in words. */
@@ -45,3 +42,6 @@ export class Fault extends YokecairnError {
         this.path = path;
     }
 }
+
+/** A solution that has no known form, or breaks the rules of its form. */
+export class SolutionError extends Fault {}

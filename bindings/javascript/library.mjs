@@ -63,6 +63,20 @@ export class Library {
     }
 
     /**
+     * A solution in any form as a text of TYPE TOUR. Each number is 0 for what isn't known, and the instance may be empty.
+     *
+     * @param {Uint8Array} solution
+     * @param {Uint8Array} instance
+     * @param {number} [form] from 1, as in FORMS
+     * @param {number} [first] one more than the number of the first node
+     * @param {number} [depot]
+     * @returns {Answer}
+     */
+    solution(solution, instance, form = 0, first = 0, depot = 0) {
+        return textBy(this.exports, [solution, instance], (slices, out) => this.exports.tsp_solution(...slices, form, first, depot, ...out));
+    }
+
+    /**
      * @param {Uint8Array} instance
      * @param {Uint8Array} solution
      * @param {Uint8Array} certificate

@@ -16,6 +16,8 @@ export type Layout =
     | "LOWER_COL"
     | "UPPER_DIAG_COL"
     | "LOWER_DIAG_COL";
+/** A form of a solution, by its name in `tsp solution --forms`. */
+export type Form = "tour" | "json" | "ortools" | "cvrplib" | "lkh" | "r" | "concorde-edges" | "concorde" | "table" | "list";
 /** How distances between points are computed. */
 export type EdgeWeightType = "EUC_2D" | "CEIL_2D" | "MAN_2D" | "MAX_2D" | "ATT" | "EUC_3D" | "MAN_3D" | "MAX_3D";
 
@@ -33,6 +35,17 @@ export interface CertificateOptions {
 /** Also the length that is claimed for the solution. */
 export interface CheckOptions extends CertificateOptions {
     length?: bigint | number;
+}
+
+/**
+ * What is known of a solution: its instance, its form, whether nodes count from 0 (or routes list customers), and its depot, if
+ * that isn't the instance's or node 1.
+ */
+export interface SolutionOptions {
+    of?: Source;
+    form?: Form;
+    first?: 0 | 1;
+    depot?: number;
 }
 
 /** Also whether solutions may be in the form of another program. */
@@ -161,12 +174,12 @@ export interface ManyOptions {
 export function checkMany(jobs: Iterable<Job>, options?: ManyOptions): Promise<(Report | Error)[]>;
 
 /**
- * Another program's solution as a text of TYPE TOUR. A text of TYPE TOUR is returned as it is, except for LKH-3's copies
- * of the depot. `nodes` is the instance's number of nodes, if you know it.
+ * Another program's solution as a text of TYPE TOUR: what `tsp solution` writes.
  *
- * @throws {SolutionError} the solution has no known form
+ * @throws {SolutionError} the solution has no known form, or breaks the rules of its form
+ * @throws {Fault} the instance isn't one
  */
-export function readSolution(source: Source, options?: { nodes?: number }): Uint8Array;
+export function readSolution(source: Source, options?: SolutionOptions): Uint8Array;
 
 /**
  * What `tsp show` prints for a file.
@@ -220,8 +233,6 @@ export class YokecairnError extends Error {}
 export class OutOfMemory extends YokecairnError {}
 /** The instance lacks the node, or the problem is closed. */
 export class NodeError extends YokecairnError {}
-/** Another program's solution has no known form. */
-export class SolutionError extends YokecairnError {}
 /** A text isn't a valid file, or not a file that the call can use. */
 export class Fault extends YokecairnError {
     constructor(told: string, explanation: string, path: string);
@@ -240,3 +251,5 @@ export class Fault extends YokecairnError {
     /** The path of the text; empty if there is none. */
     readonly path: string;
 }
+/** Another program's solution has no known form, or breaks the rules of its form. Its file is 1. */
+export class SolutionError extends Fault {}

@@ -5,7 +5,7 @@ import { once } from "node:events";
 import { availableParallelism } from "node:os";
 import { Worker } from "node:worker_threads";
 
-import { Fault, NodeError, OutOfMemory, SolutionError } from "../javascript/errors.mjs";
+import { Fault, NodeError, OutOfMemory } from "../javascript/errors.mjs";
 import { Problem, Report } from "../javascript/yokecairn.mjs";
 
 /**
@@ -77,6 +77,6 @@ function outcomeOf({ report, fault, error, name }) {
         return new Fault(fault.told, fault.explanation, fault.path);
     }
     const message = error?.message ?? "a worker failed";
-    const kind = [NodeError, OutOfMemory, SolutionError].find((it) => it.name === name);
+    const kind = [NodeError, OutOfMemory].find((it) => it.name === name);
     return kind ? new kind(message) : error ?? new Error(message);
 }

@@ -10,14 +10,14 @@ _tsp() {
         words='FULL_MATRIX UPPER_ROW LOWER_ROW UPPER_DIAG_ROW LOWER_DIAG_ROW
             UPPER_COL LOWER_COL UPPER_DIAG_COL LOWER_DIAG_COL'
     elif [ "$before" = --form ]; then
-        words='tour json ortools cvrplib lkh r concorde-edges concorde table list'
+        words='auto tour json ortools cvrplib lkh r concorde-edges concorde table list'
     elif [ "$verb" = help ]; then
         words='show convert check compare bound solution help'
     elif [ "${word#-}" != "$word" ]; then
         case $verb in
         show) words='--explain -h --help -V --version' ;;
         convert) words='--layout --explain -h --help -V --version' ;;
-        check) words='--potentials --branches --length --strict --explain -h --help -V --version' ;;
+        check) words='--potentials --branches --length --form --strict --explain -h --help -V --version' ;;
         compare) words='--potentials --branches --strict --explain -h --help -V --version' ;;
         bound) words='--potentials --branches --strict --explain -h --help -V --version' ;;
         solution) words='--of --form --first --depot --forms --explain -h --help -V --version' ;;

@@ -19,6 +19,8 @@ complete -c tsp -n '__fish_seen_subcommand_from check' -l potentials -r -F -d 'T
 complete -c tsp -n '__fish_seen_subcommand_from check' -l branches -r -F -d 'The branches file'
 complete -c tsp -n '__fish_seen_subcommand_from check' -l strict -d 'Reject unknown keywords and unused fields'
 complete -c tsp -n '__fish_seen_subcommand_from check' -l length -x -d 'The length of the solution'
+complete -c tsp -n '__fish_seen_subcommand_from check' -l form -x -d 'The form of the solution' \
+    -a 'auto tour json ortools cvrplib lkh r concorde-edges concorde table list'
 complete -c tsp -n '__fish_seen_subcommand_from compare' -l explain -d 'Explain a fault, or the line no'
 complete -c tsp -n '__fish_seen_subcommand_from compare' -l potentials -r -F -d 'The potentials file'
 complete -c tsp -n '__fish_seen_subcommand_from compare' -l branches -r -F -d 'The branches file'
@@ -30,7 +32,7 @@ complete -c tsp -n '__fish_seen_subcommand_from bound' -l strict -d 'Reject unkn
 complete -c tsp -n '__fish_seen_subcommand_from solution' -l explain -d 'Explain a fault'
 complete -c tsp -n '__fish_seen_subcommand_from solution' -l of -r -F -d 'The instance'
 complete -c tsp -n '__fish_seen_subcommand_from solution' -l form -x -d 'The form of the solution' \
-    -a 'tour json ortools cvrplib lkh r concorde-edges concorde table list'
+    -a 'auto tour json ortools cvrplib lkh r concorde-edges concorde table list'
 complete -c tsp -n '__fish_seen_subcommand_from solution' -l first -x -d 'The first number of nodes' -a '0 1'
 complete -c tsp -n '__fish_seen_subcommand_from solution' -l depot -x -d 'The depot'
 complete -c tsp -n '__fish_seen_subcommand_from solution' -l forms -d 'Print all forms'

@@ -41,6 +41,30 @@ static void texts(void) {
                && written == 22 && memcmp(out, "relayout: NotExplicit\n", 22) == 0, "points have no layout");
 }
 
+static const char ROUTES[] = "Route #1: 1 3\nRoute #2: 2\n";
+static const char WRITTEN[] = "TYPE : TOUR\nCOMMENT : Customer k of CVRPLIB is node k + 1\nTOUR_SECTION\n2\n4\n-1\n3\n-1\nEOF\n";
+
+/* Solutions in other forms. */
+static void solutions(void) {
+    uint8_t out[256];
+    size_t written = 0;
+    size_t len = sizeof WRITTEN - 1;
+    expect(tsp_solution(TEXT(ROUTES), TEXT(""), 0, 0, 0, out, len - 1, &written) == TSP_TOO_SMALL && written == len,
+           "a solution that is one byte too long");
+    expect(tsp_solution(TEXT(ROUTES), TEXT(""), TSP_FORM_CVRPLIB, 0, 0, out, len, &written) == TSP_YES && written == len
+               && memcmp(out, WRITTEN, len) == 0, "a solution that fits");
+    expect(tsp_solution(TEXT(ROUTES), TEXT(TOUR), 0, 0, 0, out, sizeof out, &written) == TSP_FAULT && written == 37
+               && memcmp(out, "file 2: line 1 word 1: NotAnInstance\n", 37) == 0, "a tour in place of the instance");
+    expect(tsp_solution(TEXT("1 x"), TEXT(""), TSP_FORM_LIST, 0, 0, out, sizeof out, &written) == TSP_FAULT && written == 32
+               && memcmp(out, "file 1: line 1 word 2: NotANode\n", 32) == 0, "a word that is no node");
+    expect(tsp_solution(TEXT(ROUTES), TEXT(""), 11, 0, 0, out, sizeof out, &written) == TSP_REFUSED && written == 0,
+           "no form has the number 11");
+    expect(tsp_solution(TEXT(ROUTES), TEXT(""), 0, 3, 0, out, sizeof out, &written) == TSP_REFUSED && written == 0,
+           "the first number is 0 or 1");
+    expect(tsp_solution(TEXT(ROUTES), TEXT(""), 0, 0, 100001, out, sizeof out, &written) == TSP_REFUSED && written == 0,
+           "no depot has the number 100001");
+}
+
 static const char BOUND[] = "type TSP\nnodes 4\nbound 15\nyes\n";
 static const char EXPLAINED[] = "  a.tour:\n";
 
@@ -179,6 +203,7 @@ static void numbers(void) {
 
 int main(void) {
     texts();
+    solutions();
     answers();
     numbers();
     return counts();

@@ -102,6 +102,8 @@ static uint32_t call(int which) {
                            texts[2].len, (const uint8_t *)"a", 1, by, -1, 1, out, sizeof out, &written);
     case 12:
         return handle();
+    case 13:
+        return tsp_solution(texts[1].bytes, texts[1].len, texts[0].bytes, texts[0].len, 0, 0, 0, out, sizeof out, &written);
     default: /* a fault: the instance is a certificate */
         return tsp_check(texts[2].bytes, texts[2].len, texts[1].bytes, texts[1].len, texts[2].bytes, texts[2].len, 0,
                          0, 0, out, sizeof out, &written);
@@ -116,7 +118,7 @@ int main(int count, char **words) {
     by = (uint32_t)atoi(words[4]);
     static uint8_t expected[sizeof out];
     int failed = 0;
-    for (int which = 0; which < 14; which++) {
+    for (int which = 0; which < 15; which++) {
         memset(out, 0, sizeof out);
         written = 0;
         uint32_t right = call(which);

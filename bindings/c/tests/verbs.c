@@ -1,4 +1,4 @@
-/* The program's verbs over the library, so that tests/program/run-tables can run it on its rows: the report or the
+/* The program's verbs over the library, so that tests/program/run-tables and tests/program/solutions can run it: the report or the
  * text goes to standard output, the line of a fault to standard error, and the status is the exit status.
  * bindings/c/test builds it, in the suite `bindings` of ./check. */
 #include "../tsp.h"
@@ -10,10 +10,20 @@
 static const char *const LAYOUTS[] = {"FULL_MATRIX",    "UPPER_ROW", "LOWER_ROW", "UPPER_DIAG_ROW", "LOWER_DIAG_ROW",
                                       "UPPER_COL",      "LOWER_COL", "UPPER_DIAG_COL", "LOWER_DIAG_COL"};
 
+/* The forms of tsp_solution, in the order of their numbers from 1 on. */
+static const char *const FORMS[] = {"tour", "json", "ortools", "cvrplib", "lkh", "r", "concorde-edges", "concorde", "table", "list"};
+
+/* A verb that tsp_explain has no number for. */
+enum { OF_SOLUTION = 4 };
+
 struct call {
-    uint32_t verb;        /* a number of tsp_explain */
-    const char *paths[3]; /* the instance, the solution and the certificate; NULL for none */
+    uint32_t verb;        /* a number of tsp_explain, or OF_SOLUTION */
+    const char *paths[3]; /* the instance, the solution and the certificate, or the solution and its instance; NULL for none */
     uint32_t number;      /* the kind of certificate, or the layout */
+    uint32_t form;
+    int names_form;
+    uint32_t first;
+    uint32_t depot;
     int64_t claimed;
     uint32_t flags;
     int explains;
@@ -24,6 +34,8 @@ static uint32_t verb_of(const char *word) {
         return TSP_OF_CONVERT;
     if (strcmp(word, "check") == 0)
         return TSP_OF_CHECK;
+    if (strcmp(word, "solution") == 0)
+        return OF_SOLUTION;
     return strcmp(word, "bound") == 0 ? TSP_OF_BOUND : TSP_OF_SHOW;
 }
 
@@ -33,6 +45,17 @@ static uint32_t layout_of(const char *word) {
         if (strcmp(word, LAYOUTS[k]) == 0)
             return k + 1;
     fputs("unknown layout\n", stderr);
+    exit(TSP_REFUSED);
+}
+
+/* The form's number, 0 if it is to be found; exits where there is none. */
+static uint32_t form_of(const char *word) {
+    if (strcmp(word, "auto") == 0)
+        return TSP_FORM_FOUND;
+    for (uint32_t k = 0; k < 10; k++)
+        if (strcmp(word, FORMS[k]) == 0)
+            return k + 1;
+    fputs("unknown form\n", stderr);
     exit(TSP_REFUSED);
 }
 
@@ -84,7 +107,7 @@ static int64_t length_of(const char *word) {
 }
 
 static struct call call_of(int count, char **words) {
-    struct call call = {count > 1 ? verb_of(words[1]) : TSP_OF_SHOW, {NULL, NULL, NULL}, 0, 0, 0, 0};
+    struct call call = {.verb = count > 1 ? verb_of(words[1]) : TSP_OF_SHOW};
     int paths = 0;
     for (int k = 2; k < count; k++) {
         if (strcmp(words[k], "--layout") == 0 && k + 1 < count) {
@@ -98,6 +121,15 @@ static struct call call_of(int count, char **words) {
         } else if (strncmp(words[k], "--length=", 9) == 0) {
             call.claimed = length_of(words[k] + 9);
             call.flags |= TSP_CLAIMED;
+        } else if (strcmp(words[k], "--of") == 0 && k + 1 < count) {
+            call.paths[1] = words[++k];
+        } else if (strcmp(words[k], "--form") == 0 && k + 1 < count) {
+            call.form = form_of(words[++k]);
+            call.names_form = 1;
+        } else if (strcmp(words[k], "--first") == 0 && k + 1 < count) {
+            call.first = words[++k][0] == '0' ? TSP_FIRST_0 : TSP_FIRST_1;
+        } else if (strcmp(words[k], "--depot") == 0 && k + 1 < count) {
+            call.depot = (uint32_t)strtoul(words[++k], NULL, 10);
         } else if (strcmp(words[k], "--strict") == 0) {
             call.flags |= TSP_STRICT;
         } else if (strcmp(words[k], "--explain") == 0) {
@@ -123,6 +155,9 @@ static uint32_t run(const struct call *call, const struct text *texts, uint8_t *
                          call->number, call->claimed, call->flags, out, room, written);
     case TSP_OF_BOUND:
         return tsp_bound(texts[0].bytes, texts[0].len, texts[2].bytes, texts[2].len, number_of(call), out, room, written);
+    case OF_SOLUTION:
+        return tsp_solution(texts[0].bytes, texts[0].len, texts[1].bytes, texts[1].len, call->form, call->first,
+                            call->depot, out, room, written);
     case TSP_OF_CONVERT:
         return tsp_convert(texts[0].bytes, texts[0].len, call->number, out, room, written);
     default:
@@ -140,6 +175,11 @@ static uint32_t explain(const struct call *call, const struct text *texts, uint8
                        call->flags, out, room, written);
 }
 
+/* Reads the solution of a check in its form. */
+static uint32_t read_form(const struct call *call, const struct text *texts, uint8_t *out, size_t room, size_t *written) {
+    return tsp_solution(texts[1].bytes, texts[1].len, texts[0].bytes, texts[0].len, call->form, 0, 0, out, room, written);
+}
+
 typedef uint32_t (*caller)(const struct call *, const struct text *, uint8_t *, size_t, size_t *);
 
 /* A call with a buffer of 16 bytes first, so that most rows try a second one too. */
@@ -155,12 +195,29 @@ static uint32_t written_by(caller calls, const struct call *call, const struct t
     return status;
 }
 
+/* Puts the text that is written for the solution of a check in its place. If there is none, ends with the line of the fault, in
+ * which the instance is file 1 and the solution file 2. */
+static void take_form(const struct call *call, struct text *texts) {
+    struct text said;
+    uint32_t status = written_by(read_form, call, texts, &said);
+    if (status == TSP_YES) {
+        texts[1] = said;
+        return;
+    }
+    if (said.len > 5 && memcmp(said.bytes, "file ", 5) == 0)
+        said.bytes[5] = said.bytes[5] == '1' ? '2' : '1';
+    fwrite(said.bytes, 1, said.len, stderr);
+    exit((int)status);
+}
+
 int main(int count, char **words) {
     struct call call = call_of(count, words);
     static uint8_t none[1];
     struct text texts[3];
     for (int k = 0; k < 3; k++)
         texts[k] = call.paths[k] == NULL ? (struct text){none, 0} : read_file(call.paths[k]);
+    if (call.verb == TSP_OF_CHECK && call.names_form)
+        take_form(&call, texts);
     struct text said, more;
     uint32_t status = written_by(run, &call, texts, &said);
     int is_report = status == TSP_YES || (status == TSP_NO && call.verb != TSP_OF_CONVERT);

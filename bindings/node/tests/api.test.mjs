@@ -8,6 +8,8 @@ import { join } from "node:path";
 import { test } from "node:test";
 import { pathToFileURL } from "node:url";
 
+import { instanceOf, optionsOf, table, textOf } from "../../../tests/support/solutions.mjs";
+
 const PACKAGE = process.env.PACKAGE ?? "";
 const ROOT = join(import.meta.dirname ?? new URL(".", import.meta.url).pathname, "../../..");
 const load = (name) => import(pathToFileURL(join(PACKAGE, "node", name)).href);
@@ -199,11 +201,32 @@ test("many solutions of one instance", () => {
 
 test("solutions of other programs", () => {
     const text = (source, options) => new TextDecoder().decode(readSolution({ text: source }, options));
-    assert.equal(text("4\n0 2 1 3\n", { nodes: 4 }), "TYPE : TOUR\nTOUR_SECTION\n1\n3\n2\n4\n-1\nEOF\n");
-    assert.equal(text("TYPE : TOUR\nTOUR_SECTION\n1\n-1\nEOF\n"), "TYPE : TOUR\nTOUR_SECTION\n1\n-1\nEOF\n");
-    assert.throws(() => text("{}"), SolutionError);
+    const tour = (...nodes) => `TYPE : TOUR\nTOUR_SECTION\n${[...nodes, -1].join("\n")}\nEOF\n`;
+    assert.equal(text("3\n0 2 1\n", { of: { text: RECTANGLE } }), tour(4, 1, 3, 2));
+    assert.equal(text("3\n0 2 1\n", { form: "concorde" }), tour(1, 3, 2));
+    assert.equal(text("1 2", { first: 0 }), tour(2, 3));
+    assert.equal(text("Route #1: 1", { depot: 2, first: 1 }), tour(1));
+    assert.equal(text(tour(1)), tour(1));
+    assert.throws(() => text("1 b"), (error) => error instanceof SolutionError && error.told === "file 1: line 1 word 2: NotANode" && error.fault === "NotANode");
+    assert.throws(() => text("1 2", { of: { text: "x" } }), (error) => error instanceof Fault && !(error instanceof SolutionError) && error.file === 2);
+    assert.throws(() => text("1 2", { form: "lists" }), RangeError);
     const found = compare({ text: RECTANGLE }, [{ text: "0 1 2 3" }, { text: "{}" }], { foreign: true });
     assert.deepEqual([found.outcomes[0].length, found.outcomes[1] instanceof SolutionError], [14n, true]);
+    assert.match(String(found), /^14 solution 1\nline 1 word 1: NoList solution 2$/m);
+});
+
+test("the solutions that the program reads", () => {
+    for (const row of table("solutions")) {
+        const read = () => {
+            const of = row.nodes === undefined ? undefined : { text: instanceOf(row) };
+            return new TextDecoder().decode(readSolution({ text: row.text }, { ...optionsOf(row), of }));
+        };
+        if (row.fault) {
+            assert.equal(thrown(read).told, `file 1: ${row.fault}`, row.name);
+        } else {
+            assert.equal(read(), textOf(row), row.name);
+        }
+    }
 });
 
 test("many checks at once", async () => {

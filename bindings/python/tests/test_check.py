@@ -94,6 +94,9 @@ class Tours(unittest.TestCase):
         self.assertIsNone(yokecairn.check(RECTANGLE.encode(), [1, 2, 2, 4]).real_length(10))
         routes = yokecairn.check(EXAMPLES / "dairy.vrp", [[5, 6, 4, 7], [2, 8, 3]])
         self.assertEqual(routes.real_length(1), (231 - Decimal("4.5"), 231 + Decimal("4.5")))  # 7 customers, 2 routes
+        for routes in (yokecairn.check(EXAMPLES / "dairy.vrp", [[5, 6, 4, 7], [2, 8, 3]], branches=EXAMPLES / "dairy.branches"),
+                       yokecairn.bound(EXAMPLES / "dairy.vrp", branches=EXAMPLES / "dairy.branches")):
+            self.assertEqual(routes.real_bound(1), 231 - 7)  # at most 7 routes, which have 14 edges
         for scale, wrong in ((0, ValueError), (1.5, TypeError), (True, TypeError)):
             with self.assertRaises(wrong):
                 report.real_length(scale)

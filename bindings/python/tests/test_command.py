@@ -8,7 +8,7 @@ import unittest
 from pathlib import Path
 
 from support import EXAMPLES, PACKAGE, RECTANGLE
-from yokecairn.__main__ import length_of
+from yokecairn.solution import length_of
 
 try:
     import resource
@@ -128,19 +128,19 @@ class Command(unittest.TestCase):
         self.assertIn(b"  Place 3 has node 2", err)
 
     def test_solutions_of_other_programs(self):
-        sol = EXAMPLES / "solvers/dairy.cvrplib.sol"
-        text = b"COMMENT : Cost 231\nCOMMENT : Customer k of CVRPLIB is node k + 1\nTYPE : TOUR\nTOUR_SECTION\n5\n6\n4\n7\n-1\n2\n8\n3\n-1\nEOF\n"
+        sol, dairy = EXAMPLES / "solvers/dairy.cvrplib.sol", EXAMPLES / "dairy.vrp"
+        text = b"TYPE : TOUR\nCOMMENT : Cost 231\nCOMMENT : Customer k of CVRPLIB is node k + 1\nTOUR_SECTION\n5\n6\n4\n7\n-1\n2\n8\n3\n-1\nEOF\n"
         self.assertEqual(run("solution", sol), (0, text, b""))
-        self.assertEqual(run("solution", "-", stdin=sol.read_bytes()), (0, text, b""))
+        self.assertEqual(run("solution", "-", "--of", dairy, "--form", "cvrplib", "--depot", "1", stdin=sol.read_bytes()), (0, text, b""))
+        self.assertEqual(run("solution", sol, "--form", "lists")[0], 4)
         report = b"type CVRP\nnodes 8\nroutes 2\nleast 2\nlength 231\nyes\n"
-        self.assertEqual(run("check", "--foreign", EXAMPLES / "dairy.vrp", sol), (0, report, b""))
-        self.assertEqual(run("check", EXAMPLES / "dairy.vrp", sol), (0, report, b""))
-        self.assertEqual(run("check", "--no-foreign", EXAMPLES / "dairy.vrp", sol)[0], 2)
+        self.assertEqual(run("check", "--foreign", dairy, sol), (0, report, b""))
+        self.assertEqual(run("check", dairy, sol), (0, report, b""))
+        self.assertEqual(run("check", "--no-foreign", dairy, sol)[0], 2)
         words = ("check", EXAMPLES / "harbour.tsp", "-")
+        self.assertEqual(run(*words, stdin=b"1 2 3 4 8 5 6 7\n"), (0, b"type TSP\nnodes 8\nlength 226\nyes\n", b""))
+        self.assertEqual(run(*words, stdin=b"1 x\n"), (2, b"", b"file 2: line 1 word 2: NotANode: standard input: x\n"))
         line = b"file 2: line 1 word 1: StrayNumber: standard input: 1\n"
-        said = b"standard input has another program's form: --foreign reads it\n"
-        self.assertEqual(run(*words, stdin=b"1 2 3 4\n"), (2, b"", line + said))
-        self.assertEqual(run(*words, stdin=b"1 x\n"), (2, b"", line))
         self.assertEqual(run(*words, "--no-foreign", stdin=b"1 2 3 4\n"), (2, b"", line))
         false = sol.read_bytes().replace(b"231", b"230")
         rejected = b"type CVRP\nnodes 8\nno LengthClaimed 231\n"
@@ -157,8 +157,7 @@ class Command(unittest.TestCase):
         tour = b"TYPE : TOUR\nTOUR_SECTION\n1 2 3 4 8 5 6 9 -1\nEOF\n"
         lines = b"type TSP\nnodes 8\nno NodeOutOfRange 8\n"
         self.assertEqual(run("check", "--foreign", EXAMPLES / "harbour.tsp", "-", stdin=tour), (1, lines, b""))
-        self.assertEqual(run("solution", "-", stdin=b"1 x\n"),
-                         (2, b"", b"-: line 1: nodes are whole numbers from 0 on, and this is none: x\n"))
+        self.assertEqual(run("solution", "-", stdin=b"1 x\n"), (2, b"", b"file 1: line 1 word 2: NotANode: standard input: x\n"))
 
     def test_lengths(self):
         for word, number in {"12": 12, "+3": 3, "-34": -34, "12.0": 12, "1.2e1": 12, "120e-1": 12, ".0": 0}.items():

@@ -158,6 +158,19 @@ class Contests(unittest.TestCase):
                 path.write_text(text)
                 self.refused(said)
 
+    def test_times_of_no_solution(self):
+        (self.top / "bee/times.csv").write_text("instance,run,seconds\nharbour,run1,4\nharbour,run2,5\nharbour,,6\n")
+        (self.top / "cat/times.csv").write_text("instance,seconds\ndairy,4\n")
+        lines = [line for line in str(self.table()).splitlines() if line.startswith("no solution")]
+        self.assertEqual(lines, ["no solution has the time of harbour, bee, without a run", "no solution has the time of harbour, bee, run run2"])
+
+    def test_a_best_length_below_the_bound(self):
+        told = "no solution of harbour has the best-known length 225: the bound 226 is above it"
+        for length in (225, 226):
+            (self.top / "best.txt").write_text(f"harbour8 {length}\n")
+            self.assertEqual(told in str(self.table()).splitlines(), length == 225)
+            self.assertEqual(f"<li>{told}</li>" in self.table().to_html(), length == 225)
+
     @needs("jsonschema")
     def test_schema(self):
         import jsonschema

@@ -3,6 +3,7 @@
 import subprocess
 import tempfile
 import unittest
+from importlib.util import find_spec
 from pathlib import Path
 
 import yokecairn
@@ -84,9 +85,7 @@ class Plots(unittest.TestCase):
                 self.assertGreater(Path(folder, f"{name}.png").stat().st_size, 5000, name)
 
     def test_without_matplotlib(self):
-        try:
-            import matplotlib  # noqa: F401
-        except ImportError:
+        if find_spec("matplotlib") is None:
             with self.assertRaises(ImportError):
                 yokecairn.load(EXAMPLES / "harbour.tsp").plot()
 

@@ -2,7 +2,10 @@
 
 import hashlib
 import os
+import shlex
 import shutil
+import subprocess
+import sys
 import tempfile
 import unittest
 from pathlib import Path
@@ -41,7 +44,7 @@ class Published(unittest.TestCase):
         """Writes the sums anew, as someone does who wants to hide a change."""
         names = sorted(it.name for it in self.folder.iterdir() if it.name != "SHA256SUMS")
         lines = (f"{hashlib.sha256((self.folder / name).read_bytes()).hexdigest()}  {name}\n" for name in names)
-        (self.folder / "SHA256SUMS").write_text("".join(lines))
+        (self.folder / "SHA256SUMS").write_text("".join(lines), encoding="utf-8", errors="surrogateescape")
 
     def steps(self):
         return [(step.what, step.holds) for step in yokecairn.verify(self.folder)]
@@ -88,7 +91,7 @@ class Published(unittest.TestCase):
 
     def test_routes_of_another_program(self):
         yokecairn.publish(self.folder, EXAMPLES / "dairy.vrp", EXAMPLES / "solvers/dairy.cvrplib.sol")
-        self.assertTrue((self.folder / "dairy.cvrplib.sol.tour").read_text().startswith("COMMENT : Cost 231\n"))
+        self.assertTrue((self.folder / "dairy.cvrplib.sol.tour").read_text().startswith("TYPE : TOUR\nCOMMENT : Cost 231\n"))
         self.assertEqual(self.steps(), [*WHOLE[:2], ("dairy.cvrplib.sol.tour", True), *WHOLE[2:]])
         self.assertTrue(yokecairn.verify(self.folder).yes)
         shutil.rmtree(self.folder)
@@ -151,11 +154,11 @@ class Published(unittest.TestCase):
 
     def test_files_more(self):
         self.publish()
-        for name in ("json.py", ".hidden", "a\x1b[2Jb"):
-            with self.subTest(name):
+        for name in ("json.py", ".hidden", "a\x1b[2Jb", "a\u202eb", "a\udcffb"):
+            shown = name.replace("\x1b", "\\x1b").replace("\u202e", "\\u202e").replace("\udcff", "\\xff")
+            with self.subTest(shown):
                 (self.folder / name).write_text("raise SystemExit\n")
                 self.seal()
-                shown = name.replace("\x1b", "\\x1b")
                 self.assertEqual(self.failing(), {"files": f"it doesn't name {shown}", "SHA256SUMS": f"it lists another file: {shown}"})
                 (self.folder / name).unlink()
         for number in range(101):
@@ -184,6 +187,27 @@ class Published(unittest.TestCase):
                             yokecairn.verify(self.folder)
                     else:
                         self.assertEqual(self.failing(), {"files": wanted})
+
+    @unittest.skipUnless(shutil.which("sh"), "there is no shell")
+    def test_what_the_readme_runs(self):
+        """Its lines run as they are; the one that verifies runs no file of the folder."""
+        self.publish()
+        (self.folder / "hashlib.py").write_text("print('yes')\nraise SystemExit\n")
+        lines = [line[4:] for line in (self.folder / "README").read_text().splitlines() if line.startswith("    ")]
+        self.assertEqual([line.split(" ")[:2] for line in lines[1:]], [["tsp", "check"], ["python3", "recheck.py"], ["sha256sum", "-c"]])
+        places = {"PYTHONPATH": str(Path(yokecairn.__file__).parents[1]), "PYTHONDONTWRITEBYTECODE": "1"}
+
+        def runs(line):
+            words = {"cwd": self.folder, "env": {**os.environ, **places}, "capture_output": True, "text": True, "check": False}
+            ended = subprocess.run(["sh", "-c", line.replace("python3", shlex.quote(sys.executable))], **words)
+            return ended.returncode, ended.stdout.splitlines()
+
+        status, told = runs(lines[0])
+        self.assertEqual((status, told[0], told[-1]), (1, "files: FAILS against README: it doesn't name hashlib.py", "no"))
+        (self.folder / "hashlib.py").unlink()
+        for line in (lines[0], lines[2]):
+            status, told = runs(line)
+            self.assertEqual((status, told[-1]), (0, "yes"), line)
 
     def test_sums(self):
         self.publish()
@@ -227,6 +251,8 @@ class Published(unittest.TestCase):
         self.assertFalse(self.folder.exists())
         with self.assertRaisesRegex(ValueError, "isn't empty"):
             yokecairn.publish(self.template, EXAMPLES / "harbour.tsp", EXAMPLES / "harbour.tour")
+        with self.assertRaisesRegex(ValueError, "this is a file, and not a folder: .*README"):
+            yokecairn.publish(self.template / "README", EXAMPLES / "harbour.tsp", EXAMPLES / "harbour.tour")
 
     def test_names_that_are_not_published(self):
         with tempfile.TemporaryDirectory() as scratch:
@@ -252,7 +278,9 @@ class Published(unittest.TestCase):
         self.assertEqual(run("verify", self.folder / "none")[0], 5)
         self.assertEqual(run(*words)[0], 2)
         status, out, err = run("publish", self.folder / "x", EXAMPLES / "harbour.tsp", EXAMPLES / "harbour.tour", "--length", "1")
-        self.assertEqual((status, out, err), (1, b"", b"nothing is published: no LengthClaimed 226: it claims 1\n"))
+        self.assertEqual((status, out), (1, b""))
+        self.assertTrue(err.startswith(b"nothing is published: no LengthClaimed 226: it claims 1\n"))
+        self.assertTrue(err.endswith(b"  Its length is 226.\n"))
 
 
 if __name__ == "__main__":

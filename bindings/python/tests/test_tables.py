@@ -10,10 +10,12 @@ import sys
 import tempfile
 import types
 import unittest
+from pathlib import Path
 
 import yokecairn
 from support import ROOT
-from yokecairn.__main__ import Run, length_of
+from yokecairn.__main__ import Run
+from yokecairn.solution import length_of
 from yokecairn.compare import line_of
 
 sys.path.append(str(ROOT / "tests/support"))
@@ -52,22 +54,11 @@ def program_said(told, words):
 
 def by_calls(program_and_words, cwd, **_):
     """Calls the package, and answers as a run of the program would."""
-    verb, *words = program_and_words[1:]
-    options, names, texts = {}, [], []
-    while words:
-        word, _, value = words.pop(0).partition("=")
-        if word == "--strict":
-            options["strict"] = True
-        elif word.startswith("--"):
-            options[word[2:]] = value or words.pop(0)
-        else:
-            names.append(word)
-            with open(os.path.join(cwd, word), "rb") as file:
-                texts.append(file.read())
+    options, names = rows.options_of(program_and_words[2:])
+    texts = [Path(cwd, name).read_bytes() for name in names]
     for name in options.keys() & {"potentials", "branches"}:
-        with open(os.path.join(cwd, options[name]), "rb") as file:
-            options[name] = file.read()
-    status, out, err = called(verb, texts, options, names)
+        options[name] = Path(cwd, options[name]).read_bytes()
+    status, out, err = called(program_and_words[1], texts, options, names)
     codes = [text.encode("utf-8", "surrogateescape") for text in (out, err)]
     return types.SimpleNamespace(returncode=status, stdout=codes[0], stderr=codes[1])
 

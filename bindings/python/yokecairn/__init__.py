@@ -15,7 +15,7 @@ The package itself isn't proved, and neither are ctypes or the step from a canon
 from . import _library
 from ._declared import Reason
 from .compare import Basis, BestUnknown, Comparison, compare
-from .contest import Entry, Table, table
+from .contest import Entry, table
 from .faults import (
     EndFault,
     Error,
@@ -32,6 +32,7 @@ from .problem import Problem, load, parse, read
 from .publishing import Verification, publish, verify
 from .report import Job, Report, bound, check, check_many, show
 from .solution import best_known, read_solution
+from .standings import Table
 
 
 __all__ = [

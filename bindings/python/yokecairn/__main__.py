@@ -1,10 +1,9 @@
 """The command line: `python -m yokecairn VERB`, with the program's verbs show, convert, check, bound and compare, and with
 solution, table, publish and verify.
 
-`solution` turns another program's solution into a file of TYPE TOUR. `check` and `compare` also read the forms of CVRPLIB,
-OR-Tools and JSON; with `--foreign` they read every form, and with `--no-foreign` only TYPE TOUR, like the program `tsp`.
-`compare` also writes tables and JSON, and `table` compares several solvers on many instances. The other verbs write what
-`tsp` writes, and end with its statuses, with these differences:
+`check` and `compare` also read solutions of other programs, unless `--no-foreign` is given. `compare` also writes tables and
+JSON, and `table` compares several solvers on many instances. The other verbs write what `tsp` writes, and end with its
+statuses, with these differences:
 
 - Each file is read whole before it is judged.
 - The texts for a refused command line, for help and for the version are Python's.
@@ -12,262 +11,20 @@ OR-Tools and JSON; with `--foreign` they read every form, and with `--no-foreign
 - If a fault isn't explained, its line ends in the path and the wrong word, or in the system's message.
 """
 
-import argparse
 import io
 import json
 import os
 import sys
-from typing import IO, Any, Callable, Dict, List, NoReturn, Optional, Sequence, Tuple, Union
+from typing import IO, Any, Callable, List, Optional, Sequence, Tuple, Union
 
-from . import LAYOUTS, __version__, _library
+from . import _library
 from .compare import Comparison, Judge, cells, line_of, rows_to, said_of, status_of
-from .contest import Table, table
-from .faults import Error, Fault, OutOfMemory, SolutionError, error_of, explained, located, text_of
+from .contest import table
+from .faults import Error, Fault, OutOfMemory, error_of, located
 from .publishing import README, publish, verify
 from .report import Outcome, Report
-from .solution import is_tsplib, length_of, shape_of, solution_text, told_by
-
-# What is said of each verb, its files, and its options.
-_VERBS: Dict[str, Tuple[str, Tuple[str, ...], Tuple[str, ...]]] = {
-    "show": ("print what a file contains", ("file",), ()),
-    "convert": ("write the canonical text of a file, with its matrix in a layout", ("file",), ("--layout",)),
-    "check": (
-        "judge a tour or routes for an instance",
-        ("file", "solution"),
-        ("--potentials", "--branches", "--length", "--strict", "--foreign", "--no-foreign", "--first", "--no-claims"),
-    ),
-    "bound": ("compute a bound for an instance from a certificate", ("file",), ("--potentials", "--branches", "--strict")),
-    "compare": (
-        "judge many solutions of an instance, and print a line for each",
-        ("file", "solutions"),
-        ("--potentials", "--branches", "--strict", "--best", "--tsv", "--json", "--summary", "--foreign", "--no-foreign", "--no-claims"),
-    ),
-    "table": (
-        "compare solvers on many instances in a table",
-        ("folders",),
-        ("--best", "--csv", "--json", "--markdown", "--latex", "--html", "--jobs", "--no-claims"),
-    ),
-    "publish": (
-        "put a result into a new folder, with everything that a reader needs to check it",
-        ("folder", "file", "solution"),
-        ("--potentials", "--branches", "--length", "--no-claims"),
-    ),
-    "verify": ("check a published folder, using only its files", ("folder",), ()),
-    "solution": ("turn another program's solution into a file of TYPE TOUR", ("file",), ("--dimension", "--first", "--routes")),
-}
-_FILES: Dict[str, Dict[str, Any]] = {
-    "file": {"metavar": "F", "help": "the instance; - is standard input"},
-    "solution": {"metavar": "T", "help": "the solution"},
-    "folder": {"metavar": "FOLDER", "help": "the folder of the result"},
-    "folders": {"metavar": "FOLDER", "nargs": "+", "help": "instances, and a folder of solutions for each solver; or a list"},
-    "solutions": {"metavar": "T", "nargs": "+", "help": "the solutions"},
-}
-# The file of verbs without an instance, and of one that reads no standard input.
-_OTHERS: Dict[str, str] = {
-    "show": "the file; - is standard input",
-    "convert": "the file; - is standard input",
-    "solution": "the other program's file; - is standard input",
-    "publish": "the instance",
-}
-
-
-def _flag(told: str, **more: Any) -> Dict[str, Any]:
-    """What argparse is told of an option without a value."""
-    return {"action": "store_true", "help": told, **more}
-
-
-def _value(named: str, told: str, **more: Any) -> Dict[str, Any]:
-    """What argparse is told of an option with a value of this name."""
-    return {"metavar": named, "help": told, **more}
-
-
-_OPTIONS: Dict[str, Dict[str, Any]] = {
-    "--explain": _flag("explain a fault or a no"),
-    "--layout": _value("L", "the layout of the matrix"),
-    "--potentials": _value("P", "a potentials file"),
-    "--branches": _value("B", "a branches file"),
-    "--length": _value("L", "claim the length L; a solution of another length is rejected"),
-    "--strict": _flag("reject an instance with an unknown keyword or an unused field"),
-    "--no-foreign": _flag("read only TYPE TOUR, like tsp", dest="foreign", action="store_false"),
-    "--foreign": _flag("read every form of solution, such as a list of nodes", default=None),
-    "--first": _value("0|1", "whether nodes count from 0 or from 1; 0 for routes in JSON that list customers", type=int, choices=(0, 1)),
-    "--routes": _flag("read a single line 0 -> .. -> 0 as a route, not a tour", default=None),
-    "--no-claims": _flag("ignore the length that another program's file claims"),
-    "--best": _value("BEST", "the best-known length, or a file with lines NAME LENGTH"),
-    "--tsv": _flag("write a table with tabs between its columns"),
-    "--json": _flag("write JSON once all solutions are judged"),
-    "--csv": _flag("write a row for each instance and solver"),
-    "--markdown": _flag("write a Markdown table"),
-    "--latex": _flag("write a LaTeX tabular"),
-    "--html": _flag("write HTML"),
-    "--jobs": _value("N", "the number of processes", type=int),
-    "--summary": _flag("write a one-line summary to standard error"),
-    "--dimension": _value("N", "the instance's DIMENSION, for LKH-3's routes", type=int),
-}
-# The forms in which a verb may write, in place of text.
-_FORMS = ("tsv", "json", "csv", "latex", "html", "markdown")
-
-
-class Refused(Exception):
-    """The words are refused; with what is written to standard error."""
-
-
-class Asked(Exception):
-    """The words ask for help or the version; with that text, which goes to standard output with status 0."""
-
-
-class _Parser(argparse.ArgumentParser):
-    """A parser whose refusals and help are exceptions."""
-
-    def __init__(self, **words: Any) -> None:
-        super().__init__(add_help=False, allow_abbrev=False, **words)
-        self.add_argument("-h", "--help", action=_Tell, nargs=0, help="print this")
-
-    def error(self, message: str) -> NoReturn:
-        raise Refused(f"{self.format_usage()}{self.prog}: {message}\n")
-
-
-class _Tell(argparse.Action):
-    """Writes a text in place of doing anything else."""
-
-    def __call__(self, parser: argparse.ArgumentParser, *_: Any) -> NoReturn:
-        raise Asked(parser.format_help() if self.dest == "help" else f"yokecairn {__version__}\n")
-
-
-def _parser() -> argparse.ArgumentParser:
-    """The parser of the table."""
-    parser = _Parser(prog="python3 -m yokecairn", description="Reads, writes and judges files of TSPLIB 95.")
-    parser.add_argument("-V", "--version", action=_Tell, nargs=0, help="print the version")
-    parser.set_defaults(**{word.strip("-").replace("-", "_"): None for word in (*_FILES, *_OPTIONS)})
-    verbs = parser.add_subparsers(dest="verb", metavar="VERB", title="verbs")
-    for name, (told, files, options) in _VERBS.items():
-        verb = verbs.add_parser(name, help=told, description=told)
-        for word in ("--explain", *files, *options):
-            said = {"help": _OTHERS[name]} if word == "file" and name in _OTHERS else {}
-            verb.add_argument(word, **{**(_FILES.get(word) or _OPTIONS[word]), **said})
-    return parser
-
-
-class Task:
-    """What the words of the command line ask for."""
-
-    def __init__(self, given: argparse.Namespace) -> None:
-        self.verb: Optional[str] = given.verb
-        self.layout: Optional[str] = given.layout
-        if self.layout is not None and self.layout not in LAYOUTS:
-            raise Refused("unknown layout\n")
-        self.potentials: Optional[str] = given.potentials
-        self.branches: Optional[str] = given.branches
-        if self.potentials is not None and self.branches is not None:
-            raise Refused("both potentials and branches\n")
-        if self.verb == "bound" and self.potentials is None and self.branches is None:
-            raise Refused("neither potentials nor branches\n")
-        self.by = _library.ALONE
-        if self.potentials is not None:
-            self.by = _library.POTENTIALS
-        elif self.branches is not None:
-            self.by = _library.BRANCHES
-        self.claimed: Optional[int] = None
-        self.is_own_claim = False
-        if given.length is not None:
-            try:
-                self.claimed = length_of(given.length)
-            except (ValueError, ArithmeticError):
-                raise Refused("not a length\n") from None
-        self.strict = bool(given.strict)
-        self.foreign: Optional[bool] = given.foreign
-        self.claims = not given.no_claims
-        self.dimension: Optional[int] = given.dimension
-        self.first: Optional[int] = given.first
-        self.routes: Optional[bool] = given.routes
-        self.folders: List[str] = given.folders or [given.folder or ""]
-        self.jobs: Optional[int] = given.jobs
-        if self.jobs is not None and self.jobs < 1:
-            raise Refused("--jobs is 1 or more\n")
-        certificate = self.potentials if self.branches is None else self.branches
-        self.paths: List[str] = [path for path in (given.file, given.solution, certificate) if path is not None]
-        self.solutions: List[str] = given.solutions or []
-        self.best: Optional[str] = given.best
-        forms = [form for form in _FORMS if getattr(given, form)]
-        self.form = forms[0] if forms else "text"
-        self.sums = bool(given.summary)
-        if len(forms) > 1:
-            raise Refused(f"both --{forms[0]} and --{forms[1]}\n")
-        if any("\n" in path for path in self.solutions):
-            raise Refused("line end in a path\n")
-        if [*self.paths, *self.solutions, self.best].count("-") > 1:
-            raise Refused("standard input is read once\n")
-
-    def read(self, texts: List[bytes]) -> None:
-        """Puts a text of TYPE TOUR in the place of another program's, and takes the length that it claims.
-
-        Raises:
-            SolutionError: it isn't read.
-        """
-        if self.verb != "check":
-            return
-        texts[1], claim = told_by(
-            texts[1], lambda: shape_of(texts[0]), foreign=self.foreign, first=self.first, claims=self.claims
-        )
-        if self.claimed is None:
-            self.claimed, self.is_own_claim = claim, claim is not None
-
-    def is_foreign(self, texts: Sequence[bytes]) -> bool:
-        """Whether a solution that has a fault would be read with --foreign."""
-        if self.verb != "check" or self.foreign is not None or len(texts) < 2 or is_tsplib(text_of(texts[1])):
-            return False
-        try:
-            solution_text(texts[1], *shape_of(texts[0]), first=self.first)
-        except SolutionError:
-            return False
-        return True
-
-    def done(self, texts: Sequence[bytes]) -> Tuple[int, bytes]:
-        """The status of the verb on these texts, and what it writes."""
-        if self.verb == "solution":
-            return _library.DONE, solution_text(texts[0], self.dimension, self.routes, self.first)
-        if self.verb == "check":
-            certificate = texts[2] if self.by else b""
-            return _library.check(texts[0], texts[1], certificate, self.by, self.claimed, self.strict)
-        if self.verb == "bound":
-            return _library.bound(texts[0], texts[1], self.by, self.strict)
-        if self.verb == "convert":
-            return _library.convert(texts[0], _library.LAYOUTS[self.layout] if self.layout else 0)
-        return _library.show(texts[0])
-
-    def explained(self, texts: Sequence[bytes]) -> str:
-        """What is told of the answer on these texts, for a person."""
-        names = ["standard input" if path == "-" else path for path in self.paths]
-        if self.verb == "bound":
-            texts, names = (texts[0], b"", texts[1]), [names[0], "", names[1]]
-        call = getattr(_library, self.verb.upper()) if self.verb else _library.SHOW
-        layout = _library.LAYOUTS[self.layout] if self.layout else 0
-        told = explained(call, texts, names, self.by or layout, self.claimed, self.strict)
-        if self.is_own_claim and "--length" in told:
-            return f"{told}\n  The file itself claims {self.claimed}. --no-claims leaves that."
-        return told
-
-
-def task_of(words: Sequence[str]) -> Tuple[Task, bool]:
-    """What these words ask for, and whether they ask for explanations.
-
-    Raises:
-        Refused, Asked: they ask for nothing that is done.
-    """
-    words = [] if list(words) == ["--"] else words
-    parser = _parser()
-    given, others = parser.parse_known_args(words)
-    # (argparse takes no more solutions behind an option)
-    if given.verb == "compare" and not any(word.startswith("-") and word != "-" for word in others):
-        given.solutions += others
-    elif others:
-        parser.error(f"unrecognized arguments: {' '.join(others)}")
-    if given.verb is None:
-        if words:
-            raise Refused("python3 -m yokecairn: a verb is missing\n")
-        given.file = "-"
-    return Task(given), bool(given.explain)
-
+from .standings import Table
+from .words import Asked, Refused, Task, task_of
 
 # ---- the verb compare: a line, a row or a part of JSON for each solution
 
@@ -278,7 +35,7 @@ class Lines:
         self.run, self.judge, self.task = run, judge, task
         best = self.best_of(task.best) if task.best else None
         self.found = Comparison(judge.basis, task.paths[0], judge.best(best))
-        self.counts = task.form != "json" and run.err.isatty() and not run.out.isatty()
+        self.counts = task.written != "json" and run.err.isatty() and not run.out.isatty()
 
     def text_of(self, path: str) -> bytes:
         """The text of a file of best-known lengths, or of a solution."""
@@ -303,9 +60,9 @@ class Lines:
 
     def head(self) -> None:
         """Writes what comes before all solutions."""
-        if self.task.form == "text":
+        if self.task.written == "text":
             self.write(self.judge.basis.text)
-        elif self.task.form == "tsv":
+        elif self.task.written == "tsv":
             header = io.StringIO()
             rows_to(header, "\t").writeheader()
             self.write(header.getvalue())
@@ -321,16 +78,16 @@ class Lines:
     def add(self, path: str, outcome: Outcome) -> None:
         """Writes what came of a solution."""
         self.found.add(path, outcome)
-        if self.task.form == "text":
+        if self.task.written == "text":
             self.write(f"{line_of(path, outcome)}\n")
-        elif self.task.form == "tsv":
+        elif self.task.written == "tsv":
             self.row(cells(self.found.row(path, outcome)))
         if self.counts:
             self.run.say(b"\r%d of %d" % (len(self.found), len(self.task.solutions)))
         explanation = "" if isinstance(outcome, Report) and outcome.yes else getattr(outcome, "explanation", "")
         if self.run.explains and explanation:
             self.run.explain(("\n" if self.counts else "") + explanation)
-        elif self.task.form == "text" and not isinstance(outcome, Report) and not self.run.explains:
+        elif self.task.written == "text" and not isinstance(outcome, Report) and not self.run.explains:
             self.run.explain(f"{path}: {said_of(outcome)}")
 
     def written(self) -> int:
@@ -341,7 +98,7 @@ class Lines:
                 self.add(path, self.outcome(path))
         if self.counts:
             self.run.say(b"\n")
-        if self.task.form == "json":
+        if self.task.written == "json":
             self.write(json.dumps(self.found.as_dict(), indent=2) + "\n")
         if self.task.sums:
             self.run.explain(self.found.summary())
@@ -396,7 +153,7 @@ def tabled(run: Any, task: Task) -> int:
     forms = {
         "csv": found.to_csv, "latex": found.to_latex, "html": found.to_html, "json": found.to_json, "markdown": found.to_markdown,
     }
-    written = forms[task.form]() if task.form in forms else f"{found}\n"
+    written = forms[task.written]() if task.written in forms else f"{found}\n"
     run.write((written or "").encode("utf-8", "surrogateescape"))
     return _status(found)
 
@@ -424,8 +181,6 @@ def published(run: Any, task: Task) -> int:
         run.explain(str(fault))
         return _library.NO if str(fault).startswith("nothing is published") else _library.FAULT
 
-
-__all__ = ["Run", "length_of", "main"]
 
 WORDS, DEVICE = 4, 5
 MOST_BYTES = 1 << 30  # of a file that count
@@ -488,9 +243,11 @@ class Run:
         try:
             task.read(texts)
             done = task.done(texts)
-        except SolutionError as fault:
-            self.say(f"{task.paths[int(task.verb == 'check')]}: {fault}\n".encode("utf-8", "surrogateescape"))
-            return _library.FAULT
+        except Error as fault:
+            self.explain(located(fault) if isinstance(fault, Fault) else str(fault))
+            if self.explains:
+                self.explain(getattr(fault, "explanation", ""))
+            return _library.FAULT if isinstance(fault, Fault) else _library.OUT_OF_MEMORY
         ended = self.refuse(task, done[1], texts) if done[0] == _library.FAULT else self.tell(*done)
         if self.explains and task.verb != "solution" and ended in (_library.DONE, _library.NO, _library.FAULT):
             self.explain(task.explained(texts))
@@ -506,8 +263,7 @@ class Run:
 
     def compare(self, task: Task, texts: Sequence[bytes]) -> int:
         """Judges each solution, and writes what comes of it when that is known; the exit status."""
-        names = ["standard input" if path == "-" else path for path in task.paths]
-        given, paths = (texts[0], texts[1] if task.by else b""), (names[0], names[-1])
+        given, paths = (texts[0], texts[1] if task.by else b""), (task.names[0], task.names[-1])
         judge = Judge(given, paths, task.by, task.foreign, task.claims, task.strict)
         try:
             return Lines(self, judge, task).written()
@@ -559,11 +315,8 @@ class Run:
 
     def refuse(self, task: Task, told: bytes, texts: Sequence[bytes]) -> int:
         """Tells of a fault, and where it isn't explained in full, which file and which word has it; the exit status."""
-        names = ["standard input" if path == "-" else path for path in task.paths]
-        fault = error_of(_library.FAULT, told, paths=names, texts=texts)
+        fault = error_of(_library.FAULT, told, paths=task.names, texts=texts)
         self.explain(located(fault) if isinstance(fault, Fault) and not self.explains else told.decode().rstrip("\n"))
-        if isinstance(fault, Fault) and fault.file == 2 and task.is_foreign(texts):
-            self.explain(f"{names[1]} has another program's form: --foreign reads it")
         return _library.FAULT
 
     def tell(self, status: int, told: bytes) -> int:

@@ -1,7 +1,7 @@
-"""What bindings/c/tsp.h declares, for ctypes, and the reasons for the line `no`.
+"""What bindings/c/tsp.h declares, for ctypes, the reasons for the line `no`, and what faults of solutions mean.
 
-This file is made from the header and from bindings/reasons.tsv by `tests/repository/reasons --write`: change these. The
-suite `reasons` of ./check compares them.
+This file is made from the header, bindings/reasons.tsv and the definitions of tsp_solution by
+`tests/repository/reasons --write`: change these. The suite `reasons` of ./check compares them.
 """
 
 from ctypes import POINTER, Structure, c_bool, c_char_p, c_int64, c_size_t, c_uint32, c_uint64, c_void_p
@@ -41,6 +41,20 @@ DISTANCE_ATT = 5
 DISTANCE_EUC_3D = 6
 DISTANCE_MAN_3D = 7
 DISTANCE_MAX_3D = 8
+FORM_FOUND = 0
+FORM_TOUR = 1
+FORM_JSON = 2
+FORM_OR_TOOLS = 3
+FORM_CVRPLIB = 4
+FORM_LKH = 5
+FORM_R = 6
+FORM_CONCORDE_EDGES = 7
+FORM_CONCORDE = 8
+FORM_TABLE = 9
+FORM_LIST = 10
+FIRST_FOUND = 0
+FIRST_0 = 1
+FIRST_1 = 2
 TYPE_TSP = 1
 TYPE_ATSP = 2
 TYPE_CVRP = 3
@@ -179,6 +193,8 @@ CALLS: Dict[str, Tuple[Any, List[Any]]] = {
     "tsp_bound": (c_uint32, [c_char_p, c_size_t, c_char_p, c_size_t, c_uint32, c_void_p, c_size_t, POINTER(c_size_t)]),
     "tsp_show": (c_uint32, [c_char_p, c_size_t, c_void_p, c_size_t, POINTER(c_size_t)]),
     "tsp_convert": (c_uint32, [c_char_p, c_size_t, c_uint32, c_void_p, c_size_t, POINTER(c_size_t)]),
+    "tsp_solution": (c_uint32, [c_char_p, c_size_t, c_char_p, c_size_t, c_uint32, c_uint32, c_uint32, c_void_p, c_size_t,
+        POINTER(c_size_t)]),
     "tsp_explain": (c_uint32, [c_uint32, c_char_p, c_size_t, c_char_p, c_size_t, c_char_p, c_size_t, c_char_p, c_size_t, c_uint32, c_int64,
         c_uint32, c_void_p, c_size_t, POINTER(c_size_t)]),
     "tsp_count": (c_uint32, [c_char_p, c_size_t, POINTER(c_uint32)]),
@@ -202,6 +218,30 @@ CALLS: Dict[str, Tuple[Any, List[Any]]] = {
     "tsp_instance_matrix": (c_uint32, [POINTER(tsp_instance), c_uint32, c_void_p, c_size_t]),
     "tsp_instance_lengths": (c_uint32, [POINTER(tsp_instance), c_void_p, c_size_t, c_void_p, c_size_t]),
     "tsp_version": (c_uint32, []),
+}
+
+# What each fault of another program's solution means.
+SENTENCES: Dict[str, str] = {
+    "NoForm": "The text has none of the forms that tsp solution --forms prints.",
+    "Ambiguous": "The numbers can be read in two ways. Name the instance with --of, the form with --form,\nor with --first 0 or 1 whether the numbers are customers or nodes.",
+    "NoInstance": "Routes of LKH-3 are read if you name their instance with --of.",
+    "NotATour": "The file has another TYPE than TOUR.",
+    "NotAnInstance": "The file that --of names is no instance: its TYPE isn't TSP, ATSP or CVRP.",
+    "NotANode": "The word isn't the number of a node or a customer.",
+    "OutOfRange": "The number is larger than that of any node.",
+    "TooManyNodes": "A file of TYPE TOUR has at most 1,000,000 nodes, from 1 to 100,000.",
+    "NoNodes": "There are no nodes.",
+    "UnknownLine": "The line is no route. Besides routes, a file may have a cost, comments with #, and lines NAME: VALUE.",
+    "NotClosed": "A walk begins and ends at the depot, and all walks at the same one.",
+    "WrongCount": "There are more or fewer lines or nodes than the first line says.",
+    "NotTwoEdges": "In a tour each node has two edges, and this is the node's third.",
+    "SeveralCycles": "The edges are more than one cycle.",
+    "TooManyColumns": "A table has a column of nodes, and at most one more, of their positions.",
+    "NoDepot": "No number is the depot or a copy of it.",
+    "BadJson": "The text isn't JSON from here on.",
+    "TooDeep": "Values of JSON are nested at most 64 deep.",
+    "NoList": "The JSON has no list of nodes or routes.",
+    "SeveralLists": "The JSON has a second list, so that it isn't clear which one is the solution.",
 }
 
 # Each reason by its number, with how many numbers it has.

@@ -41,6 +41,9 @@ COORDS, DISPLAY = _declared.POINTS_NODE_COORD, _declared.POINTS_DISPLAY_DATA
 # The distances, and the layouts, by their numbers.
 KINDS, LAYOUTS = _words("DISTANCE_"), _words("LAYOUT_")
 
+# The forms of solutions by their names in `tsp solution --forms`.
+FORMS = {name.lower().replace("or_tools", "ortools").replace("_", "-"): number for name, number in _words("FORM_").items()}
+
 # The calls that are explained, by their numbers.
 SHOW, CONVERT, CHECK, BOUND = _declared.OF_SHOW, _declared.OF_CONVERT, _declared.OF_CHECK, _declared.OF_BOUND
 
@@ -94,7 +97,8 @@ class Result(_declared.tsp_result):
 
 
 _check, _bound, _explain = _call("tsp_check_result"), _call("tsp_bound_result"), _call("tsp_explain")
-_show, _convert, _count, _points = _call("tsp_show"), _call("tsp_convert"), _call("tsp_count"), _call("tsp_points")
+_show, _convert, _solution = _call("tsp_show"), _call("tsp_convert"), _call("tsp_solution")
+_count, _points = _call("tsp_count"), _call("tsp_points")
 _open, _close, _bind, _version = _call("tsp_open"), _call("tsp_close"), _call("tsp_bind"), _call("tsp_version")
 _check_held, _points_held = _call("tsp_instance_check"), _call("tsp_instance_points")
 _weights_held, _matrix_held, _lengths_held = (_call(f"tsp_instance_{name}") for name in ("weights", "matrix", "lengths"))
@@ -167,6 +171,13 @@ def show(text: bytes) -> Tuple[int, bytes]:
 def convert(text: bytes, layout: int) -> Tuple[int, bytes]:
     """The status of a text, and its canonical text or the line of its fault. Layout 0 is its own."""
     return _written(_convert, text, len(text), layout, capacity=len(text) + REPORT)
+
+
+def solution(text: bytes, instance: bytes, form: int, first: int, depot: int) -> Tuple[int, bytes]:
+    """The status of a solution in any form, and its text of TYPE TOUR or the line of its fault. Each number may be 0, for what
+    isn't known, and the instance empty."""
+    words = (text, len(text), instance, len(instance), form, first, depot)
+    return _written(_solution, *words, capacity=len(text) + REPORT)
 
 
 def count(text: bytes) -> Tuple[int, Optional[int]]:

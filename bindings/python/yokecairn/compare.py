@@ -16,7 +16,7 @@ from ._declared import REASONS
 from .faults import Error, Fault, OutOfMemory, text_of
 from .problem import Path, Problem, Source, parse, text_and_path
 from .report import Outcome, Report, Solution, bound_of, certificate_of, report_of, solution_of
-from .solution import Shape, best_known
+from .solution import Shape, best_known, shape_with
 
 # The best-known length: itself, lengths by names, or a file of lines `NAME LENGTH`.
 Best = Union[int, Mapping[str, int], Source]
@@ -170,11 +170,11 @@ class Judge:
             known.update(reason=reason, numbers=(bound.first, bound.second)[:count])
         elif self.is_strict and report.not_judged:
             known.update(reason="NotJudged")
-        elif self.is_strict and (field := parse(self.instance).unused_field()) is not None:
+        elif self.is_strict and (field := self._problem.unused_field()) is not None:
             known.update(reason="NotUsed", field=field)
         else:
             if report.type == "CVRP":
-                known.update(least=_least(parse(self.instance)))
+                known.update(least=_least(self._problem))
             if bound is not None:
                 known.update(bound=bound.bound, no_tour=bound.verdict == _library.NO_TOUR)
         return Basis(report.type, report.nodes, report.not_judged, **known)
@@ -183,7 +183,7 @@ class Judge:
         """What comes of a solution: its report, or the exception that says why it has none. `path` is where it
         was, where it is a text."""
         try:
-            return self.report(*solution_of(solution, self._shape, self.is_foreign, self.claims, path), explain)
+            return self.report(*solution_of(solution, lambda: self._shape, self.is_foreign, self.claims, path), explain)
         except OutOfMemory:
             raise
         except (Error, OSError) as fault:  # one bad solution doesn't stop the others
@@ -201,8 +201,14 @@ class Judge:
         texts = (self.instance, solution, self.certificate)
         return report_of(texts, paths, self.by, claim, explain=explain, handle=self._handle)
 
+    @cached_property
+    def _problem(self) -> Problem:
+        return parse(self.instance)
+
+    @cached_property
     def _shape(self) -> Shape:
-        return Shape(self.basis.nodes, self.basis.type == "CVRP")
+        depot = next(iter(self._problem.depots), 1) if self.basis.type == "CVRP" else None
+        return shape_with(self.basis.nodes, depot)
 
     def best(self, best: Optional[Best]) -> Optional[int]:
         """The best-known length of the instance.
@@ -241,11 +247,7 @@ def line_of(name: str, outcome: Outcome) -> str:
 
 def _fault(fault: Exception) -> str:
     """A fault of a solution, in one line without the number of its file."""
-    told = str(getattr(fault, "told", fault))
-    line = getattr(fault, "line", None)
-    if not told.startswith("file ") and line:
-        return f"line {line}: {told}"  # a solution of another program
-    return re.sub(r"\Afile \d+: ", "", told)
+    return re.sub(r"\Afile \d+: ", "", str(getattr(fault, "told", fault)))
 
 
 def said_of(fault: Exception) -> str:

@@ -7,7 +7,7 @@
             TooLong                 the text is too long
             WrongKind               the first file of a check has a TYPE that the check can't use
             RelayoutFault           the weights can't be written in the layout
-        SolutionError (a ValueError)    another program's solution has no known form
+            SolutionError           another program's solution has no known form
         OutOfMemory (a MemoryError)
         NodeError (a LookupError)   the instance has no such node
 """
@@ -28,26 +28,6 @@ class Error(Exception):
 
 class NodeError(Error, LookupError):
     """The instance has no such node."""
-
-
-class SolutionError(Error, ValueError):
-    """Another program's solution has no known form, or breaks the rules of its form.
-
-    Attributes:
-        told: what is wrong.
-        line: the line, counted from 1, if a line is wrong.
-        path: the path of the text, if it was read from one.
-    """
-
-    def __init__(self, told: str, line: Optional[int] = None, path: Optional[str] = None) -> None:
-        super().__init__(told, line, path)
-        self.told = told
-        self.line = line
-        self.path = path
-
-    def __str__(self) -> str:
-        line = f"line {self.line}: " if self.line else ""
-        return (f"{self.path}: " if self.path else "") + line + self.told
 
 
 class OutOfMemory(Error, MemoryError):
@@ -105,6 +85,11 @@ class Fault(Error, ValueError):
         return where + self.told + found + (f"\n{self.explanation}" if self.explanation else "")
 
 
+    def of_file(self, number: int) -> "Fault":
+        """The same fault, of the text with another number."""
+        return type(self)(re.sub(r"\Afile \d+", f"file {number}", self.told), self.explanation, self.path, self.found)
+
+
 # Faults that are told in words.
 _NAMES = {"too long": "TooLong", "wrong kind": "WrongKind"}
 
@@ -129,6 +114,12 @@ class RelayoutFault(Fault):
     """The weights of a file can't be written in a layout."""
 
 
+class SolutionError(Fault):
+    """Another program's solution has no known form, or breaks the rules of its form. Its words stand between blanks and the marks
+    `,` `;` `:` `[` `]` `(` `)` `{` `}` and `"`.
+    """
+
+
 def _class_of(told: str) -> Type[Fault]:
     match = _LINE.fullmatch(told)
     assert match is not None  # any text matches
@@ -141,15 +132,15 @@ def _class_of(told: str) -> Type[Fault]:
     return {"too long": TooLong, "wrong kind": WrongKind}.get(match[6], Fault)
 
 
-def _found(text: bytes, line: int, word: int, is_unknown: bool) -> Optional[str]:
-    """The word of a text at this place; of a line as a whole the value behind its colon, or all of it where that has
-    none, or its keyword is unknown."""
+def _found(text: bytes, line: int, word: int, is_unknown: bool, marks: str = "") -> Optional[str]:
+    """The word of a text at this place, between blanks and marks; of a line as a whole the value behind its colon, or all of it
+    where that has none, or its keyword is unknown."""
     lines = text.split(b"\n", line)
     if len(lines) < line:
         return None
     whole = text_of(lines[line - 1]).strip(" \t\v\f\r")
-    parts = whole.split()
-    if word:
+    parts = whole.translate(dict.fromkeys(map(ord, marks), " ")).split()
+    if word and not (marks and is_unknown):
         return parts[word - 1][:_MOST_SHOWN] if word <= len(parts) else None
     value = "" if is_unknown else whole.partition(":")[2].strip()
     return (value or whole)[:_MOST_SHOWN] or None
@@ -188,10 +179,12 @@ def error_of(
     explain: Callable[[], str] = str,
     paths: Sequence[Optional[str]] = (),
     texts: Sequence[bytes] = (),
+    kind: Optional[Type[Fault]] = None,
 ) -> Error:
     """The exception for a call that ended with this status and this line.
 
-    `explain` tells more of a fault, and `paths` are those of the call's texts.
+    `explain` tells more of a fault, and `paths` are those of the call's texts. `kind` is the class of a fault, if the line
+    doesn't tell it.
     """
     line = text_of(told).rstrip("\n")
     match = _LINE.fullmatch(line)
@@ -203,6 +196,7 @@ def error_of(
         at = (file or 1) - 1
         found = None
         if match and match[2] and at < len(texts):
-            found = _found(texts[at], int(match[2]), int(match[3]), match[6] == "UnknownLine")
-        return _class_of(line)(line, explain(), path, found)
+            marks = ',;:[](){}"' if kind is SolutionError else ""
+            found = _found(texts[at], int(match[2]), int(match[3]), match[6] == "UnknownLine", marks)
+        return (kind or _class_of(line))(line, explain(), path, found)
     raise AssertionError(f"libtsp answered the status {status}: {line}")

@@ -28,7 +28,7 @@ def _routes(problem: Any, tour: Any) -> List[Sequence[int]]:
     """The tours of what is given as one, each with the nodes in their order. Routes begin at the depot."""
     if isinstance(tour, (str, os.PathLike, bytes, bytearray)):
         read = importlib.import_module(".solution", __package__).read_solution  # (which imports this module)
-        tour = read(tour, dimension=problem.dimension, routes=problem.type == "CVRP")
+        tour = read(tour, of=problem)
     given = getattr(tour, "tours", tour)
     parts: List[Any] = list(given)
     if not (parts and isinstance(parts[0], Iterable)):

@@ -65,8 +65,14 @@ def _by() -> str:
 
 
 def _shown(text: str) -> str:
-    """A text from a folder as it may be written to a terminal: what isn't printable is written in hexadecimal."""
-    return "".join(sign if sign.isprintable() else f"\\x{ord(sign) & 0xFF:02x}" for sign in text)
+    """A text from a folder as it may be written to a terminal: what isn't printable is written in hexadecimal, and so is a
+    byte that is no UTF-8."""
+    return "".join(sign if sign.isprintable() else _escaped(sign) for sign in text)
+
+
+def _escaped(sign: str) -> str:
+    is_byte = "\udc80" <= sign <= "\udcff"  # as surrogateescape has it
+    return f"\\x{ord(sign) & 0xFF:02x}" if is_byte else sign.encode("unicode_escape").decode()
 
 
 def _bad_name(name: str) -> Optional[str]:
@@ -139,9 +145,10 @@ def _readme(names: Dict[str, str], report: Report) -> str:
         f"{RECHECKED}: what {SCRIPT} prints, a second program that shares no code with the first",
         f"{VERSIONS}: by what both were made",
         f"{SUMS}: the sums of all files by SHA-256", "",
-        "Each of these lines checks it again. The first needs Yokecairn's package for Python, the second its program, and the"
-        " last ones nothing but Python 3.9 and sha256sum:", "",
-        "    python3 -m yokecairn verify .",
+        "Each of these lines checks it again. The first needs Yokecairn's package for Python, and runs outside this folder,"
+        " because Python would run files in it. The second needs Yokecairn's program, and the last ones nothing but Python 3.9"
+        " and sha256sum:", "",
+        '    (cd / && python3 -m yokecairn verify "$OLDPWD")',
         f"    tsp check {words}",
         f"    python3 {SCRIPT} {words}",
         f"    sha256sum -c {SUMS}", "",
@@ -166,21 +173,23 @@ def publish(
 
     Raises:
         ValueError: the solution is rejected, two files have the same name, a name can't be published, or the folder
-            isn't empty.
+            is a file or isn't empty.
         Fault, SolutionError, OSError: as in `check`.
     """
     given = {"instance": instance, "solution": solution, "potentials": potentials, "branches": branches}
     sources = {role: _Path(path) for role, path in given.items() if path is not None}
     report = check(instance, solution, potentials, branches, length, explain=True, foreign=None, claims=claims)
     if not report.yes:
-        raise ValueError(f"nothing is published: no {report.detail}")
+        raise ValueError(f"nothing is published: no {report.detail}\n{report.explanation}")
     text = sources["instance"].read_bytes()
     told, _, _ = solution_of(solution, lambda: shape_of(text), None, claims)
     if told != sources["solution"].read_bytes():
         sources[_ORIGINAL] = sources["solution"]
     names = _names_of(sources)
     top = _Path(folder)
-    if top.exists() and (not top.is_dir() or any(top.iterdir())):
+    if top.exists() and not top.is_dir():
+        raise ValueError(f"this is a file, and not a folder: {top}")
+    if top.exists() and any(top.iterdir()):
         raise ValueError(f"the folder isn't empty: {top}")
     script = _script()
     if script is None:

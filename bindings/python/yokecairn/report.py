@@ -11,7 +11,7 @@ from typing import Any, Callable, Dict, Iterable, List, Mapping, NamedTuple, Opt
 
 from . import _library
 from ._declared import REASONS
-from .faults import SolutionError, error_of, explained, text_of
+from .faults import error_of, explained, text_of
 from .problem import Problem, Source, text_and_path
 from .solution import Shape, shape_of, told_by, tour_text, tours_of
 
@@ -114,22 +114,24 @@ class Report:
             TypeError: the scale isn't a whole number.
             ValueError: the scale is below 1, or the rounding is unknown.
         """
-        return None if self.length is None else self._real(self.length, scale, rounding)
+        # a tour has as many edges as nodes; routes have one for each customer, and one more for each route
+        edges = self.nodes if self.routes is None else self.nodes - 1 + self.routes
+        return None if self.length is None else self._real(self.length, edges, scale, rounding)
 
     def real_bound(self, scale: int, rounding: str = "nearest") -> Optional[Decimal]:
-        """A lower bound in real numbers, for distances as in `real_length`; None if there is no bound."""
-        return None if self.bound is None else self._real(self.bound, scale, rounding)[0]
+        """A lower bound in real numbers, for distances as in `real_length`; None if there is no bound. For a CVRP, it allows
+        for a route for each customer."""
+        edges = 2 * (self.nodes - 1) if self.type == "CVRP" else self.nodes
+        return None if self.bound is None else self._real(self.bound, edges, scale, rounding)[0]
 
-    def _real(self, length: int, scale: int, rounding: str) -> Tuple[Decimal, Decimal]:
-        """The least and the most real length of a tour, or of all routes, with this whole one."""
+    def _real(self, length: int, edges: int, scale: int, rounding: str) -> Tuple[Decimal, Decimal]:
+        """The least and the most real length of a solution with this whole length and so many edges."""
         if isinstance(scale, bool) or not isinstance(scale, int):
             raise TypeError(f"a scale is a whole number, and this is of type {_type(scale)}")
         if scale < 1:
             raise ValueError(f"a scale is 1 or more, and this is {scale}")
         if rounding not in _ROUNDINGS:
             raise ValueError(f"a rounding is one of {', '.join(_ROUNDINGS)}, and this is {rounding!r:.60}")
-        # as many edges as nodes; of routes each customer's, and one more of each route
-        edges = self.nodes if self.routes is None else self.nodes - 1 + self.routes
         less, more = _ROUNDINGS[rounding]
         least, most = (Decimal(2 * length + side * edges) for side in (-less, more))
         halves = Decimal(2 * scale)
@@ -224,13 +226,13 @@ def check(
     `strict`, an instance with an unknown keyword (one of `Report.not_judged`) is rejected with `NotJudged`, and one with a
     field that it doesn't use with `NotUsed`, after all other reasons.
 
-    A solution in the form of CVRPLIB (`.sol`), OR-Tools or JSON is read as `read_solution` reads it. With `foreign=True`
-    every form is read, and with `foreign=False` only TYPE TOUR. If such a solution claims a length, this is used as
-    `length`, unless you pass `length` or `claims=False`.
+    A solution in another program's form is read as `read_solution` reads it, and with `foreign=False` only TYPE TOUR. If such
+    a solution claims a length, this is used as `length`, unless you pass `length` or `claims=False`. With `foreign=True`, this
+    also holds for a file of TYPE TOUR, in which LKH-3's copies of the depot are then read too.
 
     Raises:
-        Fault: a text isn't a valid file, or the first file is of the wrong kind.
-        SolutionError: the other program's solution can't be read.
+        Fault: a text isn't a valid file, or the first file is of the wrong kind. It is a `SolutionError` if the solution has
+            another program's form, or none that is known.
         OSError: a path can't be read.
         MemoryError: out of memory.
     """
@@ -254,10 +256,7 @@ def solution_of(
     path = path or own_path
     if isinstance(solution, Problem):
         return text, path, solution.claimed_length if claims else None
-    try:
-        told, claim = told_by(text, shape, foreign=foreign, claims=claims)
-    except SolutionError as fault:
-        raise SolutionError(fault.told, fault.line, path) from None
+    told, claim = told_by(text, shape, path, foreign=foreign, claims=claims)
     return told, path, claim
 
 

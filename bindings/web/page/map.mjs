@@ -61,8 +61,9 @@ export function pictureOf(scene, look) {
 function groundShapes(scene, { place }, kind) {
     const nodes = scene.points.length / 2;
     const all = Array.from({ length: nodes }, (_, at) => at + 1);
+    const hasColours = scene.depot !== null && !scene.other;
     return [
-        ...scene.tours.flatMap((tour, at) => tourShapes(tour, place, tourWords(scene, at, kind)).map((shape) => coloured(shape, scene, at))),
+        ...scene.tours.flatMap((tour, at) => tourShapes(tour, place, tourWords(scene, at, kind)).map((shape) => (hasColours ? inColour(shape, at) : shape))),
         ...(scene.fixed.length > 0 ? [linesShape(scene.fixed, place, "fixed")] : []),
         dotsShape(all, place, `nodes ${sizeOf(nodes)}`),
         dotsShape(scene.missing, place, `missing ${sizeOf(nodes)}`),
@@ -100,19 +101,18 @@ function tourWords(scene, at, kind) {
 }
 
 /**
- * A shape of a route in its colour.
+ * A shape in the colour of a route.
  *
  * @param {Shape} shape
- * @param {Scene} scene
- * @param {number} at
+ * @param {number} route from 0
  * @returns {Shape}
  */
-function coloured(shape, scene, at) {
-    return scene.depot === null || scene.other ? shape : { ...shape, attributes: { ...shape.attributes, stroke: colourOf(at) } };
+function inColour(shape, route) {
+    return { ...shape, attributes: { ...shape.attributes, stroke: colourOf(route) } };
 }
 
 /**
- * The route that is picked.
+ * The route that is picked, in its colour.
  *
  * @param {Scene} scene
  * @param {number | null} route
@@ -120,8 +120,10 @@ function coloured(shape, scene, at) {
  * @returns {Shape[]}
  */
 function pickedShapes(scene, route, place) {
-    const tour = route === null ? undefined : scene.tours[route];
-    return tour ? tourShapes(tour, place, "picked") : [];
+    if (route === null || route >= scene.tours.length) {
+        return [];
+    }
+    return tourShapes(scene.tours[route], place, "picked").map((shape) => inColour(shape, route));
 }
 
 /**

@@ -201,7 +201,7 @@ const TESTS = {
             HTMLAnchorElement.prototype.click = function () { saved.at(-1).name = this.download; }; 0`);
         await browser.choose("all", ["harbour.tsp", "solvers/harbour.concorde.sol"]);
         await browser.until(`document.getElementById("verdict").textContent === "Yes: a tour"`);
-        assert.match(await browser.value(`document.getElementById("made").textContent`), /was read as a tour of Concorde.* Save harbour\.concorde\.tour$/);
+        assert.match(await browser.value(`document.getElementById("made").textContent`), /was read as another program's solution\. Save harbour\.concorde\.tour$/);
         assert.match(await browser.value(`document.getElementById("command-note").textContent`), /^First save harbour\.concorde\.tour /);
         for (const action of ["save-made", "save-report", "save-picture"]) {
             await browser.value(`document.querySelector("[data-do=${action}]").click()`);
@@ -221,7 +221,7 @@ const TESTS = {
         await browser.open("");
         await drop([["tour.csv", "order,node\n0,1\n1,2\n2,3\n3,4\n4,8\n5,5\n6,6\n7,7\n"], own("harbour.tsp")]);
         await browser.until(`document.getElementById("verdict").textContent === "Yes: a tour"`);
-        assert.match(await browser.value(`document.getElementById("made").textContent`), /^tour\.csv was read as a list of nodes, which count from 1\. Save tour\.tour$/);
+        assert.match(await browser.value(`document.getElementById("made").textContent`), /^tour\.csv was read as another program's solution\. Save tour\.tour$/);
         await browser.open("");
         await drop([own("dairy.vrp"), ["lkh.tour", "TYPE : TOUR\nTOUR_SECTION\n1 5 6 4 7 9 2 8 3 -1\nEOF\n"]]);
         await browser.until(`document.getElementById("verdict").textContent === "Yes"`);
@@ -357,6 +357,9 @@ const TESTS = {
         await browser.choose("all", ["valleys.tsp", "valleys.tour", "valleys.branches"]);
         await browser.until(`document.getElementById("verdict").textContent === "Yes: optimal"`);
         assert.match(await browser.value(`document.getElementById("branching-words").textContent`), /^The certificate has \d+ lea/);
+        if (pictures) {
+            await browser.picture("branches");
+        }
         await browser.open("orchard");
         await browser.verdict();
         assert.ok((await browser.value(`document.querySelectorAll("#map .hull").length`)) >= 2);
@@ -479,7 +482,6 @@ const PICTURES = {
     "phone-dark": ["orchard", PHONE, "dark"],
     routes: ["dairy", WIDE, "light"],
     "routes-phone": ["dairy", PHONE, "dark"],
-    branches: ["orchard", WIDE, "light"],
     fault: ["zero", WIDE, "light"],
     empty: ["", WIDE, "light"],
 };

@@ -91,5 +91,5 @@ test("the page says which files the command wants", async () => {
     assert.deepEqual(made(HARBOUR), []);
     const { caution } = run(library, JOBS["JSON that is cut off"]);
     assert.equal(caution, "tour.json begins as JSON, but ends inside of it: is the file cut off?");
-    assert.match(run(library, { ...HARBOUR, solution: named("a.json", "{}") }).caution, /^a\.json isn't read as a solution of another program\. Of JSON/);
+    assert.match(run(library, { ...HARBOUR, solution: named("a.json", "{}") }).caution, /^a\.json isn't read as another program's solution: line 1 word 1: NoList\.$/);
 });

@@ -5,11 +5,12 @@ import assert from "node:assert/strict";
 import { readFileSync } from "node:fs";
 import { test } from "node:test";
 
-import { By, Section, Status, Verdict } from "../../javascript/codes.mjs";
+import { By, FORMS, Section, Status, Verdict } from "../../javascript/codes.mjs";
 import { percentOf, reportOf, verdictOf } from "../../javascript/report.mjs";
 import { ascentOf, canRise } from "../page/ascent.mjs";
 import { verbOf } from "../page/command.mjs";
 import { withoutGeo } from "../page/geo.mjs";
+import { claimOf, readOf } from "../page/made.mjs";
 import { pictureOf } from "../page/map.mjs";
 import { run } from "../page/outcome.mjs";
 import { barOf, curveOf } from "../page/plots.mjs";
@@ -19,7 +20,7 @@ import { tableOf } from "../page/rows.mjs";
 import { marksOf, missingOf } from "../page/scene.mjs";
 import { rowsOf, toursOf } from "../page/sections.mjs";
 import { WHOLE } from "../page/zoom.mjs";
-import { NoSolution, claimOf, converted } from "../../javascript/solutions.mjs";
+import { instanceOf, optionsOf, table, textOf } from "../../../tests/support/solutions.mjs";
 import { libraryOf } from "./module.mjs";
 
 const PAGE = process.env.PAGE ?? "";
@@ -118,49 +119,32 @@ test("what a file is for", () => {
     }
 });
 
-test("solutions of other programs", () => {
-    const read = (words, nodes = 0) => toursOf(new TextDecoder().decode(converted(bytesOf(words), nodes, false).bytes));
-    for (const words of ["1 3 2", "1\n3\n2\n", "[1, 3, 2]", "1, 3, 2, 1", "1;3;2", "0 2 1", "0,2,1,0", "[0, 2, 1]",
-        "3\n0 2 1", " [1] 1 3\n [3] 2\n", "1 3 2\r\n", "\ufeff1 3 2"]) {
-        assert.deepEqual(read(words), [[1, 3, 2]], words);
+test("the solutions that the program reads", async () => {
+    const library = await libraryOf(PAGE);
+    for (const row of table("solutions")) {
+        const { form, first = -1, depot = 0 } = optionsOf(row);
+        const { status, bytes } = library.solution(bytesOf(row.text), bytesOf(instanceOf(row)), form ? FORMS.indexOf(form) + 1 : 0, first + 1, depot);
+        const told = new TextDecoder().decode(bytes);
+        assert.deepEqual([status, told], row.fault ? [Status.FAULT, `file 1: ${row.fault}\n`] : [Status.YES, textOf(row)], row.name);
     }
-    assert.deepEqual(read("3\n0 2 1", 4), [[4, 1, 3, 2]]);
-    assert.deepEqual(read("[[2, 3], [4]]"), [[2, 3], [4]]);
-    assert.deepEqual(read("4 4\n2 0 1\n1 3 1\n3 2 1\n0 1 1\n"), [[1, 3, 4, 2]]);
-    assert.deepEqual(read("Route #1: 1 2\r\nroute 2 : 3\r\nCost : 3000\r\n"), [[2, 3], [4]]);
-    assert.match(new TextDecoder().decode(converted(bytesOf("Route #1: 1\nCost : 3000\n"), 0, false).bytes),
-        /^COMMENT : Cost 3000\nCOMMENT : Customer k of CVRPLIB is node k \+ 1$/m);
-    assert.equal(converted(HARBOUR.solution.bytes, 8, true), null, "a file of TSPLIB stays");
-    assert.equal(converted(bytesOf(" \n"), 8, false), null);
-    for (const words of ["x", "1 -2", "1 2.5", "{}", "[1, true]", "Route #1: 0", "Route #1: 1\n2 3\n", "3 3\n0 1 5\n",
-        "6 6\n0 1 1\n1 2 1\n2 0 1\n3 4 1\n4 5 1\n5 3 1\n", "Route #1: 0 1 0 2 0", "1.5e0 2", "node city\n1 x\n", "1e10 2",
-        '{"tour": 1}', '{"tour": [1, 2], "other": [2, 1]}']) {
-        assert.throws(() => read(words), NoSolution, words);
+    for (const { name, text: words, claim } of table("claims")) {
+        assert.equal(claimOf(bytesOf(words)), claim === null ? null : BigInt(claim), name);
     }
 });
 
-const FORMS = JSON.parse(readFileSync(new URL("../../../tests/support/forms.json", import.meta.url), "utf8"));
-
-test("the forms that Python and recipes read by the same rules", () => {
-    for (const form of FORMS.filter(({ first }) => first === undefined)) {
-        if (form.claimed) {
-            assert.equal(claimOf(bytesOf(form.text)), form.claim === null ? null : BigInt(form.claim), form.name);
-            continue;
-        }
-        const read = () => converted(bytesOf(form.text), form.nodes, form.routes);
-        if (form.wanted === null) {
-            assert.throws(read, NoSolution, form.name);
-            continue;
-        }
-        const { bytes } = read();
-        const crossed = converted(bytesOf(form.text.replaceAll("\n", "\r\n")), form.nodes, form.routes);
-        assert.deepEqual(toursOf(new TextDecoder().decode(crossed.bytes)), form.wanted, `${form.name}, with bytes 13`);
-        const words = new TextDecoder().decode(bytes);
-        assert.deepEqual(toursOf(words), form.wanted, form.name);
-        const said = [form.cost && `Cost ${form.cost}`, form.customers && `Customer k of ${form.customers} is node k + 1`];
-        assert.deepEqual([...words.matchAll(/^COMMENT : (.*)$/gm)].map(([, it]) => it), said.filter(Boolean), form.name);
-        assert.equal(claimOf(bytes), form.claim === null ? null : BigInt(form.claim), form.name);
+test("what the page makes of a solution", async () => {
+    const library = await libraryOf(PAGE);
+    const read = (words, instance = null) => readOf(library, { instance, foreign: true }, { name: "a.sol", bytes: bytesOf(words) });
+    const { made, caution } = read("Route #1: 1 2\nCost 5\n");
+    assert.deepEqual([made.given.name, made.form, caution], ["a.tour", "another program's solution. Customer k of CVRPLIB is node k + 1", ""]);
+    assert.match(new TextDecoder().decode(made.given.bytes), /^COMMENT : Cost 5$[^]*^TOUR_SECTION\n2\n3\n-1\nEOF\n$/m);
+    const copies = "TYPE : TOUR\nTOUR_SECTION\n1 5 6 4 7 9 2 8 3 -1\nEOF\n";
+    assert.match(read(copies, example("dairy.vrp")).made.form, /^a tour of LKH-3/);
+    for (const words of [copies, "", " \n", "<!DOCTYPE html>\n", "TYPE : TOUR\nTOUR_SECTION\n1 x\n"]) {
+        assert.deepEqual(read(words), { made: null, caution: "" }, words);
     }
+    assert.match(read("Route #1: 1 2\n3\n").caution, /^a\.sol isn't read as another program's solution: line 2 word 1: UnknownLine\.$/);
+    assert.match(read('{"routes": [[1, 2], [3]').caution, /cut off\?$/);
 });
 
 test("the length that a file claims", async () => {
@@ -175,31 +159,6 @@ test("the length that a file claims", async () => {
     assert.equal(outcome({ solution: solution(230), claims: true, claimed: 231n }).report.yes, true, "another claim");
     const tours = [solution(231), solution(230)];
     assert.deepEqual(outcome({ solution: tours[0], tours, claims: true }).rows.map(({ word }) => word), ["Yes", "No: LengthClaimed 231"]);
-});
-
-test("tables, and numbers of numpy", () => {
-    const read = (words) => toursOf(new TextDecoder().decode(converted(bytesOf(words), 0, false).bytes));
-    for (const words of ["1.000000000000000000e+00\n3.0e+00\n2.00\n", "0.1e1\n30e-1\n2.\n", "node\n1\n3\n2\n",
-        "order,node\n0,1\n1,3\n2,2\n", "node;order\n1;1\n3;2\n2;3\n", "1 1\n2 3\n3 2\n", '"step","city"\n1,0\n2,2\n3,1\n',
-        '{"tour": [1, 3, 2], "length": 12}', '{"route": [0, 2, 1]}']) {
-        assert.deepEqual(read(words), [[1, 3, 2]], words);
-    }
-    assert.deepEqual(read("1 4\n2 3\n"), [[1, 4, 2, 3]], "two nodes in a line are no table");
-    assert.deepEqual(read('{"routes": [[2, 3], [4]]}'), [[2, 3], [4]]);
-    assert.deepEqual(read("Route #1: 0 1 2 0\nRoute #2: 0 3 0\nCost 7\n"), [[2, 3], [4]], "the depot at both ends");
-});
-
-test("routes and tours of LKH-3", () => {
-    const read = (words, nodes, hasDepot) => converted(bytesOf(words), nodes, hasDepot);
-    const tours = (words) => toursOf(new TextDecoder().decode(read(words, 5, true).bytes));
-    const routes = "x, Cost: 12\n1 3 4 1 (#2)  Cost: 6\n1 5 2 1 (#2)  Cost: 6\n";
-    const copies = "TYPE : TOUR\nTOUR_SECTION\n2\n9\n8\n3\n4\n1\n5\n-1\nEOF\n";
-    assert.deepEqual([tours(routes), tours(copies)], [[[3, 4], [5, 2]], [[3, 4], [5, 2]]]);
-    assert.throws(() => read(routes, 0, true), NoSolution);
-    for (const [nodes, hasDepot] of [[5, false], [0, true], [9, true]]) {
-        assert.equal(read(copies, nodes, hasDepot), null, `${nodes} nodes: these are no copies`);
-    }
-    assert.equal(read("TYPE : TOUR\nTOUR_SECTION\n1 9 -1\n2 3 -1\n", 5, true), null, "of two tours none has copies");
 });
 
 test("which verb the files ask for", () => {
@@ -263,7 +222,7 @@ test("a tour of Concorde is read by itself, and can be saved", async () => {
     assert.deepEqual([outcome.status, outcome.report.length], [Status.YES, 226n]);
     assert.equal(outcome.command, "tsp check harbour.tsp harbour.tour");
     const [{ slot, form, given }] = outcome.made;
-    assert.deepEqual([slot, form, given.name], ["solution", "a tour of Concorde, whose nodes count from 0", "harbour.tour"]);
+    assert.deepEqual([slot, form, given.name], ["solution", "another program's solution", "harbour.tour"]);
     assert.deepEqual(toursOf(new TextDecoder().decode(given.bytes)), [[1, 2, 3, 4, 8, 5, 6, 7]]);
     assert.deepEqual(run(library, { ...HARBOUR, foreign: true }).made, []);
     const dairy = { ...alone, foreign: true, instance: example("dairy.vrp") };

@@ -93,7 +93,8 @@ test("routes have colours and loads", () => {
     assert.deepEqual([first, second], [colourOf(0), colourOf(1)]);
     assert.equal(new Set(Array.from({ length: 30 }, (_, at) => colourOf(at))).size, 30);
     assert.ok(Array.from({ length: 30 }, (_, at) => colourOf(at)).every((colour) => /^#[0-9a-f]{6}$/.test(colour)));
-    assert.equal(classed(pictureOf(scene, { ...LOOK, route: 1 }), "picked").length, 1);
+    const picked = classed(pictureOf(scene, { ...LOOK, route: 1 }), "picked");
+    assert.deepEqual(picked.map(({ attributes }) => attributes.stroke), [colourOf(1)]);
 });
 
 test("the edges in which two solutions differ", () => {
