@@ -7,8 +7,8 @@ from itertools import permutations
 from math import dist
 from pathlib import Path
 
-from support import (POINTS, SPACE, certify, judged, need, need_bounded, need_optimal, run, write, write_arcs, write_matrix,
-                     write_points)
+from support import POINTS, SPACE, certify, judged, need, need_bounded, need_optimal, need_same_bytes, run
+from support import write, write_arcs, write_layouts, write_matrix, write_points, write_small
 
 
 def weights():
@@ -33,16 +33,12 @@ def fixed():
 def small():
     """Against all orders of the nodes."""
     for nodes in range(3, 10):
-        matrix = write_matrix("a.tsp", "FULL_MATRIX", nodes, random.Random(nodes), -50, 50)
-        tours = ((0, *order) for order in permutations(range(1, nodes)))
-        least = min(sum(matrix[tour[k - 1]][tour[k]] for k in range(nodes)) for tour in tours)
+        least = write_small(nodes)
         need(need_optimal("a.tsp") == least, f"{nodes} nodes: another length than {least}")
 
 
 def matrix():
-    ranges = [(1, 10**6), (0, 3), (-(10**6), 10**6), (10**12 - 1000, 10**12)]
-    for layout, (low, high) in zip(["FULL_MATRIX", "UPPER_ROW", "LOWER_DIAG_ROW", "UPPER_COL"], ranges):
-        write_matrix("a.tsp", layout, 40, random.Random(layout), low, high)
+    for _ in write_layouts(40):
         need_optimal("a.tsp")
     write_matrix("a.tsp", "UPPER_ROW", 20, random.Random(1), 7, 7)
     need_optimal("a.tsp")
@@ -85,11 +81,7 @@ def atsp_named_tour():
     certify("a.atsp", "bad.tour", "-o", "out.branches", "--tour-out", "out.tour")
     need("optimal" in judged("a.atsp"), "not optimal")
     need(int(judged("a.atsp", "bad.tour")["gap"]) > 0, "no bound of the bad tour")
-    texts = []
-    for name in ("one", "two"):
-        certify("a.atsp", "-o", f"{name}.branches", "--tour-out", f"{name}.tour", "--seconds", "0", "--seed", "4")
-        texts.append((Path(f"{name}.branches").read_bytes(), Path(f"{name}.tour").read_bytes()))
-    need(texts[0] == texts[1], "the same seed gives other bytes")
+    need_same_bytes("a.atsp")
 
 
 def random_points():

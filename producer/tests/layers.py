@@ -11,7 +11,7 @@ from pathlib import Path
 
 top = Path(sys.argv[1])
 files = re.search(r"^## Files$(.*?)^## ", (top / "README.md").read_text(), re.S | re.M)[1]
-listed = re.search(r"earlier folders of this list: (.*?)\.", files)[1]
+listed = re.search(r"folders earlier in this list: (.*?)\.", files)[1]
 folders = re.findall(r"`(\w+)`", listed)
 unlike = {path.name for path in (top / "src").iterdir()} ^ set(folders)
 if unlike:

@@ -7,13 +7,12 @@ import random
 import re
 import signal
 import subprocess
-import sys
 import time
-from itertools import permutations
 from pathlib import Path
 
 from support import CERTIFY as PROGRAM
-from support import PATIENCE, POINTS, SPACE, TSP, certify, need, run, write_arcs, write_matrix, write_points
+from support import PATIENCE, POINTS, SPACE, TSP, certify, need, need_installed, need_refused, run
+from support import write_arcs, write_faulty, write_layouts, write_matrix, write_points, write_small
 
 OUT = ["-o", "out.potentials"]
 BOTH = [*OUT, "--tour-out", "out.tour"]
@@ -56,17 +55,13 @@ def weights():
 def small():
     """Against all orders of the nodes."""
     for nodes in range(3, 10):
-        matrix = write_matrix("a.tsp", "FULL_MATRIX", nodes, random.Random(nodes), -50, 50)
-        tours = ((0, *order) for order in permutations(range(1, nodes)))
-        least = min(sum(matrix[tour[k - 1]][tour[k]] for k in range(nodes)) for tour in tours)
+        least = write_small(nodes)
         _, length = found("a.tsp", "--kicks", "300")
         need(length == least, f"{nodes} nodes: length {length}, and {least} is the least")
 
 
 def matrix():
-    ranges = [(1, 10**6), (0, 3), (-(10**6), 10**6), (10**12 - 1000, 10**12)]
-    for layout, (low, high) in zip(["FULL_MATRIX", "UPPER_ROW", "LOWER_DIAG_ROW", "UPPER_COL"], ranges):
-        write_matrix("a.tsp", layout, 60, random.Random(layout), low, high)
+    for _ in write_layouts(60):
         found("a.tsp")
     write_matrix("a.tsp", "UPPER_ROW", 20, random.Random(1), 7, 7)
     need(found("a.tsp") == (140, 140), "all weights are 7")
@@ -215,18 +210,13 @@ def log():
 
 
 def bad_input():
-    write_points("a.tsp", "EUC_2D", 12, random.Random(13))
-    text = Path("a.tsp").read_text()
+    text = write_faulty()
     rows = "DIMENSION:3\nEDGE_WEIGHT_TYPE:EXPLICIT\nEDGE_WEIGHT_FORMAT:FULL_MATRIX\nEDGE_WEIGHT_SECTION\n"
     Path("odd.tsp").write_text(f"TYPE:TSP\n{rows}0 1 2 3 0 4 5 6 0\nEOF\n")
     Path("odd.atsp").write_text(f"TYPE:ATSP\n{rows}0 1 2 3 0 4 5 6 0\nEOF\n")
     Path("routes.vrp").write_text(text.replace(": TSP", ": CVRP").replace("EOF", "CAPACITY : 9\nDEMAND_SECTION\n")
         + "".join(f"{v} {min(v - 1, 1)}\n" for v in range(1, 13)) + "DEPOT_SECTION\n1\n-1\nEOF\n")
-    Path("star.tsp").write_text(text.replace("EOF", "FIXED_EDGES_SECTION\n1 2\n1 3\n1 4\n-1\nEOF"))
-    Path("ring.tsp").write_text(text.replace("EOF", "FIXED_EDGES_SECTION\n1 2\n2 3\n3 1\n-1\nEOF"))
-    Path("two.tsp").write_text("TYPE:TSP\nDIMENSION:2\nEDGE_WEIGHT_TYPE:EUC_2D\nNODE_COORD_SECTION\n1 0 0\n2 1 1\nEOF\n")
     Path("pair.tsp").write_text(text.replace("EOF", "FIXED_EDGES_SECTION\n1 2\n-1\nEOF"))
-    Path("short.tour").write_text("TYPE : TOUR\nTOUR_SECTION\n1 2 3 -1\nEOF\n")
     Path("other.tour").write_text("TYPE : TOUR\nTOUR_SECTION\n1 3 2 4 5 6 7 8 9 10 11 12 -1\nEOF\n")
     faults = [
         (["routes.vrp", *OUT], "TYPE CVRP"),
@@ -249,18 +239,11 @@ def bad_input():
         (["a.tsp", *OUT, "--wrong"], "--wrong"),
         (["none.tsp", "-o", "no/folder/out"], "no/folder/out: No such file or directory"),
     ]
-    for words, part in faults:
-        need(part in certify(*words, status=2), f"{words}: the fault doesn't tell of {part}")
+    need_refused(faults)
 
 
 def installing():
-    """The installed program runs, and its page names each option of its help."""
-    cmake, build = sys.argv[4:6]
-    subprocess.run([cmake, "--install", build, "--prefix", os.path.abspath("here")], check=True, capture_output=True)
-    helped = subprocess.run(["here/bin/tsp-potentials", "--help"], capture_output=True, text=True, check=True).stdout
-    page = Path("here/share/man/man1/tsp-potentials.1").read_text().replace("\\", "")
-    options = set(re.findall(r"(?<![-\w])--?[a-z][-a-z]*", helped))
-    need(len(options) >= 8 and all(option in page for option in options), f"not all on the page: {options}")
+    need_installed("tsp-potentials")
 
 
 CASES = [

@@ -6,7 +6,6 @@ TSP_CERTIFY TSP; support.py says more.
 import json
 import os
 import random
-import re
 import shutil
 import signal
 import subprocess
@@ -14,7 +13,8 @@ import sys
 import time
 from pathlib import Path
 
-from support import CERTIFY, PATIENCE, TSP, certify, judged, need, need_bounded, need_optimal, run, write_points
+from support import CERTIFY, PATIENCE, TSP, certify, judged, need, need_bounded, need_installed, need_optimal, need_refused, run
+from support import write_faulty, write_points
 
 
 def time_limit():
@@ -114,9 +114,7 @@ def log():
 
 
 def bad_input():
-    chance = random.Random(13)
-    write_points("a.tsp", "EUC_2D", 12, chance)
-    text = Path("a.tsp").read_text()
+    text = write_faulty()
     rows = (
         "TYPE:ATSP\nDIMENSION:3\nEDGE_WEIGHT_TYPE:EXPLICIT\nEDGE_WEIGHT_FORMAT:FULL_MATRIX\n"
         "EDGE_WEIGHT_SECTION\n0 1 2 3 0 4 5 6 0\n"
@@ -125,10 +123,6 @@ def bad_input():
     Path("back.atsp").write_text(rows + "FIXED_EDGES_SECTION\n1 2\n2 1\n-1\nEOF\n")
     Path("one.atsp").write_text("TYPE:ATSP\nDIMENSION:1\n" + rows.partition("3\n")[2].replace("0 1 2 3 0 4 5 6 0", "0"))
     Path("cut.tsp").write_text(text[: len(text) // 2])
-    Path("star.tsp").write_text(text.replace("EOF", "FIXED_EDGES_SECTION\n1 2\n1 3\n1 4\n-1\nEOF"))
-    Path("ring.tsp").write_text(text.replace("EOF", "FIXED_EDGES_SECTION\n1 2\n2 3\n3 1\n-1\nEOF"))
-    Path("two.tsp").write_text("TYPE:TSP\nDIMENSION:2\nEDGE_WEIGHT_TYPE:EUC_2D\nNODE_COORD_SECTION\n1 0 0\n2 1 1\nEOF\n")
-    Path("short.tour").write_text("TYPE : TOUR\nTOUR_SECTION\n1 2 3 -1\nEOF\n")
     Path("long.tour").write_text("TYPE : TOUR\nTOUR_SECTION\n1 2 3 4 5 6 7 8 9 10 11 12 13 -1\nEOF\n")
     Path("geo.tsp").write_text(text.replace("EUC_2D", "GEO"))
     out = ["-o", "out.branches"]
@@ -163,8 +157,7 @@ def bad_input():
         (["none.tsp", "-o", "no/folder/out", "--tour-out", "out.tour"], "no/folder/out: No such file or directory"),
         (["none.tsp", "-o", ".", "--tour-out", "out.tour"], ".: Is a directory"),
     ]
-    for words, part in faults:
-        need(part in certify(*words, status=2), f"{words}: the fault doesn't tell of {part}")
+    need_refused(faults)
 
 
 def finding_tsp():
@@ -215,13 +208,7 @@ def finding_tsp():
 
 
 def installing():
-    """The installed program runs, and its page names each option of its help."""
-    cmake, build = sys.argv[4:6]
-    subprocess.run([cmake, "--install", build, "--prefix", os.path.abspath("here")], check=True, capture_output=True)
-    helped = subprocess.run(["here/bin/tsp-certify", "--help"], capture_output=True, text=True, check=True).stdout
-    page = Path("here/share/man/man1/tsp-certify.1").read_text().replace("\\", "")
-    options = set(re.findall(r"(?<![-\w])--?[a-z][-a-z]*", helped))
-    need(len(options) >= 8 and all(option in page for option in options), f"not all on the page: {options}")
+    need_installed("tsp-certify")
 
 
 CASES = [time_limit, large, interrupt, overwriting, log, bad_input, finding_tsp, installing]

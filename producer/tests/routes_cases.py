@@ -15,7 +15,8 @@ from functools import cache
 from itertools import combinations, permutations
 from pathlib import Path
 
-from support import CERTIFY, PATIENCE, TSP, certify, need, run, write_points
+import support
+from support import CERTIFY, PATIENCE, TSP, certify, need, need_joined, need_refused, run, write_points
 
 RECHECK = Path(__file__).resolve().parents[2] / "examples/recheck.py"
 BOTH = ["-o", "out.branches", "--tour-out", "out.routes"]
@@ -140,6 +141,35 @@ def memory_limits():
     need(f"bound {report['bound']} as reckoned" in said, f"another bound was reckoned: {said} {report}")
 
 
+def states_suffice(most):
+    """Whether recheck.py finds a bound of a.vrp if a leaf may keep so many states."""
+    sys.path.append(str(RECHECK.parent))
+    import recheck
+
+    instance, certificate = recheck.fields_of("a.vrp"), recheck.fields_of("out.branches")
+    nodes = recheck.dimension_of(instance)
+    recheck.MOST_STATES = most
+    try:
+        list(recheck.route_bounds(instance, certificate, recheck.costs_of(instance, nodes), nodes))
+    except recheck.No as reason:
+        need("TooManyStates" in str(reason), f"another reason: {reason}")
+        return False
+    return True
+
+
+def memory_states():
+    """States are counted as recheck.py counts them. Where a leaf has too many, rows or customers are forgotten."""
+    write_uniform("a.vrp", 20, random.Random(9))
+    words = ["a.vrp", *BOTH, "--memory", "--seconds", "0", "--threads", "1"]
+    certify(*words, "--log", "out.log")
+    states = json.loads(Path("out.log").read_text().splitlines()[-1])["states"]
+    need(states_suffice(states) and not states_suffice(states - 1), f"the states of the largest leaf aren't {states}")
+    most = states * 9 // 10
+    said = certify(*words, "--states", str(most))
+    need(states_suffice(most), f"a leaf keeps more than {most} states, where {states} are most of one without a limit")
+    need(f"bound {judged('a.vrp')['bound']} as reckoned" in said, f"another bound was reckoned: {said}")
+
+
 def optimal():
     """A tree of points, and costs of each direction."""
     write_uniform("a.vrp", 25, random.Random(4))
@@ -222,21 +252,9 @@ def interrupt():
 def split():
     """Leaves of a tree are gone on with alone, and parts are joined. A part that is missing leaves a gap."""
     write_uniform("a.vrp", 30, random.Random(9))
-    words = ["a.vrp", "-o", "tree", "--tour-out", "out.routes", "--split", "3", "--seconds", "0", "--tsp", TSP]
-    done = subprocess.run([CERTIFY, *words], capture_output=True, text=True, timeout=250 * PATIENCE)
-    leaves = done.stdout.split()
-    need(done.returncode == 0 and len(leaves) >= 2, f"no split: {leaves} {done.stderr}")
+    leaves = support.split("a.vrp", "out.routes")
     need("gap" in judged("a.vrp", certificate="tree"), "the tree has no gap")
-    for leaf in leaves:
-        said = certify("a.vrp", "out.routes", "--tree", "tree", "--leaf", leaf, "-o", f"part-{leaf}", "--seconds", "0")
-        need("kept by --tour-out alone" in said, f"shorter routes of a part would be lost: {said}")
-    parts = [f"part-{leaf}" for leaf in leaves]
-    for given, whole in ((parts, True), (parts[1:], False), (parts[::-1], True)):
-        certify("a.vrp", "--tree", "tree", "-o", "out.branches", "--join", *given)
-        need(("optimal" in judged("a.vrp")) == whole, f"{given}: {judged('a.vrp')}")
-    certify("a.vrp", "--tree", "tree", "-o", "again", "--join", *parts[1:])
-    certify("a.vrp", "out.routes", "--tree", "again", "-o", "out.branches", "--seconds", "0")
-    need("optimal" in judged("a.vrp"), "what was joined isn't gone on with")
+    parts = need_joined("a.vrp", "out.routes", leaves, judged)
     need("another tree" in certify("a.vrp", "--tree", "again", "--join", parts[0], "-o", "b", status=2), "a part")
     write_points("a.tsp", "EUC_2D", 30, random.Random(9))
     need("another instance" in certify("a.tsp", *BOTH, "--tree", "tree", status=2), "a tree of a CVRP for a TSP")
@@ -300,12 +318,12 @@ def bad_input():
         (["a.vrp", *BOTH, "--tree", "pair"], "on a pair"),
         (["a.vrp", *BOTH, "--tree", "family"], "a family that isn't there"),
     ]
-    for words, part in faults:
-        said = certify(*words, status=2)
-        need(part in said, f"{words}: the fault doesn't tell of {part}: {said}")
+    need_refused(faults)
 
 
-CASES = [small, memory, memory_limits, optimal, large_numbers, plan, threads, time_limit, interrupt, split, limits, log, bad_input]
+CASES = [
+    small, memory, memory_limits, memory_states, optimal, large_numbers, plan, threads, time_limit, interrupt, split, limits, log, bad_input,
+]  # fmt: skip
 
 if __name__ == "__main__":
     run(CASES)

@@ -6,9 +6,12 @@ runs them all, as the suite `producer` of ./check.
 """
 
 import os
+import random
+import re
 import subprocess
 import sys
 import tempfile
+from itertools import permutations
 from pathlib import Path
 
 CERTIFY, TSP = (os.path.abspath(path) for path in sys.argv[2:4])
@@ -61,6 +64,57 @@ def need_bounded(instance, least, *words):
     return bound
 
 
+def need_refused(faults):
+    """Each list of words ends with status 2, and with a text that has this part."""
+    for words, part in faults:
+        said = certify(*words, status=2)
+        need(part in said, f"{words}: the fault doesn't tell of {part}: {said}")
+
+
+def need_same_bytes(instance):
+    """Two runs of a seed write the same files."""
+    texts = []
+    for name in ("one", "two"):
+        certify(instance, "-o", f"{name}.branches", "--tour-out", f"{name}.tour", "--seconds", "0", "--seed", "4")
+        texts.append((Path(f"{name}.branches").read_bytes(), Path(f"{name}.tour").read_bytes()))
+    need(texts[0] == texts[1], "the same seed gives other bytes")
+
+
+def need_installed(program):
+    """The installed program runs, and its page names each option of its help."""
+    cmake, build = sys.argv[4:6]
+    subprocess.run([cmake, "--install", build, "--prefix", os.path.abspath("here")], check=True, capture_output=True)
+    helped = subprocess.run([f"here/bin/{program}", "--help"], capture_output=True, text=True, check=True).stdout
+    page = Path(f"here/share/man/man1/{program}.1").read_text().replace("\\", "")
+    options = set(re.findall(r"(?<![-\w])--?[a-z][-a-z]*", helped))
+    need(len(options) >= 8 and all(option in page for option in options), f"not all on the page: {options}")
+
+
+def split(instance, tour, leaves=3):
+    """Writes tree and the tour, with at least two open leaves, whose numbers it returns."""
+    words = [instance, "-o", "tree", "--tour-out", tour, "--split", str(leaves), "--seconds", "0", "--tsp", TSP]
+    done = subprocess.run([CERTIFY, *words], capture_output=True, text=True, timeout=250 * PATIENCE)
+    numbers = done.stdout.split()
+    need(done.returncode == 0 and len(numbers) >= 2, f"no split, or too few leaves are open: {numbers} {done.stderr}")
+    return numbers
+
+
+def need_joined(instance, tour, leaves, judged):
+    """Leaves of a tree are gone on with alone, and parts are joined. A part that is missing leaves a gap. The parts."""
+    for leaf in leaves:
+        said = certify(instance, tour, "--tree", "tree", "--leaf", leaf, "-o", f"part-{leaf}", "--seconds", "0", "--threads", "1")
+        need("kept by --tour-out alone" in said, f"a shorter solution of a part would be lost: {said}")
+    parts = [f"part-{leaf}" for leaf in leaves]
+    for given, whole in ((parts, True), (parts[1:], False), (parts[::-1], True)):
+        certify(instance, "--tree", "tree", "-o", "out.branches", "--join", *given)
+        report = judged(instance)
+        need(("optimal" in report) == whole, f"{given}: {report}")
+    certify(instance, "--tree", "tree", "-o", "again", "--join", *parts[1:])
+    certify(instance, tour, "--tree", "again", "-o", "out.branches", "--seconds", "0")
+    need("optimal" in judged(instance), "what was joined isn't gone on with")
+    return parts
+
+
 def write(name, kind, lines):
     text = [f"TYPE : {'ATSP' if name.endswith('.atsp') else 'TSP'}", f"DIMENSION : {lines[0]}", f"EDGE_WEIGHT_TYPE : {kind}", *lines[1:], "EOF"]
     Path(name).write_text("\n".join(map(str, text)) + "\n")
@@ -89,6 +143,32 @@ def write_matrix(name, layout, nodes, chance, low, high):
     lines = [" ".join(map(str, row)) for row in rows if row]
     write(name, "EXPLICIT", [nodes, f"EDGE_WEIGHT_FORMAT : {layout}", "EDGE_WEIGHT_SECTION", *lines])
     return matrix
+
+
+def write_small(nodes):
+    """Writes a.tsp. The least length of a tour, by all orders of the nodes."""
+    matrix = write_matrix("a.tsp", "FULL_MATRIX", nodes, random.Random(nodes), -50, 50)
+    tours = ((0, *order) for order in permutations(range(1, nodes)))
+    return min(sum(matrix[tour[k - 1]][tour[k]] for k in range(nodes)) for tour in tours)
+
+
+def write_layouts(nodes):
+    """Writes a.tsp by one layout of a matrix after the other, with costs in other ranges."""
+    ranges = [(1, 10**6), (0, 3), (-(10**6), 10**6), (10**12 - 1000, 10**12)]
+    for layout, (low, high) in zip(["FULL_MATRIX", "UPPER_ROW", "LOWER_DIAG_ROW", "UPPER_COL"], ranges):
+        write_matrix("a.tsp", layout, nodes, random.Random(layout), low, high)
+        yield layout
+
+
+def write_faulty():
+    """Writes files that are refused: a star and a ring of fixed edges, two nodes, and a tour of three; by a.tsp, whose text it returns."""
+    write_points("a.tsp", "EUC_2D", 12, random.Random(13))
+    text = Path("a.tsp").read_text()
+    Path("star.tsp").write_text(text.replace("EOF", "FIXED_EDGES_SECTION\n1 2\n1 3\n1 4\n-1\nEOF"))
+    Path("ring.tsp").write_text(text.replace("EOF", "FIXED_EDGES_SECTION\n1 2\n2 3\n3 1\n-1\nEOF"))
+    Path("two.tsp").write_text("TYPE:TSP\nDIMENSION:2\nEDGE_WEIGHT_TYPE:EUC_2D\nNODE_COORD_SECTION\n1 0 0\n2 1 1\nEOF\n")
+    Path("short.tour").write_text("TYPE : TOUR\nTOUR_SECTION\n1 2 3 -1\nEOF\n")
+    return text
 
 
 def write_arcs(nodes, cost, *more):

@@ -12,7 +12,9 @@ import sys
 from math import dist
 from pathlib import Path
 
-from support import CERTIFY, PATIENCE, TSP, certify, judged, need, need_optimal, run, skip, write, write_arcs, write_points
+import support
+from support import CERTIFY, PATIENCE, TSP, certify, judged, need, need_joined, need_optimal, need_refused, need_same_bytes
+from support import run, skip, write, write_arcs, write_points
 
 GUIDE = Path(__file__).resolve().parents[2] / "docs/guide.md"
 EXAMPLE = Path(__file__).resolve().parents[2] / "bindings/python/examples/spread_leaves.py"
@@ -20,11 +22,7 @@ EXAMPLE = Path(__file__).resolve().parents[2] / "bindings/python/examples/spread
 
 def same_bytes():
     write_points("a.tsp", "EUC_2D", 120, random.Random(11), side=10**6)
-    texts = []
-    for name in ("one", "two"):
-        certify("a.tsp", "-o", f"{name}.branches", "--tour-out", f"{name}.tour", "--seconds", "0", "--seed", "4")
-        texts.append((Path(f"{name}.branches").read_bytes(), Path(f"{name}.tour").read_bytes()))
-    need(texts[0] == texts[1], "the same seed gives other bytes")
+    need_same_bytes("a.tsp")
 
 
 def threads():
@@ -42,28 +40,14 @@ def threads():
 def split_tree(leaves=3):
     """Writes a.tsp, and tree and out.tour with at least two open leaves, whose numbers it returns."""
     write_points("a.tsp", "EUC_2D", 200, random.Random(6), side=10**6)
-    words = ["a.tsp", "-o", "tree", "--tour-out", "out.tour", "--split", str(leaves), "--seconds", "0", "--tsp", TSP]
-    done = subprocess.run([CERTIFY, *words], capture_output=True, text=True, timeout=250 * PATIENCE)
-    need(done.returncode == 0, f"no split: {done.stderr}")
-    numbers = done.stdout.split()
-    need(len(numbers) >= 2, f"too few leaves are open: {numbers} {done.stderr}")
+    numbers = support.split("a.tsp", "out.tour", leaves)
     need("gap" in judged("a.tsp", certificate="tree"), "the tree has no gap")
     return numbers
 
 
 def split():
     """Leaves of a tree are gone on with alone, and parts are joined. A part that is missing leaves a gap."""
-    leaves = split_tree()
-    for leaf in leaves:
-        said = certify("a.tsp", "out.tour", "--tree", "tree", "--leaf", leaf, "-o", f"part-{leaf}", "--threads", "1")
-        need("kept by --tour-out alone" in said, f"a shorter tour of a part would be lost: {said}")
-    parts = [f"part-{leaf}" for leaf in leaves]
-    for given, whole in ((parts, True), (parts[1:], False), (parts[::-1], True)):
-        certify("a.tsp", "--tree", "tree", "-o", "out.branches", "--join", *given)
-        need(("optimal" in judged("a.tsp")) == whole, f"{given}: {judged('a.tsp')}")
-    certify("a.tsp", "--tree", "tree", "-o", "again", "--join", *parts[1:])
-    certify("a.tsp", "out.tour", "--tree", "again", "-o", "out.branches")
-    need("optimal" in judged("a.tsp"), "what was joined isn't gone on with")
+    parts = need_joined("a.tsp", "out.tour", split_tree(), judged)
     faults = [
         (["--tree", "again", "--join", parts[0], "-o", "b"], "another tree"),
         (["--tree", "tree", "--join", "tree", "-o", "b"], "another tree"),
@@ -74,8 +58,7 @@ def split():
         (["out.tour", "--tree", "tree", "--leaf", "1", "-o", "tree"], "overwritten"),
         (["--tree", "tree", "--join", parts[0], "-o", parts[0]], "overwritten"),
     ]
-    for words, part in faults:
-        need(part in certify("a.tsp", *words, status=2), f"{words}: the fault doesn't tell of {part}")
+    need_refused((["a.tsp", *words], part) for words, part in faults)
 
 
 def resume():

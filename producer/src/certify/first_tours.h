@@ -8,8 +8,8 @@
 
 namespace certify {
 // Tours by edge assembly, and of an ATSP by exchanges of arcs. Before edge assembly comes the tour that
-// tsp-potentials finds, since a clock that others keep busy may leave a population no time; the shorter one is
-// kept. Where the time is too short for a population by the words alone, it is a small one.
+// tsp-potentials finds, since a clock that others keep busy may leave a population no time; the shorter one
+// is kept. Where the time is too short for a population by the words alone, it is a small one.
 class FirstTours {
  public:
   FirstTours(const Options& options, const Instance& instance, const Clock& clock, Progress& progress)

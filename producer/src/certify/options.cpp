@@ -85,6 +85,8 @@ void declare(CLI::App& app, Options& options) {
          "of families, their nodes, differences and branches, in place of those of a file")
       ->expected(4)
       ->group("");
+  app.add_option("--states", options.states, "of a leaf by runs, in place of those that tsp keeps")
+      ->group("");
   declare_common(app, options);
   declare_trees(app, options);
   app.footer(kFooter);

@@ -27,6 +27,7 @@ struct Options : CommonOptions {
   std::optional<int> leaf{};          // of it alone
   std::vector<std::string> parts{};   // that are joined with it
   Extent limits = kLimits;            // of the certificate
+  std::optional<std::size_t> states;  // of a leaf by runs
 };
 
 // Throws Refusal where the words are wrong, or where a file that is written is one that is read.

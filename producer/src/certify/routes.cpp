@@ -37,6 +37,20 @@ int end_search(const Options& options, const CvrpInstance& instance, const std::
   return Clock::signal() ? 128 + *Clock::signal() : 0;
 }
 
+// Cases have memories of their own, which may be too much for the file together. Then all cases get that of
+// the root, and the better certificate stays.
+std::unique_ptr<RunSearch> search_runs(const CvrpInstance& instance, const Loads& loads, RouteBegin begin,
+                                       const Clock& clock, Progress& progress, const Plan& plan) {
+  auto search = std::make_unique<RunSearch>(instance, loads, begin, clock, progress, plan);
+  search->run();
+  if (!search->is_crowded() || clock.over()) return search;
+  begin.routes = search->routes();
+  begin.one_memory = true;
+  auto again = std::make_unique<RunSearch>(instance, loads, begin, clock, progress, plan);
+  again->run();
+  return again->bound() > search->bound() ? std::move(again) : std::move(search);
+}
+
 void refuse_with_memory(const Options& options) {
   if (options.tree || options.split > 0) throw Refusal("--memory: there is no --tree and no --split");
 }
@@ -64,11 +78,11 @@ int certify_routes(const Options& options, const std::string& tsp, std::unique_p
   begin.routes = std::move(found.best);
   begin.met = std::move(found.met);
   begin.named = given.has_value();
+  begin.states = options.states;
   const Plan plan{options.window, options.split, options.limits};
   if (options.memory) {
-    RunSearch search(instance, loads, begin, clock, progress, plan);
-    search.run();
-    return end_search(options, instance, given, search, {}, progress);
+    const std::unique_ptr<RunSearch> search = search_runs(instance, loads, begin, clock, progress, plan);
+    return end_search(options, instance, given, *search, {}, progress);
   }
   RouteSearch search(instance, loads, begin, clock, progress, plan);
   search.run();

@@ -15,8 +15,9 @@ struct MemoryParameters {
   int fewer_bits = 4;                       // less, where there are too many states
   int file_bits = 64;                       // in a file
   std::size_t most_rows = 250;              // of a case
-  std::size_t states = 8000000;             // that the root should keep, where the tree has the same memory
-  std::size_t most_states = 9000000;        // of a leaf by its own memory
+  std::size_t states = 3000000;             // that the root should keep
+  std::size_t grown_states = 1000000;       // of the root: with more, the tree has the root's memory and rows
+  std::size_t most_states = 6000000;        // of a leaf by its own memory
   std::size_t file_states = 10000000;       // by the file's, which is the checker's limit
   std::size_t most_coarse_states = 500000;  // of a leaf whose numbers are made shorter
 };

@@ -26,13 +26,13 @@ MemoryWords<W>::MemoryWords(const Memory& memory, const std::map<NodeSet, W>& mu
   std::vector<const SubsetRow*> rows;
   for (const SubsetRow& row : memory.rows) {
     const auto found = multipliers.find(row.set);
-    if (found == multipliers.end() || found->second <= 0) continue;
+    const W cost = found == multipliers.end() ? 0 : found->second;
     row.keepers.each([&](int v) {
       std::vector<int>& kept = things.kept[v];
       if (kept.size() >= kMost) throw Refusal("--memory: a customer keeps too much");
       const std::size_t place = kept.size();
       kept.push_back(kRows + static_cast<int>(rows.size()));
-      costs_[static_cast<std::size_t>(v) * kMost + place] = found->second;
+      costs_[static_cast<std::size_t>(v) * kMost + place] = cost;
       if (row.inside.has(v)) toggled_[v] |= Word{1} << place;
     });
     rows.push_back(&row);

@@ -1,8 +1,8 @@
 // What a run remembers, as one word: each customer has a bit of its own for each thing that it keeps.
 //
-// These are the customers that it remembers, and the rows that it keeps. A row without a multiplier has no
-// bit, since nothing is paid for it: so the checker counts states, too. A state is a load, a customer and a
-// word.
+// These are the customers that it remembers, and the rows that it keeps, also those without a multiplier. So
+// a load, a customer and a word are a state as the checker counts them. To leave a row out, leave it out of
+// the memory.
 #pragma once
 #include <cstdint>
 #include <optional>
@@ -51,7 +51,7 @@ class MemoryWords {
     Word last = 0;           // its own bit of the customer before
     std::size_t places = 0;  // where its bits of what passes are listed
   };
-  // For each customer the things that it keeps: customers, and rows with a multiplier.
+  // For each customer the things that it keeps: customers, and rows.
   struct Things {
     std::vector<std::vector<int>> kept;
     std::vector<std::vector<signed char>> place_of;  // of a thing among them, or below 0

@@ -81,7 +81,7 @@ double gain_below(const SolvedRunCase& here, const SetBranch& branch, bool first
   program.rebuild();
   for (int round = 0; round < kRunBranching.rounds; round++) {
     const RunDuals duals = program.duals();
-    const MemoryWords<double> words(program.memory(), duals.rows);
+    const MemoryWords<double> words = program.words(duals);
     const LabelSearch::Found found = here.labels.find(links_under<double>(here.instance, duals, 1), words,
                                                       {kRuns.first_labels, kRuns.few_links}, kRuns.at_once);
     if (program.add_runs(found.runs) == 0 || found.least > -1e-2) break;

@@ -18,9 +18,11 @@ struct RunCaseSolver::Rounds {
   const Note& note;
   bool whole;
   int bits;
+  bool grows;
   Best best{};
   bool shorter = false;  // the goal's plan is a new one
   bool too_many_labels = false;
+  std::size_t states = 0;  // of the whole problem by the best duals
   double margin = kRunLeaves.margin;
   double goal_value() const { return static_cast<double>(goal.target) - 1 + margin; }
 };
@@ -43,7 +45,7 @@ void RunCaseSolver::load(const RunCase& here, RunProgram& program) const {
 // With few labels, more, or all.
 LabelSearch::Found RunCaseSolver::price(const RunProgram& program, const RunDuals& duals, int turn) {
   const Links<double> links = links_under<double>(problem_.instance, duals, 1);
-  const MemoryWords<double> words(program.memory(), duals.rows);
+  const MemoryWords<double> words = program.words(duals);
   const LabelSearch::Effort efforts[] = {
       {kRuns.first_labels, kRuns.few_links}, {kRuns.more_labels, 0}, {0, 0}};
   return labels_.find(links, words, efforts[turn], turn == 2 ? kRuns.at_once_of_all : kRuns.at_once);
@@ -53,7 +55,9 @@ LabelSearch::Found RunCaseSolver::price(const RunProgram& program, const RunDual
 void RunCaseSolver::take_bound(Rounds& rounds, RunDuals duals, double least) const {
   duals.multipliers[problem_.instance.customers()] += least / 2;
   const double bound = rounds.program.back_of(duals);
-  if (bound > rounds.best.bound) rounds.best = {bound, std::move(duals), rounds.program.memory()};
+  if (bound <= rounds.best.bound) return;
+  Memory memory = rounds.program.memory().with_rows_of(duals.rows);
+  rounds.best = {bound, std::move(duals), std::move(memory)};
 }
 
 // Runs join the program until none weighs less than 0. True where the bound is above the goal.
@@ -97,7 +101,7 @@ SolvedRunCase RunCaseSolver::solved(const Rounds& rounds) {
           static_cast<double>(rounds.goal.target) - 1};
 }
 
-// Sets first; where these are few, memory and rows. How many of all.
+// Sets first; where these are few, memory and rows, unless these stay as they are. How many of all.
 int RunCaseSolver::add_cuts(Rounds& rounds) {
   std::vector<NodeSet> sets;
   const Graph support = rounds.program.support();
@@ -106,7 +110,7 @@ int RunCaseSolver::add_cuts(Rounds& rounds) {
     if (!rounds.program.has_set(cut.set)) sets.push_back(cut.set);
   }
   int more = 0;
-  if (static_cast<int>(sets.size()) < kSubsetRows.many_sets) {
+  if (rounds.grows && static_cast<int>(sets.size()) < kSubsetRows.many_sets) {
     std::vector<UsedRun> used;
     for (const auto& [part, run] : rounds.program.used()) used.push_back({part, rounds.program.runs()[run]});
     MemoryGrowth growth(rounds.program.memory(), std::move(used), rounds.bits);
@@ -138,7 +142,8 @@ void RunCaseSolver::cut(Rounds& rounds) {
     if (stalls || round >= plan.most) return;
     rounds.program.note_solution();
     if (add_cuts(rounds) == 0) return;
-    rounds.program.drop_slack(kCapacityCuts.slack_solutions / 2, kSubsetRows.slack_solutions - 1);
+    const int slack = rounds.grows ? kSubsetRows.slack_solutions - 1 : plan.most;
+    rounds.program.drop_slack(kCapacityCuts.slack_solutions / 2, slack);
     rounds.program.drop_runs();
     rounds.program.rebuild();
   }
@@ -158,10 +163,11 @@ bool RunCaseSolver::settle(Rounds& rounds, RunOutcome& outcome) {
 }
 
 // Whether the whole problem, below which there are many leaves, has more states than a leaf should keep.
-bool RunCaseSolver::has_many_states(const Rounds& rounds) {
+bool RunCaseSolver::has_many_states(Rounds& rounds) {
   if (!rounds.whole || rounds.best.duals.potentials.empty()) return false;
   bound_.rounded(rounds.best.duals, rounds.best.memory, rounds.limits, 1, kNoValue, kMemory.states);
-  return bound_.states() > kMemory.states;
+  rounds.states = bound_.states();
+  return rounds.states > kMemory.states;
 }
 
 // Customers keep fewer things from here on. False where they would keep too few.
@@ -210,16 +216,22 @@ void RunCaseSolver::branch(Rounds& rounds, RunOutcome& outcome) {
   std::vector<NodeSet> sets;
   for (const CrossedSet& set : rounds.program.sets()) sets.push_back(set.set);
   outcome.start = std::make_shared<const RunStart>(
-      RunStart{std::move(sets), rounds.program.best_runs(kRuns.kept), rounds.program.memory(), rounds.bits});
+      RunStart{std::move(sets), rounds.program.best_runs(kRuns.kept), rounds.program.memory(), rounds.bits,
+               rounds.grows && rounds.states <= kMemory.grown_states});
 }
 
 RunOutcome RunCaseSolver::solve(const RunCase& here, const Note& note) {
   RunProgram program(problem_.instance, here.start->memory);
   load(here, program);
   program.rebuild();
-  Rounds rounds{
-      program,         CapacityCuts(problem_.instance, here.seed), here.limits, here.goal, note, here.whole,
-      here.start->bits};
+  Rounds rounds{program,
+                CapacityCuts(problem_.instance, here.seed),
+                here.limits,
+                here.goal,
+                note,
+                here.whole,
+                here.start->bits,
+                here.start->grows};
   RunOutcome outcome;
   solve_rounds(rounds, outcome);
   if (rounds.shorter) outcome.routes = rounds.goal.routes;

@@ -17,6 +17,7 @@ struct RunStart {
   std::vector<Route> runs{};
   Memory memory{};
   int bits = kMemory.bits;  // that a customer keeps at most
+  bool grows = true;        // whether memory and rows may join
 };
 
 struct RunCase {
@@ -61,7 +62,7 @@ class RunCaseSolver {
   void look_for_plan(Rounds& rounds);
   SolvedRunCase solved(const Rounds& rounds);
   bool settle(Rounds& rounds, RunOutcome& outcome);
-  bool has_many_states(const Rounds& rounds);
+  bool has_many_states(Rounds& rounds);
   bool give_up_bits(Rounds& rounds) const;
   void solve_rounds(Rounds& rounds, RunOutcome& outcome);
   void leave_duals(Rounds& rounds, RunOutcome& outcome) const;

@@ -15,7 +15,7 @@ bool is_elementary(Route run) {
 void price(const SolvedRunCase& here, RunProgram& program) {
   for (int round = 0; round < kRunDiving.rounds; round++) {
     const RunDuals duals = program.duals();
-    const MemoryWords<double> words(program.memory(), duals.rows);
+    const MemoryWords<double> words = program.words(duals);
     const LabelSearch::Found found = here.labels.find(links_under<double>(here.instance, duals, 1), words,
                                                       {kRuns.first_labels, kRuns.few_links}, kRuns.at_once);
     if (program.add_runs(found.runs) == 0 || found.least > -kRunDiving.least) return;

@@ -3,7 +3,7 @@
 #include <array>
 #include <optional>
 
-#include "memory/memory.h"
+#include "memory/memory_words.h"
 #include "routes/route_program.h"
 
 namespace certify::routes {
@@ -40,6 +40,10 @@ class RunProgram : public RouteProgram {
   void rebuild();
   void solve() { program_.primal(0); }
   RunDuals duals() const;
+  // What runs remember, but for the rows that these duals leave out.
+  MemoryWords<double> words(const RunDuals& duals) const {
+    return {memory_.with_rows_of(duals.rows), duals.rows};
+  }
   // What duals give back, with the crossings of this program.
   double back_of(const RunDuals& duals) const;
   // The runs that the solution uses, and how far.

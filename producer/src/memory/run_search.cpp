@@ -14,6 +14,7 @@ constexpr Weight kMostCost = 10000000;  // so that the tolerance of Clp is fine 
 RunSearch::RunSearch(const CvrpInstance& instance, const Loads& loads, const RouteBegin& begin,
                      const Clock& clock, Progress& progress, const Plan& plan)
     : SetSearch(instance, loads, begin, clock, progress, plan, kRunLeaves.scale),
+      most_states_(begin.states.value_or(kMemory.file_states)),
       memory_{std::vector<Bits>(instance.nodes())} {
   if (instance.nodes() > Bits::kMost) throw Refusal("--memory: there are more than 255 customers");
   if (largest_cost(instance) > kMostCost) throw Refusal("--memory: a cost is above 10,000,000");
@@ -21,7 +22,7 @@ RunSearch::RunSearch(const CvrpInstance& instance, const Loads& loads, const Rou
 
 std::string RunSearch::counts() const {
   return R"({"sets": )" + std::to_string(sets_) + R"(, "rows": )" + std::to_string(rows_) +
-         R"(}, "walks": )" + std::to_string(runs_);
+         R"(}, "walks": )" + std::to_string(runs_) + R"(, "states": )" + std::to_string(states_);
 }
 
 void RunSearch::solve_first() {
@@ -41,9 +42,17 @@ void RunSearch::solve_first() {
   look_again(kRunLeaves.large_gap);
 }
 
+// What the cases below a branch begin with.
+std::shared_ptr<const RunStart> RunSearch::start_below(const RunOutcome& outcome) const {
+  if (!begin_.one_memory) return outcome.start;
+  auto start = std::make_shared<RunStart>(*outcome.start);
+  start->grows = false;
+  return start;
+}
+
 void RunSearch::go_on(int place, const RunOutcome& outcome) {
   if (outcome.branch && tree_.branches() < plan_.limits.branches) {
-    tree_.branch(place, *outcome.branch, outcome.start);
+    tree_.branch(place, *outcome.branch, start_below(outcome));
   } else {
     tree_.leave(place);
   }
@@ -125,16 +134,110 @@ void RunSearch::join_memory() {
   }
 }
 
-// Where a leaf has too many states by the file's memory, it loses rows, a tenth at once, the lightest first.
-void RunSearch::lighten(SettledLeaf& leaf, const std::vector<Limit>& limits) {
-  std::map<NodeSet, Weight>& rows = leaf.numbers.rows;
-  while (!rows.empty() && bound_.value(leaf.numbers, memory_, limits, kMemory.file_states) == kNoValue) {
-    std::vector<std::pair<Weight, NodeSet>> order;
-    for (const auto& [set, multiplier] : rows) order.emplace_back(multiplier, set);
-    std::sort(order.begin(), order.end());
-    order.resize((order.size() + 9) / 10);
-    for (const auto& [multiplier, set] : order) rows.erase(set);
-    limited_ = true;
+// What all leaves together charge for each row of the file.
+std::map<NodeSet, Weight> RunSearch::charges() const {
+  std::map<NodeSet, Weight> sums;
+  for (const int place : tree_.leaves()) {
+    for (const auto& [set, multiplier] : tree_[place].numbers.numbers.rows) sums[set] += multiplier;
+  }
+  return sums;
+}
+
+void RunSearch::drop_uncharged() { memory_ = memory_.with_rows_of(charges()); }
+
+void RunSearch::drop(const std::set<NodeSet>& rows) {
+  std::erase_if(memory_.rows, [&](const SubsetRow& row) { return rows.contains(row.set); });
+  for (const int place : tree_.leaves()) {
+    for (const NodeSet& set : rows) tree_[place].numbers.numbers.rows.erase(set);
+  }
+}
+
+// A tenth of the rows that may go, those that are charged least.
+std::set<NodeSet> RunSearch::light_rows(const std::function<bool(const NodeSet&)>& may_go) const {
+  std::vector<std::pair<Weight, NodeSet>> order;
+  for (const auto& [set, sum] : charges()) {
+    if (may_go(set)) order.emplace_back(sum, set);
+  }
+  std::sort(order.begin(), order.end());
+  order.resize((order.size() + 9) / 10);
+  std::set<NodeSet> rows;
+  for (const auto& [sum, set] : order) rows.insert(set);
+  return rows;
+}
+
+// Whether a leaf has more states by the file's memory than the checker keeps.
+bool RunSearch::is_too_large(int place) {
+  return bound_.value(tree_[place].numbers.numbers, memory_, limits_of(place), most_states_) == kNoValue;
+}
+
+// Whether leaves reach the aim by their own memories, without the rows that they don't charge. Then they do
+// by the file's memory too, which has more, and by which they may have many more states.
+bool RunSearch::still_reach(const std::vector<int>& places) {
+  return std::all_of(places.begin(), places.end(), [&](int place) {
+    const SettledLeaf& leaf = tree_[place].numbers;
+    const Memory own = leaf.memory.with_rows_of(leaf.numbers.rows);
+    return bound_.value(leaf.numbers, own, limits_of(place), most_states_) >= aim();
+  });
+}
+
+// A leaf keeps states for rows that others charge. Gives up some of them without which those still reach the
+// aim. False where all that are left are needed.
+bool RunSearch::give_up_spared(int place, std::set<NodeSet>& needed) {
+  const auto may_go = [&](const NodeSet& set) {
+    return !needed.contains(set) && !tree_[place].numbers.numbers.rows.contains(set);
+  };
+  for (;;) {
+    const std::set<NodeSet> rows = light_rows(may_go);
+    if (rows.empty()) return false;
+    const Memory before = memory_;
+    std::map<int, RunLeaf> numbers_before;
+    std::vector<int> reached;
+    for (const int other : tree_.leaves()) {
+      const RunLeaf& own = tree_[other].numbers.numbers;
+      if (std::none_of(rows.begin(), rows.end(), [&](const NodeSet& row) { return own.rows.contains(row); }))
+        continue;
+      numbers_before[other] = own;
+      if (tree_[other].done) reached.push_back(other);
+    }
+    drop(rows);
+    if (still_reach(reached)) return true;
+    memory_ = before;
+    for (auto& [other, numbers] : numbers_before) tree_[other].numbers.numbers = std::move(numbers);
+    needed.insert(rows.begin(), rows.end());
+  }
+}
+
+// Gives up rows, or customers that are remembered where there are no rows, at the cost of bounds. False where
+// nothing is left.
+bool RunSearch::give_up() {
+  limited_ = true;
+  const std::set<NodeSet> rows = light_rows([](const NodeSet&) { return true; });
+  drop(rows);
+  if (!rows.empty()) return true;
+  int most = 0;
+  for (const int v : instance_.customers()) most = std::max(most, memory_.kept_at(v));
+  if (most > 0) memory_.trim(most - 1, {});
+  return most > 0;
+}
+
+// Whether something was given up, so that a leaf has no more states than the checker keeps.
+bool RunSearch::fit(int place) {
+  std::set<NodeSet> needed;
+  bool gave = false;
+  while (is_too_large(place)) {
+    const bool spared = !clock_.over() && give_up_spared(place, needed);
+    if (!spared && !give_up()) return gave;
+    gave = true;
+  }
+  return gave;
+}
+
+// The checker counts states over all rows of the file, also over those that a leaf doesn't charge. With a row
+// less, a leaf that charged it may keep more states: so all are looked at again.
+void RunSearch::fit_leaves() {
+  drop_uncharged();
+  const std::vector<int> leaves = tree_.leaves();
+  while (std::count_if(leaves.begin(), leaves.end(), [this](int place) { return fit(place); }) > 0) {
   }
 }
 
@@ -159,7 +262,7 @@ void RunSearch::coarsen() {
     for (const auto& [set, multiplier] : own.numbers.rows) {
       duals.rows[set] = static_cast<double>(multiplier) / scale;
     }
-    auto made = bound_.rounded(duals, memory_, limits_of(place), grid, aim(), kMemory.file_states);
+    auto made = bound_.rounded(duals, memory_, limits_of(place), grid, aim(), most_states_);
     if (!made || made->value < aim()) return std::nullopt;
     SettledLeaf leaf;
     leaf.numbers = std::move(made->numbers);
@@ -177,13 +280,10 @@ void RunSearch::add_rows(const RunLeaf& numbers) {
 }
 
 void RunSearch::add_leaf(int place) {
-  SettledLeaf& leaf = tree_[place].numbers;
-  if (leaf.numbers.potentials.empty()) leaf.numbers.potentials.assign(instance_.nodes(), 0);
-  const std::vector<Limit> limits = limits_of(place);
-  lighten(leaf, limits);
-  made_.add_leaf(leaf.numbers);
-  add_rows(leaf.numbers);
-  least_ = std::min(least_, bound_.value(leaf.numbers, memory_, limits, kMemory.file_states));
+  const RunLeaf& numbers = tree_[place].numbers.numbers;
+  made_.add_leaf(numbers);
+  add_rows(numbers);
+  least_ = std::min(least_, bound_.value(numbers, memory_, limits_of(place), most_states_));
   states_ = std::max(states_, bound_.states());
 }
 
@@ -213,9 +313,17 @@ void RunSearch::list_memory() {
 void RunSearch::run() {
   solve_first();
   solve_cases();
-  for (const int place : tree_.leaves()) settle(tree_[place], limits_of(place));
+  const std::vector<int> leaves = tree_.leaves();
+  reached_ = std::all_of(leaves.begin(), leaves.end(), [this](int leaf) { return tree_[leaf].done; });
+  for (const int place : leaves) {
+    settle(tree_[place], limits_of(place));
+    std::vector<Weight>& potentials = tree_[place].numbers.numbers.potentials;
+    if (potentials.empty()) potentials.assign(instance_.nodes(), 0);
+  }
   join_memory();
+  fit_leaves();
   coarsen();
+  drop_uncharged();
   list_tree([this](int place) { add_leaf(place); });
   list_memory();
   log("end", std::min(bound(), goal_.length));

@@ -41,7 +41,7 @@ class Ascent {
   void move_groups(double size);
 
   const Problem& problem_;
-  certify::TimeLimit timing_;  // only how it counts
+  certify::TimeLimit timing_;    // only how it counts
   std::vector<double> lengths_;  // near each node
   std::vector<Edge> near_, edges_, support_;
   OneTree one_tree_;

@@ -91,8 +91,8 @@ class Run {
         progress_.log("steps", length(), whole, R"("steps": )" + std::to_string(step));
       }
       std::ostringstream line;
-      line << "seconds " << static_cast<int>(time()) << " step " << step << " of " << steps
-           << " bound " << whole;
+      line << "seconds " << static_cast<int>(time()) << " step " << step << " of " << steps << " bound "
+           << whole;
       progress_.show(line.str());
       return !Clock::signal();
     });
@@ -115,8 +115,8 @@ class Run {
         progress_.log("tour", now, found_.bound, R"("kicks": )" + std::to_string(kicks));
       }
       std::ostringstream line;
-      line << "seconds " << static_cast<int>(time()) << " kicks " << kicks << " length " << now
-           << " bound " << found_.bound;
+      line << "seconds " << static_cast<int>(time()) << " kicks " << kicks << " length " << now << " bound "
+           << found_.bound;
       progress_.show(line.str());
       return !Clock::signal();
     };

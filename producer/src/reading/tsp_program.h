@@ -5,8 +5,9 @@
 #include <vector>
 
 namespace certify {
-// The program `tsp`: the named one, else that on PATH, else one in the folders above this program. A name
-// without a slash is looked for on PATH, as a shell does. Throws Refusal where it isn't there, or isn't ours.
+// The program `tsp`: the named one, else the one in this program's folder, else that on PATH, else one in the
+// two folders above. A name without a slash is looked for on PATH, as a shell does. Throws Refusal where it
+// isn't there, or isn't ours.
 std::string find_tsp(const std::optional<std::string>& named);
 // The canonical text of a file, which `tsp convert` prints. Other words may follow the path.
 std::string canonical_text(const std::string& tsp, const std::string& path,

@@ -28,8 +28,10 @@ struct RouteBegin {
   bool named = false;        // the plan is one that was named
   std::optional<Weight> upper{};
   std::uint64_t seed = 1;
-  std::optional<Certificate> tree{};  // that is gone on with
-  std::optional<int> leaf{};          // the one leaf of it that is, from 1 on
+  std::optional<Certificate> tree{};    // that is gone on with
+  std::optional<int> leaf{};            // the one leaf of it that is, from 1 on
+  std::optional<std::size_t> states{};  // of a leaf, in place of those that the checker keeps
+  bool one_memory = false;              // whether all cases have the root's memory and rows
 };
 
 // A Kind has the Numbers of a case, the Start that a branch leaves to its cases, the Case and its Outcome,

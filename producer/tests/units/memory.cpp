@@ -1,14 +1,17 @@
-// Runs with a memory: payments, words, labels and exact bounds, against results by hand and by trying all cases.
+// Runs with a memory: payments, words, labels and exact bounds, against results by hand and by trying all
+// cases.
 #include "memory/memory.h"
 
 #include <algorithm>
 #include <bit>
 #include <cmath>
+#include <set>
 
 #include "fixtures.h"
 #include "memory/label_search.h"
 #include "memory/memory_words.h"
 #include "memory/run_bound.h"
+#include "memory_fixtures.h"
 #include "running/refusal.h"
 
 using namespace certify;
@@ -80,14 +83,6 @@ void each_run(const Sample& sample, const Loads& loads, Route& run, int load, co
     run.pop_back();
   }
 }
-
-bool is_near(double a, double b) { return std::abs(a - b) < 1e-6; }
-
-NodeSet listed(const Bits& bits) {
-  NodeSet list;
-  bits.each([&](int k) { list.push_back(k); });
-  return list;
-}
 }  // namespace
 
 TEST_CASE("Bits are sets of whole numbers") {
@@ -155,24 +150,20 @@ TEST_CASE("Words say what runs remember and pay, whatever bits customers have") 
   }
 }
 
-// 5 keeps the row, but has no bit of it unless there is a multiplier. So it doesn't part states.
-TEST_CASE("A row without a multiplier is no part of a state") {
-  Memory memory{std::vector<Bits>(6), {row_of({1, 2, 3}), row_of({1, 2, 4})}};
-  for (SubsetRow& row : memory.rows) row.keepers.add(5);
-  const MemoryWords<Weight> none(memory, {{{1, 2, 3}, 0}});
-  CHECK(none.first(1) == 0);
-  Word word = none.first(1);
-  CHECK(none.go_on(1, 5, word) == 0);
-  CHECK(none.go_on(5, 2, word) == 0);
-  CHECK(word == 0);
-  const MemoryWords<Weight> one(memory, {{{1, 2, 3}, 0}, {{1, 2, 4}, 7}});
-  CHECK(one.first(3) == 0);
-  word = one.first(1);
+// 5 keeps the row.
+TEST_CASE("A row without a multiplier costs nothing, but parts states") {
+  Memory memory{std::vector<Bits>(6), {row_of({1, 2, 3})}};
+  memory.rows[0].keepers.add(5);
+  const MemoryWords<Weight> words(memory, {});
+  Word word = words.first(1);
   CHECK(std::popcount(word) == 1);
-  CHECK(one.go_on(1, 5, word) == 0);
+  CHECK(words.first(4) == 0);
+  CHECK(words.go_on(1, 5, word) == 0);
   CHECK(std::popcount(word) == 1);
-  CHECK(one.go_on(5, 2, word) == 7);
+  CHECK(words.go_on(5, 2, word) == 0);
   CHECK(word == 0);
+  const Memory without = memory.with_rows_of(std::map<NodeSet, Weight>{});
+  CHECK(MemoryWords<Weight>(without, {}).first(1) == 0);
 }
 
 TEST_CASE("A customer that keeps more than a word has bits is refused") {
@@ -180,8 +171,7 @@ TEST_CASE("A customer that keeps more than a word has bits is refused") {
   for (int v = 2; v < 66; v++) memory.near[1].add(v);
   CHECK_NOTHROW(MemoryWords<Weight>(memory, {}));
   memory.rows.push_back(row_of({1, 2}));
-  CHECK_NOTHROW(MemoryWords<Weight>(memory, {{{1, 2}, 0}}));
-  CHECK_THROWS_AS(MemoryWords<Weight>(memory, {{{1, 2}, 1}}), Refusal);
+  CHECK_THROWS_AS(MemoryWords<Weight>(memory, {}), Refusal);
 }
 
 TEST_CASE("The least run by labels and by states is that of all runs") {
@@ -224,6 +214,99 @@ TEST_CASE("The least run by labels and by states is that of all runs") {
   }
 }
 
+// By docs/format.md, with nothing left out: a state has all customers that are remembered, and the parities
+// of all rows. A start is kept if after each of its customers the lightest way home ends below 0.
+namespace {
+struct PlainState {
+  int load, last;
+  Bits known, open;
+  auto operator<=>(const PlainState&) const = default;
+};
+
+Weight way_home(const Sample& sample, const Loads& loads, const Links<Weight>& links, int load, int v) {
+  const int nodes = sample.instance.nodes();
+  Weight least = links[static_cast<std::size_t>(v * nodes)];
+  for (const int to : sample.instance.customers()) {
+    const int sum = load + loads.of[to];
+    if (to == v || sum > loads.room) continue;
+    least = std::min(
+        least, links[static_cast<std::size_t>(v * nodes + to)] + way_home(sample, loads, links, sum, to));
+  }
+  return least;
+}
+
+PlainState next_state(const Sample& sample, const Loads& loads, const PlainState& from, int to) {
+  PlainState next{from.load + loads.of[to], to, from.known, {}};
+  next.known.add(from.last);
+  next.known = next.known & sample.memory.near[to];
+  for (int k = 0; k < static_cast<int>(sample.memory.rows.size()); k++) {
+    const SubsetRow& row = sample.memory.rows[k];
+    if (row.keepers.has(to) && from.open.has(k) != row.inside.has(to)) next.open.add(k);
+  }
+  return next;
+}
+
+Weight paid(const Sample& sample, const PlainState& from, int to) {
+  Weight sum = 0;
+  for (int k = 0; k < static_cast<int>(sample.memory.rows.size()); k++) {
+    const SubsetRow& row = sample.memory.rows[k];
+    if (from.open.has(k) && row.inside.has(to)) sum += sample.rows.at(row.set);
+  }
+  return sum;
+}
+
+void keep(const Sample& sample, const Loads& loads, const Links<Weight>& links, const PlainState& state,
+          Weight weight, std::set<PlainState>& kept) {
+  if (weight + way_home(sample, loads, links, state.load, state.last) >= 0) return;
+  kept.insert(state);
+  for (const int to : sample.instance.customers()) {
+    if (to == state.last || state.known.has(to) || state.load + loads.of[to] > loads.room) continue;
+    const Weight link = links[static_cast<std::size_t>(state.last * sample.instance.nodes() + to)];
+    keep(sample, loads, links, next_state(sample, loads, state, to), weight + link + paid(sample, state, to),
+         kept);
+  }
+}
+}  // namespace
+
+TEST_CASE("States are those that the checker counts, over all rows of the memory") {
+  std::size_t most = 0;
+  bool free_row_parts = false;
+  for (int seed = 0; seed < 60; seed++) {
+    Random random(seed);
+    const Sample one = sample(3 + seed % 4, random);
+    const auto loads = loads_in(one.instance, 1);
+    REQUIRE(loads);
+    RunLeaf numbers;
+    for (int v = 0; v < one.instance.nodes(); v++)
+      numbers.potentials.push_back(v == 0 ? 0 : -random.below(25));
+    for (const auto& [set, multiplier] : one.rows) {
+      if (multiplier > 0) numbers.rows[set] = multiplier;
+    }
+    Sample charged = one;
+    for (auto& [set, multiplier] : charged.rows) {
+      if (random.below(2) == 0) numbers.rows.erase(set), multiplier = 0;
+    }
+    const Links<Weight> links = links_under<Weight>(one.instance, numbers, 1);
+    std::set<PlainState> kept;
+    for (const int v : one.instance.customers()) {
+      if (loads->of[v] > loads->room) continue;
+      PlainState first{loads->of[v], v, {}, {}};
+      for (std::size_t k = 0; k < one.memory.rows.size(); k++) {
+        if (one.memory.rows[k].inside.has(v)) first.open.add(static_cast<int>(k));
+      }
+      keep(charged, *loads, links, first, links[static_cast<std::size_t>(v)], kept);
+    }
+    RunBound bound(one.instance, *loads, 1);
+    CHECK(bound.value(numbers, one.memory, {}, 1000000) > kNoValue);
+    CHECK(bound.states() == kept.size());
+    most = std::max(most, kept.size());
+    bound.value(numbers, one.memory.with_rows_of(numbers.rows), {}, 1000000);
+    free_row_parts = free_row_parts || bound.states() < kept.size();
+  }
+  CHECK(most > 30);
+  CHECK(free_row_parts);
+}
+
 TEST_CASE("Too many states have no bound") {
   Random random(5);
   const Sample one = sample(6, random);
@@ -239,11 +322,8 @@ TEST_CASE("Too many states have no bound") {
   CHECK(bound.value(numbers, one.memory, {}, states - 1) == kNoValue);
 }
 
-// The star of tests/second/memory: each route costs 10, and has room for two of the customers 1, 2 and 3, and
-// for customer 4 too.
 TEST_CASE("Bounds of the star are those by hand") {
-  CvrpInstance instance{Matrix(5), {0, 5, 5, 5, 2}, 12, {1, 2, 3, 4, 5}, true};
-  for (int v = 1; v < 5; v++) instance.costs.set(0, v, 5);
+  const CvrpInstance instance = star();
   const auto loads = loads_in(instance, 1);
   RunBound bound(instance, *loads, 1);
   Memory memory{std::vector<Bits>(5), {row_of({1, 2, 3})}};
@@ -258,8 +338,7 @@ TEST_CASE("Bounds of the star are those by hand") {
 }
 
 TEST_CASE("Rounded duals win back what is above 0") {
-  CvrpInstance instance{Matrix(5), {0, 5, 5, 5, 2}, 12, {1, 2, 3, 4, 5}, true};
-  for (int v = 1; v < 5; v++) instance.costs.set(0, v, 5);
+  const CvrpInstance instance = star();
   const auto loads = loads_in(instance, 1);
   RunBound bound(instance, *loads, 1000);
   Memory memory{std::vector<Bits>(5), {row_of({1, 2, 3})}};

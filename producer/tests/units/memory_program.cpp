@@ -7,19 +7,10 @@
 #include "fixtures.h"
 #include "memory/memory_growth.h"
 #include "memory/run_program.h"
+#include "memory_fixtures.h"
 
 using namespace certify;
 using namespace certify::routes;
-
-namespace {
-bool is_near(double a, double b) { return std::abs(a - b) < 1e-6; }
-
-NodeSet listed(const Bits& bits) {
-  NodeSet list;
-  bits.each([&](int k) { list.push_back(k); });
-  return list;
-}
-}  // namespace
 
 TEST_CASE("Rows of three are found where runs share their customers") {
   Memory memory{std::vector<Bits>(6)};

@@ -1,4 +1,6 @@
 // The search without a matrix: regions of a tour, passes over it, and the whole search.
+#include "sparse/sparse_search.h"
+
 #include <algorithm>
 #include <cmath>
 
@@ -7,7 +9,6 @@
 #include "sparse/region_search.h"
 #include "sparse/sparse_leaf.h"
 #include "sparse/sparse_parameters.h"
-#include "sparse/sparse_search.h"
 #include "sparse/tour_passes.h"
 #include "tours/eax.h"
 #include "tours/tours.h"
