@@ -72,7 +72,7 @@ impl Memory {
 struct Step {
     /// The bit of the next customer, if it is remembered.
     forbidden: u64,
-    /// The bits of the rows that are paid for.
+    /// The bits of the rows that are paid for, if they cost something.
     paid: u64,
     /// The next customer's bit of this one.
     own: u64,
@@ -116,11 +116,9 @@ impl<'a> Runs<'a> {
             costs: vec![[0; 64]; n],
             home: Vec::new(),
         };
-        // Things that a node keeps: customers, and from n on rows that cost something.
+        // Things that a node keeps: customers, and from n on rows, also those that cost nothing.
         let mut things: Vec<Vec<usize>> = memory.near.clone();
-        for (number, (row, gain)) in
-            memory.rows.iter().zip(gains).enumerate().filter(|(_, (_, gain))| **gain > 0)
-        {
+        for (number, (row, gain)) in memory.rows.iter().zip(gains).enumerate() {
             for node in &row.keepers {
                 let place = things[*node].len();
                 if place == 64 {
@@ -135,7 +133,7 @@ impl<'a> Runs<'a> {
         }
         for from in 0..n {
             for to in 0..n {
-                runs.steps[from * n + to] = step_of(memory, &things, from, to);
+                runs.steps[from * n + to] = step_of(memory, &things, gains, from, to);
             }
         }
         runs.fill_home();
@@ -235,7 +233,7 @@ impl<'a> Runs<'a> {
     }
 }
 
-fn step_of(memory: &Memory, things: &[Vec<usize>], from: usize, to: usize) -> Step {
+fn step_of(memory: &Memory, things: &[Vec<usize>], gains: &[i64], from: usize, to: usize) -> Step {
     let n = things.len();
     let bit = |node: usize, thing: usize| {
         things[node].iter().position(|it| *it == thing).map(|place| 1u64 << place)
@@ -246,7 +244,7 @@ fn step_of(memory: &Memory, things: &[Vec<usize>], from: usize, to: usize) -> St
         if *thing == to {
             step.forbidden = own;
         }
-        if *thing >= n && memory.rows[thing - n].set.contains(&to) {
+        if *thing >= n && gains[thing - n] > 0 && memory.rows[thing - n].set.contains(&to) {
             step.paid |= own;
         }
         if let Some(other) = bit(to, *thing) {

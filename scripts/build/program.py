@@ -11,7 +11,7 @@ import shutil
 import time
 from pathlib import Path
 
-from build.sources import PROGRAM, ROOT, sum_of
+from build.sources import PROGRAM, ROOT
 
 OUT = ROOT / "crates" / PROGRAM / "out"
 PROVED = OUT / PROGRAM

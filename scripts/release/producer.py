@@ -56,11 +56,12 @@ def build(folder: Path) -> None:
         scratch = Path(name)
         flags = f"-DCMAKE_CXX_FLAGS=-ffile-prefix-map={SOURCES}=producer -ffile-prefix-map={scratch}=build"
         jobs = str(len(os.sched_getaffinity(0)))
-        for words in (
+        calls: tuple[list[str | Path], ...] = (
             ["-S", SOURCES, "-B", scratch / "out", "-DPORTABLE=ON", "-DCMAKE_BUILD_TYPE=Release", flags],
             ["--build", scratch / "out", "--parallel", jobs, "--target", *PROGRAMS],
             ["--install", scratch / "out", "--prefix", scratch / "made", "--strip"],
-        ):
+        )
+        for words in calls:
             ran = subprocess.run(["cmake", *words], stdin=subprocess.DEVNULL, capture_output=True, text=True, check=False)
             if ran.returncode:
                 sys.exit(f"release: the producer isn't built:\n{ran.stdout[-4000:]}{ran.stderr[-4000:]}")

@@ -5,10 +5,9 @@ RULE says what a walk has, and which of its functions are rows.
 from __future__ import annotations
 
 import heapq
-import re
 import tomllib
 from collections import Counter
-from collections.abc import Iterable, Iterator
+from collections.abc import Iterator
 from dataclasses import dataclass, field
 from functools import cached_property
 from pathlib import Path

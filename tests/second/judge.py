@@ -5,9 +5,9 @@ from __future__ import annotations
 from functools import cached_property
 
 import recheck
-from reader import INSTANCES, Fault, File, Wrong, read, whole
+from reader import INSTANCES, LAYOUTS, Fault, File, Wrong, read, whole
 from recheck import No
-from writer import LAYOUTS, Refused, canonical, fields_of, not_judged, relaid, shown
+from writer import Refused, canonical, fields_of, not_judged, relaid, shown
 
 Result = tuple[int, bytes, bytes]  # the exit status, standard output and standard error
 
@@ -152,8 +152,9 @@ def check(
     return 0, told(judge.head(), *lines, "yes"), b""
 
 
-def bound(instance: bytes, certificate: bytes, kind: str, strict: bool = False) -> Result:
-    found = judge_of([instance, certificate], kind, 1)
+def without_solution(texts: list[bytes], kind: str, strict: bool) -> tuple[Judge, int | None] | Result:
+    """The judge of an instance and the bound of a certificate; or what comes in place of a verdict."""
+    found = judge_of(texts, kind, 1)
     if len(found) == 3:
         return found
     judge, _ = found
@@ -163,6 +164,14 @@ def bound(instance: bytes, certificate: bytes, kind: str, strict: bool = False) 
         judge.against_keywords(strict)
     except No as reason:
         return 1, told(judge.head(), f"no {reason}"), b""
+    return judge, least
+
+
+def bound(instance: bytes, certificate: bytes, kind: str, strict: bool = False) -> Result:
+    found = without_solution([instance, certificate], kind, strict)
+    if len(found) == 3:
+        return found
+    judge, least = found
     return 0, told(judge.head(), f"bound {'none' if least is None else least}", "yes"), b""
 
 
@@ -170,16 +179,10 @@ def compare(
     instance: bytes, solutions: list[tuple[str, bytes]], certificate: bytes = b"", kind: str = "", strict: bool = False
 ) -> Result:
     """A comparison of solutions, each with its path."""
-    found = judge_of([instance, *([certificate] if kind else [])], kind, 1)
+    found = without_solution([instance, *([certificate] if kind else [])], kind, strict)
     if len(found) == 3:
         return found
-    judge, _ = found
-    try:
-        judge.against_instance()
-        least = judge.bound()
-        judge.against_keywords(strict)
-    except No as reason:
-        return 1, told(judge.head(), f"no {reason}"), b""
+    judge, least = found
     lines, status = [], 0
     if judge.routes and (least is not None or not kind):
         lines.append(f"least {judge.least()}")

@@ -3,8 +3,8 @@ without any pruning or dominance. For tests/second/memory and tests/second/run."
 from __future__ import annotations
 
 from collections.abc import Callable, Iterator
-from functools import cache
-from typing import NamedTuple
+from dataclasses import dataclass
+from functools import cache, cached_property
 
 import recheck
 
@@ -32,7 +32,8 @@ def plans(fleet: recheck.Fleet) -> Iterator[list[list[int]]]:
     return grown([], fleet.customers)
 
 
-class Certificate(NamedTuple):
+@dataclass(frozen=True)
+class Certificate:
     """What all leaves of a tree of cases share."""
 
     fleet: recheck.Fleet
@@ -43,18 +44,55 @@ class Certificate(NamedTuple):
     scale: int
     unit: int
 
+    @cached_property
+    def runs(self) -> Runs:
+        return Runs(self)
 
-class Leaf:
-    """A leaf with its numbers by index. Without lists and rows, a run only remembers the customer before its last one."""
 
-    def __init__(self, certificate: Certificate, of: dict[int, int]) -> None:
-        self.own, self.of, self.fleet = certificate, of, certificate.fleet
-        whole = {node: self.fleet.demands[node] // certificate.unit for node in self.fleet.customers}
+class Runs:
+    """Where runs may go, whatever a leaf's numbers are. Without lists and rows, a run only remembers the customer before its
+    last one."""
+
+    def __init__(self, certificate: Certificate) -> None:
+        fleet, self.rows = certificate.fleet, certificate.rows
+        whole = {node: fleet.demands[node] // certificate.unit for node in fleet.customers}
         light = sum(load == 0 for load in whole.values())
         self.load = {node: load * (light + 1) or 1 for node, load in whole.items()}
-        self.room = self.fleet.capacity // certificate.unit * (light + 1) + light
+        self.room = fleet.capacity // certificate.unit * (light + 1) + light
         self.stands = bool(certificate.lists or certificate.rows)
         self.near = {node: frozenset(others) for node, *others in certificate.lists}
+        self.steps = cache(self.steps_of)
+
+    def starts(self) -> Iterator[State]:
+        """The states of runs after their first customer."""
+        for node, load in self.load.items():
+            if load <= self.room:
+                yield load, node, frozenset(), frozenset(row for row, (nodes, _) in enumerate(self.rows) if node in nodes)
+
+    def steps_of(self, state: State) -> list[tuple[list[int], State]]:
+        """The rows that a run pays for with one customer more, and its state then."""
+        load, last, remembered, opened = state
+        found = []
+        for node, more in self.load.items():
+            if node == last or node in remembered or load + more > self.room:
+                continue
+            paid, still = [], set()
+            for row, (nodes, others) in enumerate(self.rows):
+                if row in opened and node in nodes:
+                    paid.append(row)
+                if node in (*nodes, *others) and (row in opened) != (node in nodes):
+                    still.add(row)
+            known = (remembered | {last}) & self.near.get(node, frozenset()) if self.stands else frozenset({last})
+            found.append((paid, (load + more, node, known, frozenset(still))))
+        return found
+
+
+class Leaf:
+    """A leaf with its numbers by index."""
+
+    def __init__(self, certificate: Certificate, of: dict[int, int]) -> None:
+        self.own, self.of, self.fleet, self.runs = certificate, of, certificate.fleet, certificate.runs
+        self.stands = self.runs.stands
         self.gains = [of.get(self.fleet.count + FIRST_ROW + row, 0) for row in range(len(certificate.rows))]
         self.most = 2 * of.get(self.fleet.depot, 0)
         self.weight = cache(self.weight_of)
@@ -68,24 +106,13 @@ class Leaf:
 
     def starts(self) -> Iterator[tuple[int, State]]:
         """The weights and states of runs after their first customer."""
-        for node, load in self.load.items():
-            if load <= self.room:
-                opened = frozenset(row for row, (nodes, _) in enumerate(self.own.rows) if node in nodes)
-                yield self.weight(self.fleet.depot, node), (load, node, frozenset(), opened)
+        for state in self.runs.starts():
+            yield self.weight(self.fleet.depot, state[1]), state
 
     def steps(self, state: State) -> Iterator[tuple[int, State]]:
         """What a run weighs more with one customer more, and its state then."""
-        load, last, remembered, opened = state
-        for node, more in self.load.items():
-            if node == last or node in remembered or load + more > self.room:
-                continue
-            cost, still = self.weight(last, node), set()
-            for row, (nodes, others) in enumerate(self.own.rows):
-                cost += self.gains[row] if row in opened and node in nodes else 0
-                if node in (*nodes, *others) and (row in opened) != (node in nodes):
-                    still.add(row)
-            known = (remembered | {last}) & self.near.get(node, frozenset()) if self.stands else frozenset({last})
-            yield cost, (load + more, node, known, frozenset(still))
+        for paid, after in self.runs.steps(state):
+            yield self.weight(state[1], after[1]) + sum(self.gains[row] for row in paid), after
 
     def least(self) -> int | None:
         """The least weight of a run, or None if there is none."""
@@ -102,10 +129,10 @@ class Leaf:
 
         @cache
         def home(load: int, last: int) -> int:
-            onward = [(node, load + more) for node, more in self.load.items() if node != last and load + more <= self.room]
+            onward = [(node, load + more) for node, more in self.runs.load.items() if node != last and load + more <= self.runs.room]
             return min([self.weight(last, self.fleet.depot), *(self.weight(last, node) + home(sum_, node) for node, sum_ in onward)])
 
-        layers: list[dict[State, int]] = [{} for _ in range(self.room + 1)]
+        layers: list[dict[State, int]] = [{} for _ in range(self.runs.room + 1)]
 
         def offer(weight: int, state: State) -> None:
             layer = layers[state[0]]

@@ -3,7 +3,7 @@ examples/recheck.py."""
 from __future__ import annotations
 
 import recheck
-from reader import FINE, INSTANCES, LAYOUTS, SECTIONS, File, cells, lines_of
+from reader import FINE, INSTANCES, SECTIONS, File, cells, lines_of
 
 KEYWORDS = ["DIMENSION", "CAPACITY", "SCALE", "LOAD_UNIT", "EDGE_WEIGHT_TYPE", "EDGE_WEIGHT_FORMAT", "NODE_COORD_TYPE",
             "DISPLAY_DATA_TYPE"]

@@ -210,6 +210,13 @@ class Crate:
         return [definitions_at(path) for path in sorted((self.folder / "proofs").rglob("*.antt"))]
 
     @cached_property
+    def public_lemmas(self) -> set[str]:
+        """The files of lemmas that the crates above may import."""
+        path = self.folder / "proofs/Lib.antt"
+        lines = path.read_text().splitlines() if path.exists() else []
+        return {line.removeprefix("pub mod ") for line in lines if line.startswith("pub mod ")}
+
+    @cached_property
     def names(self) -> set[str]:
         """What it declares in code, definitions and lemmas, and the names of its files."""
         of_code = {name for file in self.code for name in file.names}

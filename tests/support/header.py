@@ -1,9 +1,11 @@
-"""What bindings/c/tsp.h declares, and the module of the package for Python that is made from it and from bindings/reasons.tsv.
+"""What bindings/c/tsp.h declares, and the module of the package for Python that is made from it, from bindings/reasons.tsv and from
+the sentences on faults of solutions.
 
 tests/repository/reasons writes that module, and compares it.
 """
 from __future__ import annotations
 
+import json
 import re
 from textwrap import fill
 from typing import NamedTuple
@@ -75,7 +77,19 @@ def reasons_of(reasons: list[tuple[int, str, str, int]]) -> str:
     )
 
 
-def module_of(header: Header, reasons: list[tuple[int, str, str, int]]) -> str:
+def sentences_in(text: str) -> dict[str, str]:
+    """The sentence of each fault of another program's solution, by its name, in the text of crates/tsp_solution/specs/FaultTexts.antt."""
+    pairs = re.findall(r'^form_fault_sentence (\w+) = codes ("(?:[^"\\]|\\.)*")$', text, re.M)
+    return {name: json.loads(sentence) for name, sentence in pairs}
+
+
+def sentences_of(sentences: dict[str, str]) -> str:
+    """The table of sentences."""
+    rows = "".join(f"    {json.dumps(name)}: {json.dumps(sentence)},\n" for name, sentence in sentences.items())
+    return f"# What each fault of another program's solution means.\nSENTENCES: Dict[str, str] = {{\n{rows}}}\n\n"
+
+
+def module_of(header: Header, reasons: list[tuple[int, str, str, int]], sentences: dict[str, str]) -> str:
     """Python's module."""
     numbers = "".join(f"{name.removeprefix('TSP_')} = {number}\n" for name, number in header.numbers.items())
     structs = ""
@@ -87,12 +101,13 @@ def module_of(header: Header, reasons: list[tuple[int, str, str, int]]) -> str:
         calls += fill(f'"{name}": ({result}, [{", ".join(given)}]),', WIDE, initial_indent="    ", subsequent_indent="        ") + "\n"
     used = sorted(set(re.findall(r"\b(?:c_\w+|POINTER)\b", structs + calls)) | {"Structure"})
     return (
-        '"""What bindings/c/tsp.h declares, for ctypes, and the reasons for the line `no`.\n\n'
-        "This file is made from the header and from bindings/reasons.tsv by `tests/repository/reasons --write`: change these. The\n"
-        'suite `reasons` of ./check compares them.\n"""\n\n'
+        '"""What bindings/c/tsp.h declares, for ctypes, the reasons for the line `no`, and what faults of solutions mean.\n\n'
+        "This file is made from the header, bindings/reasons.tsv and the definitions of tsp_solution by\n"
+        "`tests/repository/reasons --write`: change these. The suite `reasons` of ./check compares them.\n"
+        '"""\n\n'
         f"from ctypes import {', '.join(used)}\n"
         "from enum import Enum\nfrom typing import Any, Dict, List, Tuple\n\n"
         f"{numbers}\n\n{structs}"
         "# The result and the parameters of each call.\n"
-        f"CALLS: Dict[str, Tuple[Any, List[Any]]] = {{\n{calls}}}\n\n{reasons_of(reasons)}"
+        f"CALLS: Dict[str, Tuple[Any, List[Any]]] = {{\n{calls}}}\n\n{sentences_of(sentences)}{reasons_of(reasons)}"
     )

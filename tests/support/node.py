@@ -25,15 +25,16 @@ class Program:
 
     def run(self, words: list[object], cwd: object, **_: object) -> SimpleNamespace:
         """A run, as `subprocess.run` would answer it."""
-        self.process.stdin.write(json.dumps({"words": [str(word) for word in words[1:]], "folder": str(cwd)}) + "\n")
-        self.process.stdin.flush()
-        told = json.loads(self.process.stdout.readline())
+        asked, answered = self.process.stdin, self.process.stdout
+        assert asked and answered
+        asked.write(json.dumps({"words": [str(word) for word in words[1:]], "folder": str(cwd)}) + "\n")
+        asked.flush()
+        told = json.loads(answered.readline())
         out, err = (base64.b64decode(told[word]) for word in ("out", "err"))
         return SimpleNamespace(returncode=told["status"], stdout=out, stderr=err)
 
     def end(self) -> None:
-        self.process.stdin.close()
-        self.process.wait()
+        self.process.communicate()
 
 
 def rows(script: Path, subject: Path, each: int = 1, without: Iterable[str] = ()) -> Counted:
@@ -48,7 +49,7 @@ def rows(script: Path, subject: Path, each: int = 1, without: Iterable[str] = ()
 
 def tests(files: Iterable[Path], **variables: str) -> Counted:
     """How many tests of these files pass, fail and are skipped."""
-    words = ["node", "--test", "--test-reporter=tap", *sorted(files)]
+    words: list[str | Path] = ["node", "--test", "--test-reporter=tap", *sorted(files)]
     ran = subprocess.run(words, env={**os.environ, **variables}, capture_output=True, text=True)
     counts = counts_of_tap(ran.stdout)
     if ran.returncode or counts is None:

@@ -159,6 +159,20 @@ def filled(text, cells):
     return text
 
 
+def options_of(given):
+    """The options among the words of a run, by their names, and its files."""
+    options, names, rest = {}, [], list(given)
+    while rest:
+        word, _, value = rest.pop(0).partition("=")
+        if word == "--strict":
+            options["strict"] = True
+        elif word.startswith("--"):
+            options[word[2:]] = value or rest.pop(0)
+        else:
+            names.append(word)
+    return options, names
+
+
 class Runner(Counts):
     """The program, the folder in which its files lie, and how many rows have passed. `run` runs it as
     `subprocess.run` does. Runs whose name has all parts of one of `without` are left out, as `compare` or

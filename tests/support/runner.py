@@ -19,6 +19,14 @@ from counts import SKIPPED, Counted, counts_in, skips_in
 TESTS = Path(__file__).resolve().parents[1]
 ROOT = TESTS.parent
 BUILT = ROOT / "crates/tsp_tool/out/tsp_tool"
+MADE = {"out", "dist", ".git", "__pycache__", "node_modules"}  # folders of what was built
+
+
+def repository() -> list[Path]:
+    """The files of the repository, without those that were built."""
+    ran = subprocess.run(["git", "-C", str(ROOT), "ls-files", "-co", "--exclude-standard"], capture_output=True, text=True, check=False)
+    listed = [ROOT / name for name in ran.stdout.splitlines()] if ran.returncode == 0 else ROOT.rglob("*")
+    return [file for file in sorted(listed) if file.is_file() and not MADE & set(file.relative_to(ROOT).parts)]
 
 
 def the_program() -> Path:

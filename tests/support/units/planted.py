@@ -187,6 +187,7 @@ pub data Way : Type 0 where
 abbrev hidden : ℕ
 hidden = 3
 ''',
+    "crates/low/proofs/Lib.antt": "mod Own\npub mod Shared\n",
     "crates/low/must-fail/area.edit": '''breaks: `area` is the area; here it is one more.
 refused by: value (shape/CircleShape/area)
 file: src/shape.rt

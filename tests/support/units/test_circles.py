@@ -55,8 +55,10 @@ class FirstLines(unittest.TestCase):
 
     def test_a_line_replaces_the_one_before(self) -> None:
         text = "-- Lengths.\nuse a\n"
-        for before in ([], [1], [1, 3], [1, 2, 3]):
-            for after in ([], [2], [2, 3]):
+        befores: list[list[int]] = [[], [1], [1, 3], [1, 2, 3]]
+        afters: list[list[int]] = [[], [2], [2, 3]]
+        for before in befores:
+            for after in afters:
                 once = circles.with_first_line(text, before)
                 self.assertEqual(circles.with_first_line(once, after), circles.with_first_line(text, after))
 

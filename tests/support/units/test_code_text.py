@@ -39,6 +39,11 @@ class Signs(unittest.TestCase):
 class Files(unittest.TestCase):
     """A file of code."""
 
+    folder: tempfile.TemporaryDirectory[str]
+    shape: Code
+    pick: Code
+    library: Code
+
     @classmethod
     def setUpClass(cls) -> None:
         cls.folder = tempfile.TemporaryDirectory()

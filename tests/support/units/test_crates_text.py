@@ -13,6 +13,10 @@ from planted import plant
 class Texts(unittest.TestCase):
     """Crates, definitions and edits."""
 
+    folder: tempfile.TemporaryDirectory[str]
+    root: Path
+    shapes: Definitions
+
     @classmethod
     def setUpClass(cls) -> None:
         cls.folder = tempfile.TemporaryDirectory()
@@ -29,6 +33,11 @@ class Texts(unittest.TestCase):
                          {"low": [], "middle": ["low"], "top": ["low", "middle"]})
         self.assertEqual([file.place for file in found["low"].code], ["lib", "shape"])
         self.assertEqual(len(list(found["low"].functions)), 9)
+
+    def test_public_lemmas(self) -> None:
+        found = crates(self.root)
+        self.assertEqual(found["low"].public_lemmas, {"Shared"})
+        self.assertEqual(found["top"].public_lemmas, set())
 
     def test_imports(self) -> None:
         self.assertEqual(self.shapes.uses["ℕ"], ("std.specs.Prelude", "ℕ"))

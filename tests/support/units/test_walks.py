@@ -79,7 +79,8 @@ class Walks(unittest.TestCase):
         self.assertFalse(any("Shape" in name for name in self.names(self.walk(aside=["low"]))))
 
     def test_a_table_may_not_name_what_is_gone(self) -> None:
-        for part in ({"leaves": ["gone"]}, {"takes": {"Pick": ["Gone"]}}, {"takes": {"Gone": ["Round"]}}, {"aside": ["gone"]}):
+        parts: list[dict[str, Any]] = [{"leaves": ["gone"]}, {"takes": {"Pick": ["Gone"]}}, {"takes": {"Gone": ["Round"]}}, {"aside": ["gone"]}]
+        for part in parts:
             with self.assertRaises(Unknown):
                 self.walk(**part)
 
