@@ -1,5 +1,7 @@
--- A tree of boxes over the nodes of an order, with a node in each leaf, and what a search of it finds: the nearest node
--- outside a component. A box may be skipped only if these definitions rule out each of its nodes.
+-- A tree of boxes over nodes in some order, with one node in each leaf, and what a search of it finds: the nearest node
+-- outside a component (`IsBest`). `src/boxes.rt` builds the tree, `src/search.rt` searches it, and `src/rounds.rt`
+-- numbers nodes as in the tree (`IsNumbering`). You may change the boxes with the code, as long as no box is skipped
+-- that has a nearer node (`IsBelowAll`).
 use Rattle.tsp_bound.specs.Prelude.{ℕ, zero, suc, Bool, true, List, Option, None, Some, length, slice_index_or, slice_set, ℤ, pos, neg_ℤ, IsFromTo, most_number}
 use Rattle.std.specs.Prelude.{◌≡◌, ◌+◌, ◌*◌, ◌/◌, ◌<◌, ◌≤◌, ◌≤ℤ◌, ◌⊎◌}
 use denote.Struct.Props as logic

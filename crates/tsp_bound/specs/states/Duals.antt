@@ -1,5 +1,7 @@
--- The fields of `Duals` (src/potentials.rt): a number for each row and each column of the costs, at a scale. The
--- contracts of src/assignment.rt and tsp_verdict are about them; the bound itself is in tsp_theory.
+-- The fields of `Duals`: the scale, and a number for each row and each column of the costs of an ATSP.
+-- `src/potentials.rt` and `src/assignment.rt` promise what they hold and how they bound tours, and
+-- `tsp_verdict/src/potentials_certificate.rt` fills them from a certificate. The bound is defined in tsp_theory,
+-- without this file.
 use Rattle.std.specs.Prelude.{ℕ, List, ℤ, ◌+ℤ◌, ◌*ℤ◌}
 use Rattle.tsp_bound.specs.declared.potentials.Duals.{Duals}
 use Rattle.tsp_theory.specs.Bounds.{entry}

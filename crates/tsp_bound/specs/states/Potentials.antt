@@ -1,5 +1,7 @@
--- The fields of `Potentials` and the triples of `Multipliers`, and the weights of pairs that they give, which are those
--- of Bounds.antt in tsp_theory. The contracts of this crate and of tsp_verdict are about them.
+-- The fields of `Potentials`, `Multipliers` and `ByNode`, and the weight of an edge under them (`weight_under`; with
+-- multipliers of fixed pairs, `weight_less`). `src/bound.rt` and `src/weights.rt` state by them over which weights a
+-- minimum 1-tree is found, and `tsp_verdict/src/potentials_certificate.rt` what a certificate gives. The bound is
+-- defined in tsp_theory, and proofs tie these weights to it.
 use Rattle.std.specs.Prelude.{ℕ, ◌≢◌, ◌*◌, ◌^◌, ◌≤◌, List, ℤ, pos, nat_abs, []}
 use Rattle.tsp_theory.specs.Bounds.{weight_between, adjusted}
 use Rattle.tsp_bound.specs.declared.by_node.ByNode.{ByNode}

@@ -1,5 +1,6 @@
--- Rows of a leaf's weights: which links its decisions close, what sets and decisions add between two nodes, and when
--- the numbers of its nodes fit 64 bits (`AreExact`). For src/leaf_rows.rt, src/case_leaf.rt and src/boxed.rt.
+-- The weights of a leaf for tours, row by row: which links its decisions close (`IsOpenRow`), what sets and decisions
+-- add between two nodes, and when its numbers fit 64 bits (`AreExact`). Only `src/case_leaf.rt`, `src/leaf_rows.rt` and
+-- `src/boxed.rt` use them. You may change them with the code, because a leaf's bound is defined in tsp_cases.
 use Rattle.tsp_branch.specs.Prelude.{list_any, filter, ℕ, List, ℤ, pos, Bool, true, false, map, reverse, slice_index_or, negsuc, neg_ℤ, IsNode, IsFromTo, entry, most_number, least_at, IsAllowed, changes, decided, bears_on, multipliers_at}
 use Rattle.std.specs.Prelude.{◌≡◌, ◌⊎◌, ◌==◌, ◌&&◌, if◌then◌else◌, ◌+ℤ◌, ◌*ℤ◌}
 use Rattle.tsp_theory.specs.Tour.{sum_int_by}

@@ -1,5 +1,7 @@
--- The two numbers of a family as the code of src/good_families.rt finds them, and the marks by which it sees that a
--- node comes twice.
+-- The two numbers of a family (`AreFamilyNumbers`), and marks of nodes, by which a loop sees that a node comes twice.
+-- `src/good_families.rt` judges families by both, and `tsp_routing/src/verdict.rt` and
+-- `tsp_routing/src/judged_memory.rt` use its marks for sets of customers. You may change the marks with the code,
+-- because `IsGoodFamily` defines which families are good.
 use Rattle.tsp_cases.specs.Prelude.{Vec, All, ℕ, List, Option, Some, None, length, Bool, false, [], slice_index}
 use Rattle.std.specs.Prelude.{◌<◌, ◌^◌, ◌≡◌, ◌≢◌, ◌==◌, ◌||◌, ◌∷◌}
 use Rattle.tsp_cases.specs.Crossings.{has}

@@ -1,5 +1,7 @@
--- Rows of weights that are kept from leaf to leaf, always those of the present leaf without its potentials, and the
--- memory that each leaf overwrites. For src/kept.rt; contracts in tsp_branch and tsp_routing use them, too.
+-- Rows of weights without potentials, kept from leaf to leaf and always those of the present leaf (`HoldsRows`), and
+-- the memory that each leaf overwrites (`IsScratch`). `src/kept.rt` promises them. `tsp_branch/src/verdict.rt` brings
+-- them from leaf to leaf; tsp_routing takes only the potentials less multipliers from here (`AreMoved`). Kept rows
+-- affect only speed, so they may follow the code.
 use Rattle.tsp_cases.specs.Prelude.{Vec, w64, int_wrap, All, ℕ, List, length, slice_index_or, ℤ, pos, neg_ℤ, IsNode, IsFromTo, entry, is_same_pair, least_at, IsMoved}
 use Rattle.std.specs.Prelude.{◌≡◌, ◌≢◌, ◌+◌, ◌<◌, ◌≤◌, if◌then◌else◌, ◌+ℤ◌, ◌*ℤ◌, ◌^◌}
 use Rattle.tsp_format.specs.Limits.{most_weight}

@@ -1,5 +1,6 @@
--- The decisions of the open case as the code has them, a stack and a list for each node, and what each decision does to
--- a row of weights. For src/open_case.rt; the judges of leaves in tsp_branch and tsp_routing use them, too.
+-- The decisions of the case that is open in a pass over a tree, on a stack and by node (`IsOpenCase`), and what they
+-- add to the weight of an edge (`changes`). `src/open_case.rt` keeps them, and `src/tree.rt` hands each leaf its
+-- decisions (`decisions_in`), which the judges of leaves in tsp_branch and tsp_routing name in their contracts.
 use Rattle.tsp_cases.specs.Prelude.{Vec, w64, int_wrap, All, filter, ℕ, Bool, true, false, List, [], reverse, Some, None, ℤ, pos, neg_ℤ, not, length, slice_index_or, IsNode, IsFromTo, is_same_pair, adjusted, sum_int_by}
 use Rattle.std.specs.Prelude.{◌≡◌, ◌≢◌, ◌<◌, if◌then◌else◌, ◌+ℤ◌, ◌⊎◌, ◌==◌, ◌||◌, ◌&&◌, ◌+◌, ◌≤◌, ◌∷◌, ◌++◌}
 use Rattle.tsp_cases.specs.Cases.{on_taken, on_avoided, decided_number, next_stack}

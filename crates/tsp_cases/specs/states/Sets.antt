@@ -1,5 +1,7 @@
--- For each node the sets that have it, the fields of `Families`, and what multipliers of sets add to a node's row of
--- weights. For src/sets.rt and src/family.rt; definitions of leaves in tsp_branch and tsp_routing use them, too.
+-- The fields of `Families` (`lent_in`, `good_in`), for each node the sets that contain it (`IsSetTable`), and what
+-- multipliers of sets do to the weight between two nodes (`set_weight`). `src/family.rt` and `src/sets.rt` promise
+-- them. tsp_branch and tsp_routing state the weights of their leaves by `set_weight`, so a change to it reaches the
+-- contract of every leaf.
 use Rattle.tsp_cases.specs.Prelude.{Vec, All, ℕ, List, [], length, slice_index_or, suc, ℤ, pos, neg_ℤ, IsNode, IsFromTo, weight_between, most_between, adjusted, sum_int_by, crossing, IsMoved}
 use Rattle.std.specs.Prelude.{◌<◌, ◌≡◌, ◌==◌, ◌+◌, ◌++◌, ◌≤◌, if◌then◌else◌, ◌∷◌, ◌+ℤ◌, ◌-ℤ◌, ◌*ℤ◌}
 use Rattle.tsp_cases.specs.CaseTrees.{crossings_of, leaf_weight, multiplied}

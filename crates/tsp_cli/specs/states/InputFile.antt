@@ -1,5 +1,6 @@
--- A file to be read that is standard input, an opened file, or missing, and what a read of it does. For src/input.rt,
--- and for the files that tsp_tool opens.
+-- What a task reads from (`InputFile`): standard input, an opened file, or the error of a file that couldn't be opened;
+-- and what one call on it returns (`IsAskedOnce`, `GivesOnce`). `src/input.rt` promises it, and `tsp_tool/src/main.rt`
+-- promises to open files so (`IsInputFileOf`), so a change reaches the program itself.
 use Rattle.std.specs.Prelude.{◌≡◌, ℕ, ℤ, Bool, true, false, List, Option, None, Some, Result, Err}
 use Rattle.std.specs.IoError.{error_kind, raw_os_error}
 use Rattle.std.specs.declared.io.Error.{Error}

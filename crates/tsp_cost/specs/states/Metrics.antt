@@ -1,5 +1,6 @@
--- The weight type that each `Metric` stands for, distances of points on a grid for the shortcut of EUC_2D, and sums of
--- costs along a list of nodes.
+-- The weight type of each `Metric`, and what loops over points compute: the rounded root for the shortcut of EUC_2D,
+-- and sums of costs in blocks of 32 nodes. Only `src/metric.rt`, `src/points.rt` and `specs/states/Views.antt` use
+-- them. A new metric needs its line in `weight_kind_of`; the loops' part may follow the code.
 use Rattle.tsp_cost.specs.Prelude.{ℕ, List, length, slice_index_or, ℤ, pos, squared, Point, links_to, sum_int_by}
 use Rattle.std.specs.Prelude.{◌+◌, ◌-◌, ◌*◌, ◌<◌, ◌≤◌, ◌≡◌, ◌∷◌, ◌++◌, ◌+ℤ◌, ◌≤ℤ◌}
 use Rattle.tsp_format.specs.declared.kinds.WeightKind.{WeightKind}

@@ -1,5 +1,7 @@
--- What an `Instance` found out when it was made, the number of its nodes and where their costs are, and that each of
--- its views has the costs of its file.
+-- What is known about an `Instance` once it is made (`HasFound`), and that each of its views, by points, matrix or
+-- triangle, has the costs of its file (`IsViewOf`, `ShowsSymmetric`). `src/instance.rt` promises it, and
+-- `tsp_verdict/src/potentials_certificate.rt` and `tsp_verdict/src/certificate.rt` carry a bound over to the file by
+-- it. A new view needs its line here.
 use Rattle.tsp_cost.specs.Prelude.{ℕ, Some, IsSome, IsTrue, true, false, length, map, ℤ, on_plane, Point, listed_cost, distance, point_of, cost, Fields}
 use Rattle.std.specs.Prelude.{◌≡◌, ◌≢◌}
 use Rattle.tsp_number.specs.declared.decimal.PlanePoint.{PlanePoint}

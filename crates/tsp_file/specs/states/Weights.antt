@@ -1,5 +1,5 @@
--- The costs that `ListedWeights` (src/typed.rt) gives, as a function of two nodes. For the contract of that struct; in
--- no circle of docs/trust.md.
+-- The costs that a listed matrix (`ListedWeights`) gives, as a function of two nodes. Only `src/typed.rt`, where the
+-- struct is, uses it, so change the two together.
 use Rattle.std.specs.Prelude.{ℕ, ℤ}
 use Rattle.tsp_file.specs.declared.typed.ListedWeights.{ListedWeights}
 use Rattle.tsp_file.specs.Cost.{listed_cost}

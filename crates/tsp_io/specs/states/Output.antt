@@ -1,5 +1,7 @@
--- What the code of this crate keeps of a writer (`Output`), and `Puts`, by which functions say that they added bytes to
--- a text on its way out. Functions that write lines, here and in crates above, promise `Puts`.
+-- What a writer that remembers a failed write holds (`Output`), the sink that contracts see (`sink_of`), and how a
+-- function adds bytes to a text on its way out (`Puts`). `src/watched.rt` and `src/piece.rt` promise them. All that is
+-- written rests on them: `Puts` is in the contract of every function in tsp_file and tsp_report that writes a line, and
+-- `sink_of` in those of all runs in tsp_judge and tsp_cli.
 use Rattle.std.specs.Io.KnownBytes.{Appends}
 use Rattle.std.specs.IoError.{error_kind}
 use Rattle.std.specs.Prelude.{◌≡◌, ℕ, ◌<◌, Bool, true, false, List, Option, Some, Result, Ok, Err, ◌++◌}

@@ -1,5 +1,7 @@
--- When a whole number is large enough to be the rounded root of a square: the test by which the search for a root is
--- guided. Each kind of rounding is tied to its distance by a proof, so users never see it.
+-- Which whole number is the rounded root of a square: the least one that is large enough (`Covers`), for roots rounded
+-- to the nearest number or up. Only `src/root.rt`, which finds it, and `src/distance.rt` and `src/at_least.rt`, which
+-- ask for it, use these definitions. You may change them with the search, because each distance is defined by
+-- inequalities of its own.
 use Rattle.std.specs.Prelude.{ℕ, ◌+◌, ◌-◌, ◌*◌, ◌^◌, ◌<◌, ◌≤◌}
 use Rattle.tsp_number.specs.declared.root.Rounding.{Rounding}
 use Rattle.tsp_number.specs.declared.root.Rounding.TheVariants.{Nearest, Up, TenthUp}

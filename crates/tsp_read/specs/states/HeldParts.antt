@@ -1,5 +1,6 @@
--- For each shape of section, that the list being filled holds exactly what the section's words so far mean. These are
--- the invariants of the lists in src; a new shape needs one.
+-- For each shape of section, what the list that is being filled holds: exactly what the section's words so far mean.
+-- The lists promise it, for example in `src/lists.rt` and `src/by_node.rt`, and `src/section_builder.rt` does so for
+-- all of them by `HoldsShape`. A new shape needs a record here, and a line in `HoldsPart`.
 use Rattle.tsp_read.specs.Prelude.{ℕ, ℤ, Bool, cond, List, length, map, false, is_some, [], Ok, most_families, most_rows, points_of, families_of, subset_rows_of, place_by, FamiliesSoFar, families_after, MemoriesSoFar, memories_after, RowsSoFar, rows_after, TreeSoFar, tree_after}
 use Rattle.std.specs.Prelude.{◌≡◌, ◌+◌, ◌≤◌, ◌∷◌, ◌++◌}
 use Rattle.tsp_format.specs.declared.keyword.Shape.{Shape}

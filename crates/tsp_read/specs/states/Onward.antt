@@ -1,5 +1,6 @@
--- The state while a text comes in pieces: the items that were taken, the line or word that the end of a piece has cut,
--- and what holds whatever bytes follow. Nothing above this crate depends on how pieces are cut.
+-- The reader's state while a text comes in pieces: the items that were taken, the line or word that the end of a piece
+-- has cut in two, and what holds whatever bytes follow. `src/items.rt` and `src/feed.rt` promise it. Of all this,
+-- `specs/Reads.antt` shows callers nothing but `IsPaused` and `is_bare`; the rest may follow the code.
 use Rattle.tsp_read.specs.Prelude.{list_all, ℕ, Bool, true, false, nat_lt, List, length, reverse, Option, None, Some, Result, Ok, Err, [], most_word_bytes, most_line_bytes, most_file_bytes, row_of, Item, Line, NumberWord, LineEnd, settled_items, is_end_line, has_end_line, to_end_line, line_number, words_before, is_not_empty, items_of, fault_in, settled_part, ReadFault}
 use Rattle.std.specs.Prelude.{◌≡◌, ◌∷◌, ◌++◌, ◌+◌, ◌≤◌}
 use Rattle.tsp_text.specs.declared.fault.ReadFault.TheVariants as faults

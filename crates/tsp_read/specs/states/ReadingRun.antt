@@ -1,5 +1,6 @@
--- That a run of plain numbers read in one pass (src/runs.rt) leaves the same state as its words read one by one. It is
--- why the fast path affects only speed.
+-- A run of plain numbers that is read in a single pass leaves the same state as its words read one by one (`RunsTo`).
+-- Only `src/runs.rt` uses it. These contracts are why its fast path affects nothing but speed; you may change the steps
+-- with the code.
 use Rattle.tsp_read.specs.Prelude.{ℕ, List, length, Option, None, Some, Bool, true, [], is_blank, ends_line, without_start, NumberWord}
 use Rattle.std.specs.Prelude.{◌+◌, ◌≤◌, ◌<◌, ◌≡◌, ◌∷◌, ◌⊎◌}
 use Rattle.tsp_format.specs.declared.keyword.Field.{Field}

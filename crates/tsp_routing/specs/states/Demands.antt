@@ -1,5 +1,6 @@
--- What customers demand, in units (src/demands.rt), and the entries of the table of q-routes while it is filled
--- (src/least_q_route.rt). Most files of src/ use the loads.
+-- The demands of a CVRP as code holds them: within the limits of files (`AreDemands`), rounded down to units
+-- (`AreUnitLoads`), and by node (`load_at`). `src/demands.rt` promises them, and most files of this crate name them.
+-- The middle part is the table of q-routes while `src/least_q_route.rt` fills it, and may follow that code.
 use Rattle.tsp_routing.specs.Prelude.{Vec, All, ℕ, length, ℤ, pos, List, slice_index_or, neg_ℤ, most_nodes, most_demand, most_capacity, IsNode, IsFromTo, RoutingProblem, demand_of, IsCustomer}
 use Rattle.std.specs.Prelude.{◌≡◌, ◌≤◌, ◌==◌, if◌then◌else◌, ◌⊎◌, ◌+◌, ◌*◌, ◌<◌, ◌+ℤ◌, ◌≤ℤ◌}
 use Rattle.tsp_routing.specs.PlanLinks.{is_light, AreUnits, load_in, capacity_in_parts}

@@ -1,5 +1,7 @@
--- What is judged in a certificate for routes before its leaves, and how large a leaf's numbers are. For src/verdict.rt
--- and src/plan_tree.rt. The verdict itself is `IsPlanVerdict` in ../RunVerdicts.antt.
+-- What is found on the way to the verdict on a certificate for routes: its sets of customers (`AreCutsJudged`), and
+-- then its leaves, if they are bounded by q-routes (`IsLeafVerdict`). `src/verdict.rt` promises both, and
+-- `src/plan_leaf.rt` needs the limit on crossings (`IsFewCrossed`). `IsPlanVerdict` defines the whole verdict, so a new
+-- reason begins there.
 use Rattle.tsp_routing.specs.Prelude.{Vec, All, ℕ, Bool, true, List, length, Option, ℤ, Some, None, Step, RoutingProblem, LeafNumbers, families_in, Family, family_with, listed_steps, Decision}
 use Rattle.std.specs.Prelude.{◌≡◌, ◌+◌, ◌*◌, ◌≤◌, ◌<◌}
 use Rattle.tsp_cases.specs.declared.family.Crossings.{Crossings}

@@ -1,6 +1,7 @@
--- The lists of kept states, by load and by last customer, whole and while they grow. Also how many kept states the
--- lists have, what is found if there are few enough, and the least weight of a run in the lists so far. For
--- src/run_steps.rt, src/kept_states.rt and src/run_bound.rt.
+-- Label setting, list by list: the kept states of a load and a last customer while they are added (`AddsNexts`) and
+-- when all are there (`IsKeptList`), how many there are, and the least weight of a run among them (`IsLeastRunIfFew`).
+-- Only `src/run_steps.rt`, `src/kept_states.rt` and `src/run_bound.rt` use these definitions, in this order. You may
+-- change the lists with the code, because `IsKeptState` defines which states are kept.
 use Rattle.std.specs.Prelude.{◌≡◌, ◌≢◌, ◌⊎◌, ◌+◌, ◌-◌, ◌*◌, ◌^◌, ◌≤◌, ◌<◌, ◌∷◌, ◌++◌, ◌+ℤ◌, ◌≤ℤ◌}
 use Rattle.tsp_format.specs.Steps.{SubsetRow}
 use Rattle.tsp_routing.specs.KeptStates.{IsKeptState, HasTooManyStates}

@@ -1,5 +1,7 @@
--- The weights of a leaf between customers: kept rows, the multipliers of sets, and what is given back. For the
--- contracts of src/leaf_weights.rt, and for the ranges in src/plan_tree.rt.
+-- Rows of the weights of a leaf for routes (`AreKeptRows`), how large its multipliers are together, and the sum that
+-- they give back (`numbers_total`). Only `src/leaf_weights.rt`, `src/plan_leaf.rt` and `src/plan_tree.rt` use them. You
+-- may change the rows with the code, because `q_route_weight` defines the weights; `IsPlanStep` is a range that proofs
+-- in tsp_verdict show for each file.
 use Rattle.tsp_routing.specs.Prelude.{Vec, ℕ, List, length, slice_index_or, ℤ, pos, neg_ℤ, [], IsNode, IsFromTo, Step, Branch, Leaf, least_at, Decision, set_crossings}
 use Rattle.std.specs.Prelude.{◌≡◌, ◌+◌, ◌<◌, ◌≤◌, ◌∷◌, ◌+ℤ◌, ◌^◌}
 use Rattle.tsp_cases.specs.declared.family.Crossings.{Crossings}

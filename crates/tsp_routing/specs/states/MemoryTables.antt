@@ -1,6 +1,7 @@
--- Memories in code: the lists and rows of a certificate, the keys that are made of these, the tables that say what each
--- customer keeps and at which bit (the struct `Memories` in src/memories.rt promises them), and a step of a run by the
--- keys of its next customer (src/run_steps.rt).
+-- The memory of a run as bits of a word: the keys of what each customer keeps and the bit of each key
+-- (`AreMemoriesOf`), made from a certificate's lists and rows, and a step to the next customer as a table
+-- (`IsTableOf`). `src/memories.rt` makes the tables, and `src/run_steps.rt` reads them. You may change both with the
+-- code, because `Remembers` defines what a bit means.
 use Rattle.std.specs.Prelude.{◌≡◌, ◌⊎◌, ◌+◌, ◌-◌, ◌*◌, ◌≤◌, ◌<◌, ◌==◌, ◌||◌, ◌&&◌, if◌then◌else◌, ◌∷◌, ◌+ℤ◌}
 use Rattle.tsp_format.specs.Steps.{SubsetRow}
 use Rattle.tsp_format.specs.declared.steps.RowSets.{RowSets}

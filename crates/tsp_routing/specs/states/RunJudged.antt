@@ -1,5 +1,7 @@
--- What src/run_verdict.rt finds for the leaves of a certificate with memories or subset rows, and what src/run_bound.rt
--- gives back for rows. The verdict itself is in ../RunVerdicts.antt.
+-- The verdict on the leaves of a certificate with memories or subset rows (`IsRunLeafVerdict`), from a pass over their
+-- numbers and one over their bounds, and what the subset rows give back at a leaf (`halves_with`). Only
+-- `src/run_verdict.rt` and `src/run_bound.rt` use them. `IsPlanVerdict` defines the whole verdict, so a new reason
+-- begins there.
 use Rattle.std.specs.Prelude.{◌≡◌, ◌+◌, ◌≤◌, ◌<◌, ◌*◌, ◌^◌, [], ◌∷◌, pos, ◌+ℤ◌, ◌*ℤ◌}
 use Rattle.tsp_format.specs.Steps.{SubsetRow}
 use Rattle.tsp_format.specs.declared.steps.RowSets.{RowSets}

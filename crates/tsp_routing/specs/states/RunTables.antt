@@ -1,5 +1,7 @@
--- The tables of label setting, in memory: weights by node, and ways home by what a route can still carry. The structs
--- `RunNodes` and `RunLeaf` (src/run_leaf.rt) promise them.
+-- The tables that label setting reads: the weights of links by node (`link_in`), and the least weight of a way home by
+-- the load that a route can still carry (`AreHomeRows`). `src/run_leaf.rt` makes them, and `src/run_steps.rt` and
+-- `src/run_bound.rt` read them. You may change their layout with the code, but not the ways home: `IsCompletion`
+-- defines these, and they decide which certificates are accepted.
 use Rattle.tsp_routing.specs.Prelude.{Vec, ℕ, List, [], map, length, slice_index_or, ℤ, pos, neg_ℤ, IsNode, IsFromTo, IsCustomer, least_at}
 use Rattle.std.specs.Prelude.{◌≡◌, ◌+◌, ◌-◌, ◌*◌, ◌^◌, ◌≤◌, ◌<◌, ◌+ℤ◌, ◌≤ℤ◌, ◌⊎◌, ◌≢◌}
 use Rattle.tsp_routing.specs.PlanBounds.{most_link}

@@ -1,5 +1,7 @@
--- What Prim's algorithm (src/tree.rt of tsp_bound) keeps for each node outside the tree: the nearest node inside, and
--- the weight to it. Also an entry of a row after a number was added to it.
+-- An entry of a row of weights (`least_at`), what adding a number does to it in 64 bits (`IsMoved`), and what Prim's
+-- algorithm keeps for each node outside its tree (`IsNearer`). `src/costs.rt` and all code that fills rows, in
+-- tsp_bound, tsp_cases, tsp_branch and tsp_routing, promise the first two; `tsp_bound/src/tree.rt` promises the last.
+-- No bound is defined by them.
 use Rattle.std.specs.Int.{w64, int_wrap}
 use Rattle.std.specs.Prelude.{◌≡◌, ℕ, Bool, false, List, slice_index_or, ◌⊎◌, ℤ, pos, ◌≤ℤ◌, ◌<ℤ◌, ◌+ℤ◌}
 

@@ -1,4 +1,6 @@
--- Marks of nodes, the next node on a cycle, routes as vectors of nodes, and sums. For src/tour.rt and src/routes.rt.
+-- What loops over the tours or routes of a solution have found so far: marks of the nodes that were seen (`Marked`),
+-- the next node on a cycle (`AreNext`), and sums of costs. Only `src/tour.rt` and `src/routes.rt` use them. You may
+-- change them with the code, because reasons and lengths are defined without them.
 use Rattle.tsp_verdict.specs.Prelude.{All, flat_map, ℕ, Bool, true, false, List, length, slice_index, slice_index_or, [], map, ℤ, pos, most_tour_nodes, most_weight, Fields, is_tour_file, Follows}
 use Rattle.std.specs.Global.{Vec}
 use Rattle.std.specs.Prelude.{◌≡◌, ◌+◌, ◌<◌, ◌≤◌, ◌≢◌, ◌*◌, ◌+ℤ◌, ◌≤ℤ◌}

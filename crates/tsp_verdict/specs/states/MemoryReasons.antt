@@ -1,5 +1,6 @@
--- The reason against a certificate for tours that lists memories or subset rows, which are for routes alone. For
--- src/certificate.rt.
+-- The reason against a certificate for tours that lists memories or subset rows, which are for routes alone, and which
+-- reason comes first if a family is bad, too. Only `src/certificate.rt` uses it. You may change it with the code,
+-- because `AppliesToCertificate` defines when a reason applies.
 use Rattle.tsp_verdict.specs.Prelude.{ℕ, List, [], length, slice_index_or, Option, None, Some, Reason, BadFamily, BadMemory, BadRow}
 use Rattle.std.specs.Prelude.{◌≡◌, ◌≤◌, ◌<◌, ◌⊎◌}
 use Rattle.tsp_format.specs.Steps.{SubsetRow}

@@ -1,5 +1,6 @@
--- Sets of pairs of nodes, where an undirected pair has its smaller node first. For src/certificate.rt and
--- src/potentials_certificate.rt.
+-- Sets of pairs of nodes, in which an undirected pair has its smaller node first, as loops use them to find a pair that
+-- is listed twice or isn't fixed. Only `src/certificate.rt` and `src/potentials_certificate.rt` use them. You may
+-- change them with the code, because reasons are defined without them.
 use Rattle.tsp_verdict.specs.Prelude.{ℕ, Bool, true, false, List, nat_le, list_any, is_same_pair, is_same}
 use Rattle.std.specs.Prelude.{◌≡◌, if◌then◌else◌}
 use Rattle.std.specs.BTreeSet.{BTreeSet, contains}

@@ -1,6 +1,7 @@
--- What is known before a solution is judged: the costs for its tours (AreTourCosts), and what was found for all
--- solutions, as a reason (against_instance) and in a verdict (with_found). For src/tour.rt, src/certificate.rt,
--- src/known_bound.rt and src/solution_verdict.rt.
+-- What is known before a solution is judged: the costs that its tours are judged by (`AreTourCosts`, for
+-- `src/tour.rt`), and what was found for all solutions, as a reason against the instance (`against_instance`, for
+-- `src/known_bound.rt`) and in a verdict (`with_found`, for `src/solution_verdict.rt`). You may change it with the
+-- code, because `IsVerdictWith` defines the verdict.
 use Rattle.tsp_verdict.specs.Prelude.{Option, None, Some, MatchOption, IsSymmetric, cost, Fields, Reason, TooFewNodes, NotSymmetric, Verdict}
 use Rattle.std.specs.Prelude.{◌≡◌}
 use Rattle.tsp_format.specs.declared.kinds.Kind.TheVariants as kinds

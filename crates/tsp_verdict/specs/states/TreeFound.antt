@@ -1,5 +1,6 @@
--- What a certificate gives, by the verdict on its tree of cases: one table for tours and for routes. For
--- `found_by_tree` in src/certificate.rt; a new variant of `TreeVerdict` needs its row.
+-- What a certificate with a tree of cases gives, by the verdict on the tree (`TreeVerdict`): its bound, or the reason
+-- against it, in one table for tours and routes. Only `src/certificate.rt` uses it, whose function `found_by_tree` is
+-- this table in code. A new variant of `TreeVerdict` needs its row in both.
 use Rattle.tsp_verdict.specs.Prelude.{None, Some, BadFamily, BadMemory, BadRow, BadBranch, BranchTwice, BadLeaf, TooManyLoads, TooManyStates}
 use Rattle.std.specs.Prelude.{◌<◌, ◌^◌}
 use Rattle.tsp_cases.specs.declared.judged.TreeVerdict.{TreeVerdict}

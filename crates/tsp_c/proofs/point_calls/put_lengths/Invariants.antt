@@ -1,4 +1,4 @@
--- The loop of `put_lengths` in src/handle_calls.rt, which puts the lengths of lists of nodes into a buffer.
+-- The loop of `put_lengths` in src/point_calls.rt, which puts the lengths of lists of nodes into a buffer.
 use Rattle.tsp_c.proofs.Prelude.{◌≡◌, ◌≤◌, length, drop, nodes_of}
 use Rattle.std.specs.List.{All}
 use Rattle.tsp_c.specs.NumberCalls.{IsFilled, list_length, lists_in}

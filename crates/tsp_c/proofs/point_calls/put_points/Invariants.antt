@@ -1,4 +1,4 @@
--- The loop of `put_points` in src/handle_calls.rt, which puts coordinates into a buffer.
+-- The loop of `put_points` in src/point_calls.rt, which puts coordinates into a buffer.
 use Rattle.tsp_file.specs.states.Drafts.{points_of}
 use Rattle.tsp_c.specs.NumberCalls.{IsFilled, point_number}
 use Rattle.tsp_c.proofs.point_calls.put_points.Given as goal

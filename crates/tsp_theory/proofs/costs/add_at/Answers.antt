@@ -1,4 +1,4 @@
--- The goals of `add_at` in src/tree.rt, which adds a number at a place of a row: what it ensures.
+-- The goals of `add_at` in src/costs.rt, which adds a number at a place of a row: what it ensures.
 use Rattle.tsp_theory.proofs.Prelude.{◌∙◌, ap, rules, FitsSigned, pos, ◌+ℤ◌, w64, int_wrap, wrapping_add_is, get_or-set_same}
 use Rattle.tsp_theory.proofs.costs.add_at.Goals as goal
 
