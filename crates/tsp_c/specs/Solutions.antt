@@ -1,5 +1,5 @@
--- The result of the call that reads a solution in any form, over the bytes of its texts. In no circle of docs/trust.md:
--- which form a text has is tested, not proved.
+-- The result of the call that reads a solution in any form (src/solution_call.rt), over the bytes of its texts. In no
+-- circle of docs/trust.md: which form a text has is tested, not proved.
 use Rattle.tsp_c.specs.Prelude.{ℕ, List, [], Option, None, Some, Ok, Err, Result}
 use Rattle.std.specs.Prelude.{◌≡◌, ◌⊎◌, ◌≤◌, ◌<◌, ◌∷◌, ◌++◌, ◌==◌, if◌then◌else◌}
 use Rattle.tsp_format.specs.Limits.{most_nodes}

@@ -1,6 +1,7 @@
 -- Circle 2 of docs/trust.md.
 -- The results of the calls on texts, over the bytes of these texts alone: `show`, conversions, checks, bounds and
--- explanations. `IsAcceptedText` and `IsBoundText` are the meanings of the status 0.
+-- explanations. src/picked_runs.rt and src/explain.rt promise them. `IsAcceptedText` and `IsBoundText` are the meanings
+-- of the status 0.
 use Rattle.tsp_c.specs.Prelude.{ℕ, Bool, true, false, List, [], Option, None, Some, Ok, Err, IsTrue, ℤ, Fields, fault, ParsesTo, CertificateKind, report_of, bound_report_of, RunFault, File, WrongKind, Write, OutOfMemory, Relayout, IsTextFault}
 use Rattle.std.specs.Prelude.{◌≡◌, ◌⊎◌, ◌==◌, ◌||◌, if◌then◌else◌, ◌≤◌, ◌<◌, ◌∷◌}
 use Rattle.tsp_format.specs.declared.layout.Layout.{Layout}

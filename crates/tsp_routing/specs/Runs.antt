@@ -1,6 +1,7 @@
 -- Circle 3 of docs/trust.md.
 -- Runs: walks with memory. A run doesn't come back to a customer that it remembers (ng-routes), and it pays where it
--- serves most of a small set (limited-memory subset rows). Sources: R. Baldacci, A. Mingozzi and R. Roberti, New route
+-- serves most of a small set (limited-memory subset rows). RunBounds.antt bounds a leaf by the least run, which
+-- src/run_steps.rt finds step by step by these rules. Sources: R. Baldacci, A. Mingozzi and R. Roberti, New route
 -- relaxation and pricing strategies for the vehicle routing problem, 2011; M. Jepsen, B. Petersen, S. Spoorendonk and
 -- D. Pisinger, Subset-row inequalities applied to the vehicle-routing problem with time windows, 2008; D. Pecin, A.
 -- Pessoa, M. Poggi and E. Uchoa, Improved branch-cut-and-price for capacitated vehicle routing, 2017.

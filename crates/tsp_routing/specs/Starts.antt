@@ -1,6 +1,6 @@
 -- Starts of runs by their last customer and the earlier ones, the one before it first: so a start with one customer
 -- more has this one as its own. Label setting finds starts in this order; KeptStates.antt defines them from their first
--- customer, and a law ties the two. In no circle of docs/trust.md.
+-- customer, and laws in src/laws.rt tie the two. In no circle of docs/trust.md.
 use Rattle.std.specs.Prelude.{◌≡◌, ℕ, ◌+◌, ◌≤◌, List, [], ◌∷◌, ℤ, ◌+ℤ◌}
 use Rattle.tsp_theory.specs.Tour.{IsCustomer}
 use Rattle.tsp_routing.specs.Runs.{RunRules, RunState, first_state, next_state, MayServe, charged, rest_weight, run_weight}

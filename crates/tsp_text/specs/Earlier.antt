@@ -1,6 +1,7 @@
 -- Circle 2 of docs/trust.md.
 -- What the items before a place in a text say: the values of its keyword lines, the section that is open, and its words
--- so far. A fault at a place depends on nothing else.
+-- so far. FaultRows.antt makes the fault at a place depend on nothing else, and tsp_read keeps just this while it
+-- reads.
 use Rattle.tsp_text.specs.Prelude.{find, list_any, ℕ, Bool, true, false, cond, List, [], Option, None, Some, is_some, is_none, ℤ, codes, Result, nat_abs, unwrap_or, whole_of, NumberFault, is_unknown, is_section_field, value_shape_of, shape_of, Field, TypeKey, DimensionKey, EdgeWeightTypeKey, EdgeWeightFormatKey, NodeCoordTypeKey, DisplayDataTypeKey}
 use Rattle.std.specs.Option.{option_map, option_map_or, option_and_then}
 use Rattle.std.specs.Prelude.{◌∷◌, ◌++◌}

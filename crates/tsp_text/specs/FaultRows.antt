@@ -1,7 +1,7 @@
 -- Circle 2 of docs/trust.md.
 -- The table of the faults of a line or a word. Each row has a section below, which says when it applies to an item,
 -- given the items before it (the last one first). Where a word may stand follows TSPLIB 95 (G. Reinelt); the rows and
--- their order are this project's profile, and decide which fault a user sees.
+-- their order are this project's profile, and decide which fault tsp_read finds and a user sees.
 use Rattle.tsp_text.specs.Prelude.{ℕ, Bool, true, false, cond, not, nat_lt, nat_le, List, [], length, Option, None, Some, is_none, list_any, NumberFault, decimal_of, whole_of, Field, CommentKey, OtherKey, DimensionKey, NodeCoordPart, EdgeWeightPart, TourPart, most_nodes, most_matrix_nodes, most_weight, most_line_bytes, most_kept_bytes, most_comments, most_others, most_depots, most_fixed, most_tour_nodes, most_families, most_family_nodes, most_branches, most_changes, is_section_field}
 use Rattle.std.specs.Prelude.{◌+◌, ◌&&◌, ◌||◌, ◌∷◌}
 use Rattle.std.specs.Option.{option_map, option_and_then, option_map_or, option_or}

@@ -1,6 +1,7 @@
 -- Circle 2 of docs/trust.md.
 -- Sections whose words come in groups, by node or in lists that -1 ends, and the sets of families: which group a word
--- belongs to, and what the whole groups mean.
+-- belongs to, and what the whole groups mean. ParsesTo.antt takes the values of a file's fields from here, and the
+-- lists of tsp_read are proved to hold them.
 use Rattle.tsp_text.specs.Prelude.{list_any, fold, ℕ, Bool, cond, nat_le, List, [], length, map, take, get_or, Option, None, Some, ℤ, pos, unwrap_or, nat_abs, true, false, decimal_of, whole_of, most_multiplier, shape_of, Field}
 use Rattle.std.specs.List.Sorted.{IsPermutation}
 use Rattle.std.specs.Ordering.{int_eq}

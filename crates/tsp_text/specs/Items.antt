@@ -1,6 +1,7 @@
 -- Circle 2 of docs/trust.md.
 -- The first step from bytes to meaning: the lines of a text, cut into items, which are word lines, words of number
--- lines, and line ends.
+-- lines, and line ends. All other definitions of this crate are about items, and src/items.rt in tsp_read cuts a text
+-- into them.
 use Rattle.tsp_text.specs.Prelude.{filter, slice_split, prefix_len, take_while, before_first, list_any, list_all, AllByRecursion, ℕ, Bool, true, false, cond, List, [], drop, reverse, nat_lt, length, map, not, slice_index, keyword_of, most_word_bytes, most_line_bytes}
 use Rattle.std.specs.Prelude.{◌==◌, ◌∷◌, ◌+◌, ◌++◌, ◌≡◌, ◌-◌}
 use Rattle.tsp_format.specs.Words.{is_blank, is_letter, is_keyword_byte}

@@ -1,6 +1,6 @@
 -- Circle 2 of docs/trust.md.
 -- MEMORY_SECTION and SUBSET_ROW_SECTION, this project's own sections: which words may come where, and the lists of
--- nodes and the subset rows that they mean.
+-- nodes and the subset rows that they mean. src/memory_lists.rt in tsp_read promises to read them so.
 use Rattle.tsp_text.specs.Prelude.{fold, ℕ, Bool, cond, List, [], length, true, false}
 use Rattle.std.specs.Prelude.{◌+◌, ◌∷◌, ◌++◌, ◌||◌}
 use Rattle.tsp_format.specs.Steps.{SubsetRow}
