@@ -1,5 +1,6 @@
 -- Lemmas for Prim's algorithm (GrowingTrees), for rounds (RoundJoins), and for what the rounds search: boxes (Searches,
--- Lowest) and lists (Listing).
+-- Lowest) and lists (Listing). Proofs in tsp_verdict import LoweredWeights and RoundJoins; the other files are for this
+-- crate.
 mod Prelude
 pub mod GrowingTrees
 pub mod Searches

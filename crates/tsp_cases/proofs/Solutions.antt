@@ -1,5 +1,6 @@
 -- The theorems on trees of cases, whatever the kind of solution: each solution is at a leaf, so the least that is found
--- of the leaves bounds all of them; and the leaves have one such number, or none.
+-- of the leaves bounds all of them; and the leaves have one such number, or none. CaseTrees.antt has them for tours,
+-- and tsp_routing proves those on plans by them.
 use Rattle.tsp_cases.proofs.Prelude.{◌≡◌, ℕ, true, false, List, [], ◌∷◌, length, ℤ, ◌≤ℤ◌, ◌⊎◌, inl, inr, refl, ap, subst, arith, Option, None, Some, ints, both_ways, All, AllByRecursion, All-cons, All-contains, recursion_from_All}
 use Rattle.tsp_cases.specs.CaseTrees.{IsAbove, IsLeastFound, LeastFoundBounds}
 use Rattle.tsp_cases.specs.Cases.{CaseStep, Branch, Leaf, LeafNumbers, are_case_trees, decide, leaves_of, cases_of, SolutionKind, KeepsOne, BoundsKept, LeavesAreKept}

@@ -1,4 +1,5 @@
--- Lemmas on the costs that the code looks up or computes, and on the one problem of an instance.
+-- Lemmas on the costs that the code looks up or computes, and on the one problem of an instance. No other crate imports
+-- them.
 mod Prelude
 pub mod CoarseRoots
 pub mod Ways

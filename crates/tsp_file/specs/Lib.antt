@@ -1,5 +1,5 @@
 -- Definitions for a file as a record of fields: which are valid (Validity, Valid, Rules), which costs they mean (Cost,
--- ByInequalities), and their text (CanonicalText).
+-- ByInequalities), and their text (CanonicalText). All crates above that name a file state their contracts by them.
 pub mod Prelude
 pub mod states
 pub mod Cost

@@ -1,5 +1,5 @@
 -- Lemmas for the functions and laws of this crate, from roots (Distances, Comparisons) to number words (the others). No
--- contract names one, so only proofs depend on them.
+-- contract names one, so only proofs depend on them, here and in tsp_read and tsp_file.
 mod Prelude
 pub mod Distances
 pub mod Comparisons

@@ -1,5 +1,5 @@
 -- Lemmas for the reader, one word, item or piece further (the files ..Steps, and Onwards), and for the law that
--- canonical texts are read back (the others).
+-- canonical texts are read back (the others). Proofs in tsp_judge and tsp_solution import PieceSteps and BegunSteps.
 mod Prelude
 pub mod ListSteps
 pub mod SectionLists

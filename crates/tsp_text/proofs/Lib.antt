@@ -1,5 +1,5 @@
 -- Lemmas for the laws of this crate: fields of a text without a fault are valid (the files Valid..), and what is
--- settled stays (the files Settled..).
+-- settled stays (the files Settled..). Most proofs in tsp_read import some.
 mod Prelude
 pub mod ValidKeywords
 pub mod GroupWords

@@ -1,5 +1,5 @@
 -- Definitions from the bytes of a text to its file or its first fault, in this order: Items, Earlier, SectionWords,
--- Groups and MemoryWords, FaultRows, ParsesTo.
+-- Groups and MemoryWords, FaultRows, ParsesTo. tsp_read is proved to find this file or fault.
 pub mod Prelude
 pub mod ParsesTo
 pub mod Items
