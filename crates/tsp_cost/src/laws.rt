@@ -1,5 +1,6 @@
 //! The law that each valid instance is exactly one problem, with one cost from each node to each.
 //! Because of it, the promise can speak of the problem of a file (`specs/Problems.antt`).
+//! `instance.rt` calls it when it makes an instance.
 
 ghost use Rattle.tsp_cost.specs.Prelude.{None, IsTrue, Fields, RoutingProblem, Problem};
 ghost use Rattle.std.specs.Prelude.{◌≡◌};

@@ -1,7 +1,8 @@
 //! Laws about every valid file: its fields are in their ranges, it has the sections that its TYPE
 //! requires, and its costs obey the inequalities of their weight type. They let a reader of
 //! docs/trust.md check `specs/Valid.antt` and `specs/ByInequalities.antt` instead of the tests in
-//! the code.
+//! the code. The law on the length of a text is called by `round_trip.rt` in tsp_read; no code calls
+//! the others.
 
 ghost use Rattle.tsp_file.specs.Prelude.{None, IsTrue, IsSome, ℕ, [], length, Some, unwrap_or, pos, unsigned_abs, WeightKind, Explicit};
 ghost use Rattle.std.specs.Prelude.{◌≡◌, ◌≢◌, ◌<◌};
