@@ -1,6 +1,6 @@
 -- A cycle through nodes is a closed walk through the parts of sets, which crosses the sets as often: the step from all
 -- cycles to a few. For the laws on families in src/laws.rt, and for src/family.rt.
-use Rattle.tsp_cases.proofs.Prelude.{◌≡◌, ◌≢◌, ℕ, zero, suc, ◌+◌, ◌<◌, ◌≤◌, ◌==◌, ◌⊎◌, cond, List, [], ◌∷◌, length, inl, inr, refl, arith, ap, sym, ◌∙◌, subst, Bool, true, false, ◌++◌, ℤ, ◌+ℤ◌, ◌≤ℤ◌, ◌-◌, not, get_or, ap₂, cases_eq, eq-eqb, ne_eqb, cases_Bool, both_ways, or_parts, or_from, eqb-false, cases_order, ints, get_or_default, recursion_from_All, All-from_recursion, AllPairs-cons, AllPairs, AllByRecursion, range_with_len, AllZip, if◌then◌else◌, pos, slice_index, IsNode, one_if, IsCycle, links_to, sum_int_by, length_of, and_node}
+use Rattle.tsp_cases.proofs.Prelude.{◌≡◌, ◌≢◌, ℕ, zero, suc, ◌+◌, ◌<◌, ◌≤◌, ◌==◌, ◌⊎◌, cond, List, [], ◌∷◌, length, inl, inr, refl, arith, ap, sym, ◌∙◌, subst, Bool, true, false, ℤ, ◌+ℤ◌, ◌≤ℤ◌, ◌-◌, not, get_or, ap₂, cases_eq, eq-eqb, ne_eqb, cases_Bool, both_ways, or_parts, or_from, eqb-false, cases_order, ints, get_or_default, recursion_from_All, All-from_recursion, AllPairs-cons, AllPairs, AllByRecursion, range_with_len, AllZip, if◌then◌else◌, pos, slice_index, IsNode, one_if, IsCycle, links_to, sum_int_by, length_of, and_node}
 use Rattle.std.proofs.lemmas.List.FromFn.{length-range_with_len}
 use Rattle.tsp_cases.specs.Crossings.{AllApart, sets_crossed, AreAlike, AreUnlike, ArePartsOf, between, PartsBoundCycles, LeastLengthsAreUnique, MostCostsAreUnique, UnlikeNodesNeedParts}
 
@@ -126,11 +126,6 @@ cycle_from n xs range apart all =
 -- from a node along others to an end
 abbrev pub length_to : (ℕ → ℕ → ℤ) → ℕ → ℕ → List ℕ → ℤ
 length_to cost end from others = sum_int_by (λ link. cost link.0 link.1) (links_to end from others)
-
-length_through : (cost : ℕ → ℕ → ℤ) (end from middle : ℕ) (before after : List ℕ)
-    → length_to cost end from (before ++ middle ∷ after) ≡ length_to cost middle from before +ℤ length_to cost end middle after
-length_through cost end from middle [] after = omega (arith, ints)
-length_through cost end from middle (next ∷ before) after = let rest = length_through cost end next middle before after in omega (arith, ints)
 
 -- ---- a walk without its repetitions
 

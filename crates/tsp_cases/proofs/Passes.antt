@@ -1,5 +1,5 @@
 -- One pass over the steps of a tree of cases (src/tree.rt), and what it finds at a branch, at a leaf and at the end.
-use Rattle.tsp_cases.proofs.Prelude.{◌≡◌, ◌∙◌, ℕ, ◌+◌, ◌<◌, List, ◌∷◌, ◌++◌, length, take, drop, get_or, sym, ap, subst, arith, drop-cons, add-one, zero, suc, ◌-◌, Bool, true, false, [], ℤ, inl, inr, ◌≤ℤ◌, refl, ◌^◌, ◌≤◌, length-append, both_ways, ints, get_or-map, length-map, take-append-le, take_all, length-reverse, drop_all, recursion_from_All, All-from_recursion, All, Any, AllByRecursion, ◌⊎◌, Option, Some, None, IfSome, are_whole, TreeStep, step_of, steps_of, IsBoundSized}
+use Rattle.tsp_cases.proofs.Prelude.{◌≡◌, ◌∙◌, ℕ, ◌+◌, ◌<◌, List, ◌∷◌, ◌++◌, length, take, drop, get_or, sym, ap, subst, arith, drop-cons, add-one, zero, suc, ◌-◌, Bool, true, false, [], ℤ, inl, inr, ◌≤ℤ◌, refl, ◌≤◌, both_ways, ints, get_or-map, length-map, take-append-le, take_all, drop_all, recursion_from_All, All-from_recursion, All, Any, AllByRecursion, ◌⊎◌, Option, Some, None, IfSome, are_whole, TreeStep, step_of, steps_of, IsBoundSized}
 use Rattle.tsp_format.specs.Steps as listed
 use Rattle.tsp_theory.specs.First.{IsFirst}
 use Rattle.tsp_cases.proofs.CaseLaws.{stacks_hold_cases}
@@ -413,15 +413,6 @@ module _ (Found : List Decision × LeafNumbers → Option ℤ → Type 0) (Good 
   passed numbers stack lowest leaf (inl h) = at_end numbers (Some (stack_of stack)) lowest leaf h
   passed numbers stack lowest leaf (inr h) = at_end numbers None lowest leaf h
 
--- ---- a round of the loop over the steps: what code finds at a branch or a leaf
-
--- the decisions of a case are those on its stack and the given ones
-pub few_decided : (stack given : List Decision) → length stack < 2 ^ 32 → length given < 2 ^ 32 → length (stack_of stack ++ given) < 2 ^ 33
-few_decided stack given few few_given =
-    let sum = length-append (stack_of stack) given in
-    let same = length-reverse stack in
-    omega (arith, sum, same, few, few_given)
-
 -- ---- the step that is next
 
 -- whether steps are a whole tree doesn't depend on the numbers of its leaves
@@ -504,12 +495,6 @@ module _ (Found : List Decision × LeafNumbers → Option ℤ → Type 0) (Good 
       (own : Option ℤ) → JudgedAs numbers stack changes new found → found ≡ leaves.Found own
       → AreSmall new
   small_found numbers stack changes new found own judged some = (subst (JudgedAs numbers stack changes new) some judged).2
-
-  -- a statement on the cases of all leaves is one on the case of this leaf
-  pub fits_here : (numbers : List ℤ) (stack : List Decision) (lowest : Option ℤ) (leaf : ℕ) (changes : List (ℕ × ℤ))
-      (rest : List listed.Step)
-      → AtNext numbers stack lowest leaf (listed.Leaf changes ∷ rest) → Fits (stack_of stack ++ given)
-  fits_here numbers stack lowest leaf changes rest at = at.once.0
 
 -- the lowest bound so far fits, as the bound of each leaf does
 pub low_sized : (lowest own lower : Option ℤ) (found : JudgedLeaf) → IfSome lowest IsBoundSized → IsSizedLeaf found

@@ -13,7 +13,7 @@ pub use Rattle.std.specs.Int.{w64}
 pub use Rattle.std.specs.List.{All, AllByRecursion, Contains, CopiedTo, SameBelow, SameFrom, enumerate_from, find, flat_map, fold, list_all, range_with_len, sum_by}
 pub use Rattle.std.specs.Option.{option_map, option_map_or, option_or}
 pub use Rattle.std.specs.Prelude.{FitsSigned, IsSome, IsTrue, OnOk, codes, int_le, is_some, nat_le, nat_lt, neg_ℤ, not, pos, replicate, slice_index, slice_index_or, slice_set, unsigned_abs, unwrap_or, ℤ, ◌&&◌, ◌==◌, ◌||◌, ◌↔◌, ◌⊎◌}
-pub use Rattle.tsp_format.proofs.Pairs.{Contains-tail, cell_is, cells-lines, cells_counted, line_counted}
+pub use Rattle.tsp_format.proofs.Pairs.{cell_is, cells-lines, cells_counted, line_counted}
 pub use Rattle.tsp_format.specs.Limits.{most_branches, most_capacity, most_changes, most_comments, most_coordinate, most_demand, most_depots, most_difference, most_families, most_family_nodes, most_fixed, most_kept_bytes, most_load_unit, most_matrix_nodes, most_multiplier, most_nodes, most_others, most_potential, most_rows, most_scale, most_tour_nodes, most_triples, most_weight, shape_of}
 pub use Rattle.tsp_format.specs.Nodes.{IsNode, cell_count_of, is_listed, line_len_of}
 unfoldable pub use Rattle.tsp_format.specs.Nodes.{cells, cells_of_line, nodes_to}

@@ -1,6 +1,6 @@
 -- What each test of Validity.antt says of a value, for src/validity.rt and src/table.rt, and that the first bad field
 -- is the one that is found.
-use Rattle.tsp_file.proofs.Prelude.{◌≡◌, ℕ, zero, suc, ◌+◌, [], ◌∷◌, ◌≤◌, Bool, true, false, List, length, map, refl, sym, ap, ◌∙◌, arith, ◌<◌, drop, ◌^◌, pos, ◌≤ℤ◌, to_z, of_z, FitsSigned, rules, ◌*◌, cond, Option, None, Some, subst, inl, inr, le-leb, false≢true, leb-true, eqb-true, and_parts, and_from, or_right, or_parts, ints, to_z-of_z, length-map, at_drop_more, list_all-map, list_all-from_AllPass, AllPass-from_list_all, w64, fold, list_all, sum_by, All, AllByRecursion, Contains, find, option_map, ◌&&◌, nat_le, replicate, ℤ, slice_index_or as get_or, not, ◌||◌, ◌==◌, IsTrue, IsSome, is_some, ◌⊎◌, neg_ℤ, int_le, Point, Contains-tail, most_tour_nodes, most_families, most_family_nodes, most_rows, most_branches, most_changes, most_nodes, most_matrix_nodes, most_coordinate, most_weight, most_demand, most_capacity, most_scale, most_load_unit, most_potential, most_depots, most_fixed, most_triples, most_multiplier, most_difference, IsNode, cells, are_whole, branch_count, change_count, Step, SubsetRow, row_size, Branch, Leaf, IsFromTo, Field, WeightFormat, ByFunction, Listed, Layout, step_of, steps_of}
+use Rattle.tsp_file.proofs.Prelude.{◌≡◌, ℕ, zero, suc, ◌+◌, [], ◌∷◌, ◌≤◌, Bool, true, false, List, length, map, refl, sym, ap, ◌∙◌, arith, ◌<◌, drop, ◌^◌, pos, ◌≤ℤ◌, to_z, of_z, FitsSigned, rules, ◌*◌, cond, Option, None, Some, subst, inl, inr, le-leb, false≢true, leb-true, eqb-true, and_parts, and_from, or_right, or_parts, ints, to_z-of_z, length-map, at_drop_more, list_all-map, list_all-from_AllPass, AllPass-from_list_all, w64, fold, list_all, sum_by, All, AllByRecursion, option_map, ◌&&◌, nat_le, replicate, ℤ, slice_index_or as get_or, not, ◌||◌, ◌==◌, IsTrue, IsSome, is_some, ◌⊎◌, neg_ℤ, int_le, Point, most_tour_nodes, most_families, most_family_nodes, most_rows, most_branches, most_changes, most_nodes, most_matrix_nodes, most_coordinate, most_weight, most_demand, most_capacity, most_scale, most_load_unit, most_potential, most_depots, most_fixed, most_triples, most_multiplier, most_difference, IsNode, cells, are_whole, branch_count, change_count, Step, SubsetRow, row_size, Branch, Leaf, IsFromTo, Field, WeightFormat, ByFunction, Listed, Layout, step_of, steps_of}
 use Rattle.std.proofs.lemmas.Bool.Decides.{Decides-int_eq, nat_tests}
 use Rattle.std.proofs.lemmas.List.Elements.{All-weaker}
 use Rattle.std.specs.Global.{Vec}
@@ -171,19 +171,7 @@ all_pass test (x ∷ xs) e =
     let here = not_chosen (not (test x)) x (first_failing test xs) e in
     (not_false (test x) here.0, all_pass test xs here.1)
 
-found_inside : {X : Type 0} (test : X → Bool) (xs : List X) (x : X) → find test xs ≡ Some x → Contains xs x
-found_inside test [] x e = absurd cc
-found_inside {X} test (y ∷ ys) x e = by_test (test y) (found_inside test ys x) e
-  where
-    by_test : (b : Bool) → (find test ys ≡ Some x → Contains ys x) → cond b (Some y) (find test ys) ≡ Some x → Contains (y ∷ ys) x
-    by_test true rest e = (0, omega arith, cc)
-    by_test false rest e = Contains-tail y ys x (rest e)
-
 -- ---- the tests that a draft without a fault passes
-
-no_bad_field : (f : Fields) → fault_of f ≡ None → bad_field f ≡ None
-no_bad_field f valid = none_map (λ field. BadField field) (bad_field f)
-    (none_or (option_map (λ field. BadField field) (bad_field f)) (option_map (λ fault. Rule fault) (end_fault (standing_of f) None)) valid).0
 
 no_end_fault : (f : Fields) → fault_of f ≡ None → end_fault (standing_of f) None ≡ None
 no_end_fault f valid = none_map (λ fault. Rule fault) (end_fault (standing_of f) None)

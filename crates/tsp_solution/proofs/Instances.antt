@@ -1,14 +1,11 @@
 -- For src/run.rt: the reader of an instance that may be missing, and how the parts of a run of `tsp solution` make its
 -- result.
-use Rattle.std.proofs.Common.{◌≡◌, ℕ, List, [], Option, None, Some, Result, Ok, Err, refl, inl, inr, arith}
-use Rattle.std.proofs.KnownBytes.{Keeps-refl}
-use Rattle.std.specs.declared.io.Error.{Error}
+use Rattle.std.proofs.Common.{ℕ, List, Option, None, Some, Result, Ok, Err, inr}
 use Rattle.tsp_io.specs.Streams.{ReadTrace, Sink}
 use Rattle.tsp_io.specs.declared.piece.WriteFault.TheVariants as write_faults
 use Rattle.tsp_io.specs.declared.watched.Watched.{Watched}
 use Rattle.tsp_io.specs.states.Watched.{read_trace_of}
-use Rattle.tsp_read.proofs.PieceSteps.{read_none}
-use Rattle.tsp_solution.specs.SolutionRun.{GivesHints, IsInstanceReadOn, IsReadWhole, IsSolutionRun, IsUnreadInstance, TakesInstance, WritesRead}
+use Rattle.tsp_solution.specs.SolutionRun.{GivesHints, IsReadWhole, IsSolutionRun, TakesInstance, WritesRead}
 use Rattle.tsp_solution.specs.declared.hints.Hints.{Hints}
 use Rattle.tsp_solution.specs.declared.run.SolutionRunFault.{SolutionRunFault}
 use Rattle.tsp_solution.specs.declared.run.SolutionRunFault.TheVariants.{File, Write}
@@ -20,17 +17,6 @@ takes_also remaining None None P Q implies took = implies None took
 takes_also remaining None (Some new) P Q implies took = absurd took
 takes_also remaining (Some old) None P Q implies took = absurd took
 takes_also remaining (Some old) (Some new) P Q implies took = (took.0, took.1, implies (Some (read_trace_of remaining old new took.0)) took.2)
-
--- a reader of the instance that isn't asked
-pub takes_none : {R : Type 0} (remaining : R → Option (List ℕ)) (instance : Option (Watched R)) (Q : Option ReadTrace → Type 0)
-    → ((second : Option ReadTrace) → IsUnreadInstance second → Q second) → TakesInstance remaining instance instance Q
-takes_none remaining None Q implies = implies None tt
-takes_none remaining (Some reader) Q implies = ([], omega arith, implies (Some (read_trace_of remaining reader reader [])) (Keeps-refl _, refl))
-
-pub asked_none : {R : Type 0} (gives : R → List ℕ → Result ℕ Error → List ℕ → R → Type 0) (instance : Option (Watched R))
-    → IsInstanceReadOn gives instance instance
-asked_none gives None = tt
-asked_none gives (Some reader) = read_none gives reader
 
 -- the result for the text of the solution is that of the run
 pub run_of : (hints known : Hints) (first : ReadTrace) (second : Option ReadTrace) (sink : Sink) (answer : Result (Unit {0}) SolutionRunFault)
