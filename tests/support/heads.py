@@ -2,7 +2,8 @@
 
 A head may name a file by its name or by the end of its path. The head of a file in `specs/states/` says which files use its
 definitions, by their paths in code font: `src/NAME`, or `CRATE/src/NAME` in another crate. A file uses them if it imports
-one, directly or from a prelude that passes it on.
+one, directly or from a prelude that passes it on. If other crates import a file, its head names these crates, or speaks of
+crates above.
 """
 from __future__ import annotations
 
@@ -21,6 +22,8 @@ PATH = re.compile(r"(?:(\w+)/)?((?:src|specs|proofs)/[\w/]+\.(?:rt|antt))")
 NAME_IN_FILE = re.compile(rf"`([\w:]+)` in `?({FILE.pattern})")
 NAME = re.compile(r"[A-Za-z_]\w*(?:::\w+)*")
 ALL_USERS = re.compile(r"\b[Oo]nly (?:(?:by|for|from|in) )?`[^`]+\.(?:rt|antt)`")
+MANY_CRATES = re.compile(r"\bcrates above\b|\b(?:all|each|every|many|most|other|several) crates?\b", re.IGNORECASE)
+PARTS_OF_CRATES = ("Lib.antt", "Prelude.antt")
 
 
 def without_alias(name: str) -> str:
@@ -88,6 +91,13 @@ class Heads:
         found = [f"there is no {word}" for word, files in named.items() if not files]
         return found + [f"{name} isn't in {word}" for name, word in NAME_IN_FILE.findall(head)
                         if named[word] and not any(name.rpartition("::")[2] in words_of(path) for path in named[word])]
+
+    def unnamed(self, crate: Crate, file: Definitions) -> list[str]:
+        """The crates that import a file and that its head neither names nor means by a word such as `crates above`."""
+        if file.path.name in PARTS_OF_CRATES or MANY_CRATES.search(file.head):
+            return []
+        owners = {path.relative_to(crate.folder.parent).parts[0] for path in self.users[module_of(crate, file.path)]}
+        return [f"{name} imports it" for name in sorted(owners - {crate.name, *re.findall(r"\w+", file.head)})]
 
     def faults(self, crate: Crate, file: Definitions) -> list[str]:
         """What the head of a file of `specs/states/` says that isn't so.

@@ -1,5 +1,5 @@
 -- Rounds that join each component by its least link give a least tree (src/rounds.rt), over places of an order as over
--- nodes.
+-- nodes. tsp_verdict imports it, too.
 use Rattle.tsp_bound.proofs.Prelude.{◌≡◌, ℕ, ◌<◌, not, Bool, false, List, [], ◌∷◌, ◌++◌, get_or, map, ℤ, ◌≤ℤ◌, ap, ap₂, ◌∙◌, subst, ◌+◌, ◌*◌, ◌^◌, ◌≤◌, take, length, refl, arith, sym, Option, Result, Ok, Err, IfOk, IfSome, ◌≢◌, zero, suc, ◌==◌, true, cond, ◌⊎◌, inl, inr, set, None, Some, length-set, false≢true, eqb-true, eq-eqb, ne_eqb, cases_eq, ints, map-append, take_more, length-map, get_or-set_same, get_or-set_other, All-map, All-nil, All-push, recursion_from_All, All-weaker, if◌then◌else◌, pos, neg_ℤ, slice_index_or, MatchOption, most_nodes, IsFromTo, joins_more, IsSumSized, IsInner, crosses, weight_of}
 use Rattle.std.specs.Global.{Vec}
 use Rattle.std.specs.List.{All, AllByRecursion}

@@ -1,5 +1,5 @@
 -- The bound of a leaf, by a 1-tree or by rows, bounds every cycle of its case, and the least bound of all leaves every
--- cycle that keeps the given decisions. For the laws on leaves and trees in src/laws.rt.
+-- cycle that keeps the given decisions. For the laws on leaves and trees in src/laws.rt. tsp_branch imports it, too.
 use Rattle.tsp_cases.proofs.Prelude.{ℕ, Bool, true, false, List, [], ◌∷◌, map, ℤ, sym, subst, ◌≡◌, ◌≤ℤ◌, refl, arith, ap, ap₂, subst₂, get_or, Option, None, Some, ints, recursion_from_All, All-from_recursion, All-weaker, All, AllByRecursion, if◌then◌else◌, pos, negsuc, ◌*ℤ◌, ◌-ℤ◌, ◌+ℤ◌, IsNode, nodes_to, Laws, weight_even, least_tree_below, entries_of_links, scaled_length, one_if, adjusted_even, sum_zero, difference, adjusted_cycle, sum_int_by-le, scaled_up, pair_of, UsesEach, UsesNone, AdjustedBoundsBoundCycles, weight_between, adjusted, entry, IsScale, AreNeighbours, Uses, IsCycle, links, sum_int_by, length_of, crossing, weight_of}
 use Rattle.std.proofs.Math.Path.{fun_ext}
 use Rattle.tsp_format.proofs.Pairs.{all_nodes}

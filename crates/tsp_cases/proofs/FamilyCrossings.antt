@@ -1,5 +1,5 @@
 -- How often a cycle crosses a comb or another family (docs/proof.md, "Combs"), and how large crossings times
--- multipliers are. For the laws on families in src/laws.rt.
+-- multipliers are. For the laws on families in src/laws.rt. tsp_branch and tsp_routing import it, too.
 use Rattle.tsp_cases.proofs.Prelude.{◌≡◌, ℕ, zero, suc, ◌*◌, ◌≤◌, ◌&&◌, Bool, true, false, not, cond, List, [], ◌∷◌, length, ℤ, ◌+ℤ◌, ◌≤ℤ◌, inl, inr, refl, arith, ap, ◌+◌, ap₂, sym, ◌∙◌, subst, get_or, map, FitsSigned, ◌<◌, ◌^◌, drop, to_z, of_z, drop-cons, add-one, cases_Bool, both_ways, and_right, and_from, and_parts, false_from_ne_true, ints, fits_signed_from_abs, to_z-of_z, recursion_from_All, w64, w128, AllPairs, AllByRecursion, All, pos, negsuc, ◌*ℤ◌, neg_ℤ, ◌-ℤ◌, IsNode, IsFromTo, Laws, has_node, sum_zero, one_if, none_or_one, evenly, twice, sum_below, size_of, scaled_up, scaled_sum, total, most_between, IsCycle, links, sum_int_by, length_of, crosses, crossing}
 use Rattle.std.proofs.Math.IntN.{pred_ℤ-*ℤ, *ℤ-zero}
 use Rattle.tsp_cases.specs.CaseTrees.{crossings_of, multiplied}

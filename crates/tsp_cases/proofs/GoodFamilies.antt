@@ -1,4 +1,5 @@
--- For src/good_families.rt: teeth, handles and repeated nodes found by marks, and the first bad family.
+-- For src/good_families.rt: teeth, handles and repeated nodes found by marks, and the first bad family. tsp_routing
+-- imports it, too.
 use Rattle.tsp_cases.proofs.Prelude.{◌≡◌, ◌≢◌, ◌∙◌, ℕ, ◌+◌, ◌<◌, ◌==◌, ◌||◌, true, false, List, [], ◌∷◌, ◌++◌, take, length, get_or, inl, inr, ap, sym, subst, arith, zero, suc, ◌*◌, ◌≤◌, Bool, map, drop, refl, drop-cons, add-one, ◌-◌, length-append, set, cases_eq, both_ways, eqb-true, eq-eqb, ne_eqb, or_cases, or_parts, cases_Bool, or_from, cases_lt, ints, get_or-set_same, get_or-set_other, get_or-take, length-take-le, take_more, get_or_default, length-map, get_or-map, get_or_append_left, get_or_push, All-more, All-nil, All-cons, All-head, All-tail, All-from_recursion, recursion_from_All, All-weaker, All-contains, Any-from_list_any, list_any_at, list_any_more, AllPairs-cons, Vec, All, Any, AllPairs, AllByRecursion, ◌↔◌, pos, Some, IsNode}
 use Rattle.std.proofs.Math.Bool.{or-true, or-false, or_assoc}
 use Rattle.std.proofs.Math.Path.{fun_ext}

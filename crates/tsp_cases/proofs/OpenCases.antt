@@ -1,4 +1,5 @@
 -- The stack of decisions of the open case, one step further, and that no pair is decided twice (src/open_case.rt).
+-- tsp_branch and tsp_routing import it, too.
 use Rattle.tsp_cases.proofs.Prelude.{◌≡◌, ◌+◌, false, List, [], ◌∷◌, ◌++◌, refl, ap, ◌∙◌, ℕ, zero, suc, ◌==◌, ◌&&◌, Bool, true, ◌⊎◌, inl, inr, sym, arith, ◌≢◌, ◌-◌, ◌<◌, ◌≤◌, get_or, length, take, drop, subst, ap₂, cases_Bool, both_ways, or_cases, and_parts, eqb-true, eq-eqb, cases_eq, ne_eqb, ints, reverse-append, length-reverse, take_all, take_more, recursion_from_All, All-from_recursion, Vec, AllByRecursion, All, filter, list_any, pos, neg_ℤ, ◌+ℤ◌, reverse, IsFromTo, is_same_pair}
 use Rattle.std.proofs.Math.Bool.{or-true}
 use Rattle.std.proofs.lemmas.List.Sorted.{IsPermutation-reverse, list_any-IsPermutation}

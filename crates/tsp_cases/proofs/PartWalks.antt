@@ -1,5 +1,5 @@
 -- A cycle through nodes is a closed walk through the parts of sets, which crosses the sets as often: the step from all
--- cycles to a few. For the laws on families in src/laws.rt, and for src/family.rt.
+-- cycles to a few. For the laws on families in src/laws.rt, and for src/family.rt. tsp_branch imports it, too.
 use Rattle.tsp_cases.proofs.Prelude.{◌≡◌, ◌≢◌, ℕ, zero, suc, ◌+◌, ◌<◌, ◌≤◌, ◌==◌, ◌⊎◌, cond, List, [], ◌∷◌, length, inl, inr, refl, arith, ap, sym, ◌∙◌, subst, Bool, true, false, ℤ, ◌+ℤ◌, ◌≤ℤ◌, ◌-◌, not, get_or, ap₂, cases_eq, eq-eqb, ne_eqb, cases_Bool, both_ways, or_parts, or_from, eqb-false, cases_order, ints, get_or_default, recursion_from_All, All-from_recursion, AllPairs-cons, AllPairs, AllByRecursion, range_with_len, AllZip, if◌then◌else◌, pos, slice_index, IsNode, one_if, IsCycle, links_to, sum_int_by, length_of, and_node}
 use Rattle.std.proofs.lemmas.List.FromFn.{length-range_with_len}
 use Rattle.tsp_cases.specs.Crossings.{AllApart, sets_crossed, AreAlike, AreUnlike, ArePartsOf, between, PartsBoundCycles, LeastLengthsAreUnique, MostCostsAreUnique, UnlikeNodesNeedParts}

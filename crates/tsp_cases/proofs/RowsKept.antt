@@ -1,5 +1,5 @@
 -- For src/kept.rt: rows kept from leaf to leaf stay right if marks are added and taken off where multipliers or
--- decisions differ.
+-- decisions differ. tsp_branch and tsp_routing import it, too.
 use Rattle.tsp_cases.proofs.Prelude.{◌≡◌, ℕ, zero, suc, ◌+◌, ◌<◌, ◌==◌, List, [], ◌∷◌, ◌++◌, length, replicate, inl, inr, refl, sym, ap, subst, ◌∙◌, arith, ◌-◌, ◌≤◌, ◌&&◌, Bool, true, false, None, take, set, cases_Bool, cases_lt, both_ways, cases_eq, eq-eqb, ints, int_wrap-add_left, int_wrap-add_same, int_wrap_fits, SFits-int_wrap, length-append, get_or_append_left, get_or-replicate, get_or_past, length-replicate, get_or_push, take_more, Vec, w64, int_wrap, All, ◌⊎◌, ℤ, pos, neg_ℤ, ◌+ℤ◌, ◌*ℤ◌, slice_index_or as get_or, if◌then◌else◌, IsFromTo, weight_between, most_between, entry, is_same_pair, sum_int_by, least_at, IsMoved}
 use Rattle.std.proofs.Math.Bool.{or-true}
 use Rattle.std.proofs.lemmas.Option.{none-some, same_Some}

@@ -1,7 +1,7 @@
 -- Circle 3 of docs/trust.md.
 -- The bound of a branches file as mathematics: a leaf's bound is that of a minimum 1-tree or of the least link from
 -- each node, and the file's bound is the least one of a leaf. The theorems that no tour is shorter are stated here;
--- src/laws.rt proves them.
+-- src/laws.rt proves them. Crates above import it, too.
 use Rattle.tsp_cases.specs.Prelude.{All, Any, ℕ, Bool, true, false, List, ℤ, [], length, pos, Option, Some, None, IsNode, nodes_to, IsSymmetric, IsLeastBound, IsScale, total, weight_between, adjusted, triples_total, UsesEach, UsesNone, IsAdjustedBound, IsCycle, Follows, sum_int_by, length_of, Problem, BoundsTours, HasNoTour, weight_of, IsLeastOneTree}
 use Rattle.std.specs.Prelude.{◌≡◌, ◌≢◌, ◌≤◌, ◌↔◌, ◌+ℤ◌, ◌≤ℤ◌, ◌-ℤ◌, ◌*ℤ◌, ◌⊎◌, ◌∷◌}
 use Rattle.tsp_cases.specs.Cases.{KeepsAll, SolutionKind, cycles, BoundsKept, HasNoCycle, BoundsCase, take_pairs, on_taken, on_avoided, LeafNumbers, CaseStep, are_case_trees, leaves_of}

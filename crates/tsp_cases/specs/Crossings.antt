@@ -1,6 +1,7 @@
 -- Circle 3 of docs/trust.md.
 -- How often a family of sets is crossed: at least by a cycle, and at most by one edge, found over the parts into which
--- the sets divide the nodes. src/family.rt computes the two numbers, which decide what a family adds to a bound.
+-- the sets divide the nodes. src/family.rt computes the two numbers, which decide what a family adds to a bound. Crates
+-- above import it, too.
 use Rattle.tsp_cases.specs.Prelude.{Vec, All, AllPairs, list_any, Any, AllByRecursion, ℕ, Bool, List, length, map, ℤ, [], slice_index, pos, IsNode, IsCycle, sum_int_by, length_of, crossing, IsInner}
 use Rattle.std.specs.Prelude.{◌≡◌, ◌<◌, ◌⊎◌, ◌==◌, ◌≤ℤ◌, ◌≢◌, ◌+◌, ◌*◌, ◌≤◌, ◌↔◌, if◌then◌else◌, ◌∷◌, ◌-◌, ◌^◌}
 

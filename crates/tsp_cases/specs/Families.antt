@@ -1,6 +1,7 @@
 -- Circle 3 of docs/trust.md.
 -- Families of sets of nodes, such as combs and lone sets: the least number of times that a cycle crosses each, and
--- which families of a file are good. src/good_families.rt finds the first bad one, and the file is rejected.
+-- which families of a file are good. src/good_families.rt finds the first bad one, and the file is rejected. Crates
+-- above import it, too.
 use Rattle.tsp_cases.specs.Prelude.{ℕ, map, Bool, true, false, List, length, ℤ, pos, zero, suc, [], slice_index_or, IsNode, IsCycle, sum_int_by, length_of, crossing}
 use Rattle.std.specs.List.{All, AllPairs}
 use Rattle.std.specs.Prelude.{◌≡◌, ◌+◌, ◌-◌, ◌*◌, ◌≤◌, ◌+ℤ◌, ◌≤ℤ◌, ◌∷◌, ◌⊎◌, if◌then◌else◌, ◌*ℤ◌, ◌≢◌, ◌<◌}

@@ -1,5 +1,5 @@
 -- The judgement on the families of a certificate: all of them, as `Families`, or the first bad one.
--- src/good_families.rt promises it; Families.antt defines which families are good.
+-- src/good_families.rt promises it; Families.antt defines which families are good. tsp_branch imports it, too.
 use Rattle.std.specs.Prelude.{◌≡◌, ℕ, List}
 use Rattle.std.specs.Global.{Vec}
 use Rattle.tsp_cases.specs.Crossings.{families_in}

@@ -1,7 +1,8 @@
 -- Circles 1 and 3 of docs/trust.md.
 -- Which problem a valid instance is: a travelling salesman problem for TYPE TSP or ATSP, a routing problem for TYPE
 -- CVRP. This file joins the fields of a file to the mathematics of tsp_theory, for Accepted.antt in tsp_judge and all
--- definitions of a verdict. Each valid instance is exactly one problem, as src/laws.rt proves.
+-- definitions of a verdict. Each valid instance is exactly one problem, as src/laws.rt proves. tsp_verdict imports it,
+-- too.
 use Rattle.tsp_cost.specs.Prelude.{ℕ, false, [], map, Some, unwrap_or, ℤ, pos, Bool, true, List, Option, None, slice_index, length, Point, IsNode, nodes_to, is_listed, cells, cost, fixed_of, Fields, nodes_of, RoutingProblem, Problem, demand_of, IsPlan, IsTour}
 use Rattle.std.specs.Prelude.{◌≡◌, ◌≢◌, ◌⊎◌, if◌then◌else◌, ◌∷◌}
 use Rattle.tsp_format.specs.declared.kinds.Kind.{Kind}

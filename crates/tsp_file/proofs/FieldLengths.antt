@@ -1,4 +1,5 @@
--- How long the text of each field can be, for the law that a valid text is short enough to be read again.
+-- How long the text of each field can be, for the law that a valid text is short enough to be read again. tsp_read
+-- imports it, too.
 use Rattle.tsp_file.proofs.Prelude.{◌≡◌, Bool, true, false, cond, List, [], ◌∷◌, Option, None, Some, refl, sym, subst, ℕ, ◌+◌, ◌≤◌, ◌++◌, length, arith, length-append, ◌*◌, ◌<◌, ℤ, pos, and_parts, leb-true, eqb-true, false≢true, sum_by-le-sum_by, decimal, signed_decimal, find, list_all, flat_map, sum_by, option_map, option_or, option_map_or, ◌&&◌, not, slice_index, ◌-◌, ◌==◌, nat_le, codes, neg_ℤ, unsigned_abs, spelling, Point, most_kept_bytes, shape_of, most_nodes, most_matrix_nodes, most_coordinate, most_weight, most_demand, most_capacity, most_scale, most_load_unit, most_potential, most_comments, most_others, most_depots, most_fixed, most_triples, most_multiplier, most_tour_nodes, field_word, fields_in_order, field_found, is_blank, IsFirstWithWord, kind_word, weight_kind_word, weight_format_word, coord_kind_word, display_kind_word, kinds, weight_kinds, weight_formats, coord_kinds, display_kinds, kind_found, weight_kind_found, weight_format_found, coord_kind_found, display_kind_found, Field, NameKey, TypeKey, CommentKey, OtherKey, DimensionKey, CapacityKey, ScaleKey, LoadUnitKey, EdgeWeightTypeKey, EdgeWeightFormatKey, NodeCoordTypeKey, DisplayDataTypeKey, NodeCoordPart, DisplayDataPart, DemandPart, DepotPart, FixedEdgesPart, EdgeWeightPart, TourPart, NodePotentialPart, RowPotentialPart, ColumnPotentialPart, FixedEdgePotentialPart, FamilyPart, MemoryPart, SubsetRowPart, BranchPart, WeightFormat}
 use Rattle.std.proofs.Math.Nat.{mul-le-mul}
 use Rattle.std.proofs.lemmas.List.Concat.{length-flat_map}

@@ -1,5 +1,5 @@
 -- A change of weights leaves the other fields of a valid file alone and the file valid, for `with_weights` and its like
--- in src/file.rt.
+-- in src/file.rt. tsp_text imports it, too.
 use Rattle.tsp_file.proofs.Prelude.{◌≡◌, ℕ, suc, zero, ◌+◌, ◌-◌, ◌*◌, ◌/◌, ◌≤◌, Bool, true, false, cond, List, [], ◌∷◌, length, Option, None, Some, refl, sym, ap, subst, ◌∙◌, arith, ◌≢◌, ◌<◌, ◌++◌, map, take, ⊎_elim, false≢true, le-leb, eq-eqb, cases_lt, and_from, ints, length-map, get_or-map, length-append, get_or_append_left, get_or-append_right, ext_get_or, length-take-le, get_or-take, list_all-from_AllPass, mul-le, All, list_all, flat_map, CopiedTo, SameBelow, SameFrom, option_map, option_or, IsSome, unwrap_or, not, ◌&&◌, nat_le, ℤ, pos, neg_ℤ, int_le, slice_index_or as get_or, IsTrue, cells_counted, line_counted, most_matrix_nodes, most_weight, cells, cell_count_of, IsNode, nodes_to, cells_of_line, line_len_of, fields_in_order, IsSymmetric, Field, NameKey, TypeKey, CommentKey, OtherKey, DimensionKey, CapacityKey, ScaleKey, LoadUnitKey, EdgeWeightTypeKey, EdgeWeightFormatKey, NodeCoordTypeKey, DisplayDataTypeKey, NodeCoordPart, DisplayDataPart, DemandPart, DepotPart, FixedEdgesPart, EdgeWeightPart, TourPart, NodePotentialPart, RowPotentialPart, ColumnPotentialPart, FixedEdgePotentialPart, FamilyPart, MemoryPart, SubsetRowPart, BranchPart, SubsetRow, WeightFormat, Listed, Layout, FullMatrix, UpperRow, LowerRow, UpperDiagRow, LowerDiagRow, UpperCol, LowerCol, UpperDiagCol, LowerDiagCol}
 use Rattle.tsp_format.proofs.Places.{placed, line_at}
 use Rattle.tsp_file.proofs.FieldLengths.{all_fit}

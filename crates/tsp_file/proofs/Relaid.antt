@@ -1,5 +1,5 @@
 -- Weights listed in one layout, and the same costs listed in another, for src/relayout.rt and the searches in
--- src/typed.rt.
+-- src/typed.rt. tsp_cost imports it, too.
 use Rattle.tsp_file.proofs.Prelude.{◌≡◌, ◌≢◌, ℕ, ◌<◌, false, List, [], length, Option, Some, None, refl, sym, ap, ◌∙◌, inl, inr, ⊎_elim, arith, to_z, of_z, ◌+◌, ◌-◌, ◌≤◌, Bool, true, ◌∷◌, ◌++◌, map, take, subst, cases_lt, le-ltb, lt-leb, false≢true, le-leb, ints, take_more, take_all, append_assoc, map-append, length-map, get_or-map, get_or_past, get_or_default, flat_map_more, ext_get_or, w64, Contains, All, flat_map, option_map, option_or, nat_lt, nat_le, unwrap_or, slice_index_or, ◌⊎◌, ◌↔◌, IsTrue, ℤ, pos, is_some, slice_index_or as get_or, cells-lines, cell_is, most_weight, IsNode, is_listed, cells, nodes_to, cells_of_line, place_of, place_by_table, IsSymmetric, WeightFormat, ByFunction, Listed, Layout, FullMatrix, UpperRow, LowerRow, UpperDiagRow, LowerDiagRow, UpperCol, LowerCol, UpperDiagCol, LowerDiagCol}
 use Rattle.std.proofs.lemmas.Bool.Decides.{nat_tests}
 use Rattle.std.proofs.lemmas.List.Elements.{All-map}

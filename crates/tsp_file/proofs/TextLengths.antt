@@ -1,4 +1,5 @@
--- How long numbers, lines and sections of a canonical text are at most; FieldLengths.antt adds them up.
+-- How long numbers, lines and sections of a canonical text are at most; FieldLengths.antt adds them up. tsp_cost and
+-- tsp_read import it, too.
 use Rattle.tsp_file.proofs.Prelude.{◌≡◌, ◌≢◌, ◌∙◌, ℕ, refl, sym, ap, subst, ◌+◌, ◌*◌, ◌^◌, ◌<◌, ◌≤◌, Bool, true, false, List, ◌∷◌, ◌++◌, length, take, drop, map, arith, ℤ, length-append, and_parts, leb-true, false≢true, ints, take-append-drop, list_all-append, flat_map-map, sum_by-cons, decimal, signed_decimal, flat_map, list_all, enumerate_from, sum_by, pos, unsigned_abs, Some, Option, unwrap_or, [], ◌&&◌, nat_le, codes, Point, most_nodes, most_weight}
 use Rattle.std.proofs.lemmas.Fmt.{length-decimal-le, length_signed_le}
 use Rattle.std.specs.Int.Signed.{mag}

@@ -1,5 +1,5 @@
 -- What each test of Validity.antt says of a value, for src/validity.rt and src/table.rt, and that the first bad field
--- is the one that is found.
+-- is the one that is found. tsp_read and tsp_text import it, too.
 use Rattle.tsp_file.proofs.Prelude.{◌≡◌, ℕ, zero, suc, ◌+◌, [], ◌∷◌, ◌≤◌, Bool, true, false, List, length, map, refl, sym, ap, ◌∙◌, arith, ◌<◌, drop, ◌^◌, pos, ◌≤ℤ◌, to_z, of_z, FitsSigned, rules, ◌*◌, cond, Option, None, Some, subst, inl, inr, le-leb, false≢true, leb-true, eqb-true, and_parts, and_from, or_right, or_parts, ints, to_z-of_z, length-map, at_drop_more, list_all-map, list_all-from_AllPass, AllPass-from_list_all, w64, fold, list_all, sum_by, All, AllByRecursion, option_map, ◌&&◌, nat_le, replicate, ℤ, slice_index_or as get_or, not, ◌||◌, ◌==◌, IsTrue, IsSome, is_some, ◌⊎◌, neg_ℤ, int_le, Point, most_tour_nodes, most_families, most_family_nodes, most_rows, most_branches, most_changes, most_nodes, most_matrix_nodes, most_coordinate, most_weight, most_demand, most_capacity, most_scale, most_load_unit, most_potential, most_depots, most_fixed, most_triples, most_multiplier, most_difference, IsNode, cells, are_whole, branch_count, change_count, Step, SubsetRow, row_size, Branch, Leaf, IsFromTo, Field, WeightFormat, ByFunction, Listed, Layout, step_of, steps_of}
 use Rattle.std.proofs.lemmas.Bool.Decides.{Decides-int_eq, nat_tests}
 use Rattle.std.proofs.lemmas.List.Elements.{All-weaker}

@@ -1,6 +1,6 @@
 -- The canonical text of a file, which `tsp convert` writes: the texts of its fields in canonical order, then the EOF
 -- line. A missing field has no text. src/writer.rt promises it byte for byte, and by the laws of tsp_read it parses
--- back to the file. In no circle of docs/trust.md, because no `yes` rests on it.
+-- back to the file. In no circle of docs/trust.md, because no `yes` rests on it. Crates above import it, too.
 use Rattle.tsp_file.specs.Prelude.{ℕ, Bool, true, false, cond, List, [], take, drop, map, length, codes, Option, Some, None, ℤ, option_map_or, flat_map, enumerate_from, decimal, Point, WeightFormat, Listed, Field, NameKey, TypeKey, CommentKey, OtherKey, DimensionKey, EdgeWeightTypeKey, EdgeWeightFormatKey, NodeCoordTypeKey, DisplayDataTypeKey, shape_of, value_shape_of, field_word, kind_word, weight_kind_word, weight_format_word, coord_kind_word, display_kind_word, fields_in_order, nodes_to, cells_of_line, Step, SubsetRow, Branch, Leaf}
 use Rattle.std.specs.Prelude.{◌∷◌, ◌++◌}
 use Rattle.std.specs.Fmt.{signed_decimal}

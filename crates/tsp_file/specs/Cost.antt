@@ -1,6 +1,7 @@
 -- Circles 2 and 3 of docs/trust.md.
 -- The cost from one node of an instance to another, and the values of fields that a file may lack, such as scale 1.
--- Also what a valid file of each TYPE is sure to hold, with its ranges, for the methods of src/typed.rt.
+-- Also what a valid file of each TYPE is sure to hold, with its ranges, for the methods of src/typed.rt. Crates above
+-- import it, too.
 use Rattle.tsp_file.specs.Prelude.{All, sum_by, option_map, option_or, pos, ℕ, false, List, length, Some, None, ℤ, [], Option, unwrap_or, IsSome, IsTrue, slice_index_or, on_plane, euc_2d_of, ceil_2d_of, man_2d_of, max_2d_of, att_of, euc_3d_of, man_3d_of, max_3d_of, Point, most_matrix_nodes, most_weight, most_capacity, most_scale, most_load_unit, most_potential, most_triples, most_families, most_family_nodes, most_rows, is_listed, cells, Step, SubsetRow, row_size, IsFromTo, WeightFormat, Listed, ByFunction, WeightKind, Explicit, Euc2d, Ceil2d, Man2d, Max2d, Att, Euc3d, Man3d, Max3d, Layout, FullMatrix}
 use Rattle.std.specs.Prelude.{◌≡◌, ◌≤◌, ◌-◌}
 use Rattle.tsp_format.specs.Place.{place_of}

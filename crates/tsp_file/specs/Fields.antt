@@ -1,6 +1,7 @@
 -- Circles 1 and 2 of docs/trust.md.
 -- `Fields`: all that a file says, as lists and numbers. A text means the record to which it parses, and every
--- definition of a verdict is about such records. In the code, this is a `Draft` (src/draft.rt).
+-- definition of a verdict is about such records. In the code, this is a `Draft` (src/draft.rt). Crates above import it,
+-- too.
 use Rattle.tsp_file.specs.Prelude.{ℕ, Bool, true, List, [], Option, None, Some, unwrap_or, ℤ, pos, nat_abs, is_some, option_map, Point, Field, NameKey, TypeKey, CommentKey, OtherKey, DimensionKey, CapacityKey, ScaleKey, LoadUnitKey, EdgeWeightTypeKey, EdgeWeightFormatKey, NodeCoordTypeKey, DisplayDataTypeKey, NodeCoordPart, DisplayDataPart, DemandPart, DepotPart, FixedEdgesPart, EdgeWeightPart, TourPart, NodePotentialPart, RowPotentialPart, ColumnPotentialPart, FixedEdgePotentialPart, FamilyPart, MemoryPart, SubsetRowPart, BranchPart, is_spatial, WeightKind, WeightFormat, Step, SubsetRow}
 use Rattle.tsp_format.specs.declared.kinds.Kind.{Kind}
 use Rattle.tsp_format.specs.declared.kinds.CoordKind.{CoordKind}

@@ -1,6 +1,6 @@
 -- What `tsp convert --layout` makes of a file: the same costs in another layout, or the first reason why the layout
 -- can't hold them, with the printed words of the reason. src/relayout.rt promises it. In no circle of docs/trust.md,
--- because no `yes` rests on it.
+-- because no `yes` rests on it. Crates above import it, too.
 use Rattle.tsp_file.specs.Prelude.{ℕ, List, codes, decimal, Bool, false, map, Some, IsSome, IsTrue, Result, Ok, Err, ℤ, pos, IsNode, is_listed, cells, IsSymmetric, IsFirstAsymmetric, Listed, Explicit, Layout, FullMatrix}
 use Rattle.std.specs.Prelude.{◌++◌, ◌≡◌, ◌≢◌, ◌<◌, ◌⊎◌}
 use Rattle.tsp_file.specs.Cost.{cost}

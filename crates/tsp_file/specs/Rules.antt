@@ -1,6 +1,7 @@
 -- Circle 2 of docs/trust.md.
 -- The rules over several fields of a file: what a file of each TYPE must have and may not have. They are in order, and
 -- src/rules.rt promises to find the first that fails, which is the fault that a user sees. Its words are here, too.
+-- Crates above import it, too.
 use Rattle.tsp_file.specs.Prelude.{option_map, option_or, ℕ, List, codes, Bool, true, false, cond, not, [], length, Option, None, Some, is_some, cells, field_word, Field, TypeKey, DimensionKey, CapacityKey, EdgeWeightTypeKey, EdgeWeightFormatKey, NodeCoordPart, DemandPart, DepotPart, EdgeWeightPart, TourPart, NodePotentialPart, RowPotentialPart, ColumnPotentialPart, FixedEdgePotentialPart, BranchPart, WeightFormat, WeightKind}
 use Rattle.std.specs.Prelude.{◌++◌, ◌&&◌, ◌||◌, ◌==◌, ◌∷◌}
 use Rattle.tsp_format.specs.declared.kinds.Kind.{Kind}

@@ -1,7 +1,7 @@
 -- Circle 2 of docs/trust.md.
 -- When a field is valid on its own, as tests that can be evaluated, which src/validity.rt and src/table.rt promise to
 -- make; Valid.antt says the same as statements. The ranges are this project's profile of TSPLIB 95, so a user's file
--- may become invalid by a change here.
+-- may become invalid by a change here. tsp_read and tsp_text import it, too.
 use Rattle.tsp_file.specs.Prelude.{ℕ, Bool, true, false, cond, not, nat_le, List, length, slice_index, Option, None, Some, ℤ, pos, neg_ℤ, int_le, option_map_or, list_all, find, sum_by, Point, Field, NameKey, CommentKey, OtherKey, DimensionKey, most_nodes, most_matrix_nodes, most_coordinate, most_weight, most_demand, most_kept_bytes, most_comments, most_others, most_depots, most_fixed, most_triples, most_multiplier, most_tour_nodes, most_families, most_family_nodes, most_rows, most_branches, most_changes, most_difference, keyword_of, is_unknown, shape_of, value_shape_of, is_blank, is_letter, is_keyword_byte, field_word, fields_in_order, Step, SubsetRow, row_size, Branch, Leaf, are_whole, branch_count, change_count}
 use Rattle.std.specs.Prelude.{◌+◌, ◌-◌, ◌*◌, ◌&&◌, ◌==◌}
 use Rattle.std.specs.Ordering.{int_eq}

@@ -1,5 +1,5 @@
 -- The pairs of a layout in the order of its cells, for the laws in src/layout.rt, and words that are found in a list,
--- for `value_of` in src/word.rt.
+-- for `value_of` in src/word.rt. Crates above import it, too.
 use Rattle.std.proofs.Common.{◌≡◌, ℕ, Bool, List, [], ◌∷◌, ◌++◌, refl, ap, ◌∙◌, ◌≢◌, suc, zero, ◌+◌, ◌-◌, ◌<◌, true, false, cond, length, get_or, map, sym, subst, arith, min, ◌*◌, ◌/◌, ◌≤◌, Option, None, Some}
 use Rattle.std.proofs.lemmas.Bool.Decides.{nat_tests}
 use Rattle.std.proofs.lemmas.List.{length-map, get_or-map}

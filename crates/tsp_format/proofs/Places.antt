@@ -1,5 +1,5 @@
 -- The formula for the place of a pair gives the place of its cell in the list of its layout, and other pairs have none
--- (src/layout.rt).
+-- (src/layout.rt). tsp_cost and tsp_file import it, too.
 use Rattle.std.proofs.Common.{◌≡◌, ◌≢◌, ℕ, suc, zero, min, max, ◌+◌, ◌-◌, ◌*◌, ◌/◌, ◌<◌, ◌≤◌, Bool, true, false, cond, List, [], ◌∷◌, ◌++◌, length, get_or, map, Some, None, refl, sym, ap, subst, ◌∙◌, ⊎_elim, arith, length-append}
 use Rattle.std.specs.Prelude.{nat_lt, nat_le, ◌==◌, IsTrue, Decides}
 use Rattle.std.specs.List.{filter, flat_map, range_with_len, position_or_len, Contains}

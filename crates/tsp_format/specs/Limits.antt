@@ -1,6 +1,6 @@
 -- Circle 2 of docs/trust.md.
 -- The limits of files, which field the first word of a line names, and what shape each section has. A limit here is the
--- one that docs/format.md promises; src/limits.rt has to agree.
+-- one that docs/format.md promises; src/limits.rt has to agree. Crates above import it, too.
 use Rattle.std.specs.List.{find}
 use Rattle.std.specs.Prelude.{ℕ, Bool, true, false, cond, List, Option, None, Some, codes, is_some, ℤ, pos, neg_ℤ, ◌≤ℤ◌}
 use Rattle.std.specs.Str.{bytes_eq}

@@ -1,7 +1,7 @@
 -- Circle 1 of docs/trust.md.
 -- The nodes 1 to n of a problem, and the cells of each layout of a matrix, in the order in which a file lists them.
 -- src/layout.rt promises this order, and the cost that a listed weight means is found by it. Almost every definition
--- and contract above that names a node uses `IsNode`.
+-- and contract above that names a node uses `IsNode`. Crates above import it, too.
 use Rattle.std.specs.List.{range_with_len, filter, flat_map}
 use Rattle.std.specs.Prelude.{ℕ, ◌≤◌, List, ◌+◌, ◌-◌, ◌*◌, ◌/◌, Bool, true, false, map, nat_lt, nat_le, if◌then◌else◌}
 use Rattle.tsp_format.specs.declared.layout.Layout.{Layout}

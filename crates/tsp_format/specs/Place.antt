@@ -1,6 +1,6 @@
 -- Circle 3 of docs/trust.md.
 -- The place of a pair among the cells of a layout, as a formula, by which src/layout.rt looks up a cost. It is proved
--- to be the place in the order of Nodes.antt, so nobody has to check the arithmetic.
+-- to be the place in the order of Nodes.antt, so nobody has to check the arithmetic. Crates above import it, too.
 use Rattle.std.specs.Prelude.{ℕ, ◌+◌, ◌-◌, ◌*◌, ◌/◌, Bool, ◌&&◌, ◌==◌, Option}
 use Rattle.std.specs.List.{position}
 use Rattle.tsp_format.specs.declared.layout.Layout.{Layout}

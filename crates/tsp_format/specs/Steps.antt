@@ -1,7 +1,7 @@
 -- Circles 1 and 3 of docs/trust.md.
 -- The steps of a tree of cases, as BRANCH_SECTION lists them, subset rows, and ranges of whole numbers: what
 -- certificates by branching are made of, for tours and for routes. tsp_text defines which steps a text means, and
--- tsp_cases and tsp_routing which bound they give.
+-- tsp_cases and tsp_routing which bound they give. Crates above import it, too.
 use Rattle.std.specs.Prelude.{ℤ, ◌≤ℤ◌, ℕ, zero, suc, ◌+◌, Bool, true, false, List, [], ◌∷◌, length}
 
 -- z is from `least` to `most`

@@ -1,7 +1,7 @@
 -- Circle 2 of docs/trust.md.
 -- The words of TSPLIB 95 as values: which bytes are blanks and letters, the spelling of each field, layout, TYPE and
 -- weight type, and which costs are symmetric. src/word.rt, src/keyword.rt and src/kinds.rt promise them. A word that
--- isn't here is not read.
+-- isn't here is not read. Crates above import it, too.
 use Rattle.std.specs.List.{find}
 use Rattle.std.specs.Option.{option_map_or}
 use Rattle.std.specs.Prelude.{ℕ, Bool, not, ◌&&◌, ◌||◌, ◌==◌, nat_le, List, codes, true, false, Option, ◌≡◌, ◌≢◌, ◌<◌, ◌⊎◌, None, Some, ℤ, [], ◌∷◌, refl}

@@ -1,6 +1,6 @@
 -- How a text gets to a writer in parts (`Puts`, src/piece.rt): parts add up, a failed writer gets nothing more, and
 -- after the last part the whole text was taken or a prefix of it. Each writer of lines in higher crates is proved by
--- these.
+-- these. tsp_file and tsp_report import it, too.
 use Rattle.std.proofs.Common.{◌≡◌, ℕ, ◌+◌, Bool, true, false, List, [], ◌∷◌, ◌++◌, length, take, drop, Option, refl, sym, ap, subst, ◌∙◌, append_assoc, append-nil, arith, ◌<◌, ◌≤◌, get_or, map, ◌==◌}
 use Rattle.std.proofs.KnownBytes.{Appends-nil, Appends-trans, Appends-kept}
 use Rattle.std.proofs.Math.Seq.{take-append_seam}

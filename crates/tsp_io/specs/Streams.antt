@@ -1,6 +1,6 @@
 -- Circle 2 of docs/trust.md.
 -- A reader (`ReadTrace`) and a writer (`Sink`) before and after a call: the bytes that were delivered or taken, and
--- whether it failed. The contract of every run says by these what was read and written.
+-- whether it failed. The contract of every run says by these what was read and written. Crates above import it, too.
 use Rattle.std.specs.Io.KnownBytes.{Keeps, Consumes, Appends}
 use Rattle.std.specs.Prelude.{◌≡◌, ℕ, ◌≤◌, Bool, true, false, List, length, Option, IfSome, take, Result, Ok, Err, codes}
 use Rattle.tsp_io.specs.declared.piece.WriteFault.{WriteFault}

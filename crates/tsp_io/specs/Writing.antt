@@ -1,5 +1,6 @@
 -- Which writes fail, and that a failed write left a writer in its state: the cause of `output: device`. src/watched.rt
 -- promises it, and so does the clause `cause` of each run. In no circle of docs/trust.md, because no `yes` rests on it.
+-- tsp_judge imports it, too.
 use Rattle.std.specs.Prelude.{◌≡◌, ℕ, Bool, true, List, length, Result, Ok, Err, ◌&&◌, ◌==◌, nat_lt}
 use Rattle.std.specs.declared.io.Error.{Error}
 

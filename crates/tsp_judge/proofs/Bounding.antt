@@ -1,5 +1,5 @@
 -- For src/bound_run.rt, src/convert_run.rt and src/opened.rt: runs of `tsp bound`, `show` and `convert`, and instances
--- that are open.
+-- that are open. tsp_c imports it, too.
 use Rattle.tsp_judge.proofs.Prelude.{◌≡◌, ◌∙◌, length, Some, sym, Bool, true, false, Result, Ok, Err, refl, subst, inl, inr, Option, None, ℕ, List, IsTrue, ℤ, ReadTrace, IsUnread, Sink, IsUnwritten, Writes, Fields, IsFile, IsProblem, problem_of, routing_of, depots_of, bound_report_of, is_bound_yes, CertificateKind, AppliesToInstanceBy, AppliesToBounded, IsBoundVerdict, is_bounded, BoundsSolutionsBy, BoundsSolutions, HasNoSolutionBy, HasNoSolution, strict_reason}
 use Rattle.std.proofs.lemmas.Bool.{false≢true}
 use Rattle.tsp_io.specs.declared.piece.WriteFault.{WriteFault}

@@ -1,4 +1,5 @@
--- For src/check.rt and src/bound_run.rt: what a run that ends with `yes` means for the files that it has read.
+-- For src/check.rt and src/bound_run.rt: what a run that ends with `yes` means for the files that it has read. tsp_c
+-- imports it, too.
 use Rattle.tsp_judge.proofs.Prelude.{◌≡◌, Result, Ok, ℕ, [], length, Bool, true, false, Option, Some, None, Err, refl, sym, subst, inl, inr, arith, ◌≢◌, ◌<◌, eqb, List, ◌∷◌, ap, ◌∙◌, ℤ, pos, negsuc, ◌≤◌, ◌^◌, unsigned_abs, ◌⊎◌, ◌≤ℤ◌, IsTrue, unwrap_or, if◌then◌else◌, ReadTrace, IsUnread, Sink, IsUnwritten, Fields, nodes_of, IsFile, most_taken, IsProblem, depot_of, problem_of, routing_of, depots_of, IsGapSized, IsSized, report_of, is_yes, CertificateKind, is_bounded, IsBoundFitting, IsCertifiedTourVerdict, IsCertifiedRoutesVerdict, IsCertifiedVerdictBy, kind_of, AppliesToCertificateBy, AppliesToCertificate, IsCertifiedVerdict, is_judged, IsVerdictBy, IsUnclaimedVerdict, IsVerdictWith, strict_verdict, IsVerdictAsked, HasLength, IsAsClaimed, strict_reason}
 use Rattle.std.proofs.lemmas.Bool.{false≢true, cases_lt}
 use Rattle.std.proofs.lemmas.Bool.Decides.{eqb_tells}

@@ -1,7 +1,7 @@
 -- Circle 1 of docs/trust.md.
 -- The six meanings of the line `yes`, over the files that were read and the report that was printed, and the meaning of
 -- `optimal` in a comparison. The runs in CheckRun.antt and BoundRun.antt promise them, and so do the calls for C. A
--- change here changes what users are told, so have someone review it.
+-- change here changes what users are told, so have someone review it. example_check and tsp_c import it, too.
 use Rattle.tsp_judge.specs.Prelude.{ℕ, List, [], length, Option, None, Some, ℤ, Fields, IsProblemOf, IsRoutingOf, report_of, bound_report_of, CertificateKind, kind_of, IsBoundOf}
 use Rattle.std.specs.Prelude.{◌≡◌, ◌⊎◌, ◌≤◌, ◌∷◌, ◌≤ℤ◌}
 use Rattle.tsp_format.specs.Nodes.{nodes_to}

@@ -1,6 +1,6 @@
 -- Circle 2 of docs/trust.md.
 -- A run of `tsp bound`: the files that are read, the bound, the report, and what its line `yes` means (`SaysBound`).
--- `run_bound` in src/bound_run.rt promises `IsBoundRunOf`.
+-- `run_bound` in src/bound_run.rt promises `IsBoundRunOf`. tsp_c imports it, too.
 use Rattle.tsp_judge.specs.Prelude.{ℕ, List, Bool, true, false, Result, Ok, Err, IsTrue, ReadTrace, IsUnread, Sink, IsUnwritten, HasWritten, HasStopped, Fields, IsFile, StopsAt, bound_report_of, is_bound_yes, CertificateKind, NoneAgainstInstance, is_bounded, NoneWithoutMemory, IsBoundAsked, IsJudgedWhole}
 use Rattle.std.specs.Prelude.{◌≡◌, ◌⊎◌}
 use Rattle.tsp_io.specs.declared.piece.WriteFault.TheVariants as write_faults

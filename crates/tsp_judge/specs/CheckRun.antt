@@ -1,6 +1,6 @@
 -- Circle 2 of docs/trust.md.
 -- A run of `tsp check`: the files that are read, the verdict, the report, and what its line `yes` means (`SaysYes`).
--- `run` in src/check.rt promises `IsRunOf`.
+-- `run` in src/check.rt promises `IsRunOf`. Crates above import it, too.
 use Rattle.tsp_judge.specs.Prelude.{ℕ, List, Bool, true, false, Result, Ok, Err, Option, None, Some, IsTrue, ℤ, ReadTrace, IsUnread, Sink, IsUnwritten, HasWritten, HasStopped, Fields, IsFile, StopsAt, report_of, is_yes, CertificateKind, Verdict, is_judged, NoneBeforeRepeatsOn, IsVerdictAsked, TakesAtMost, read_trace_of, most_taken, IsReadOn, IsJudgedWhole}
 use Rattle.std.specs.Prelude.{◌≡◌, ◌⊎◌}
 use Rattle.tsp_io.specs.declared.piece.WriteFault.TheVariants as write_faults

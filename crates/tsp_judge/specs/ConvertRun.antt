@@ -1,5 +1,5 @@
 -- Runs of `tsp show` and `tsp convert`: the file that is read, and the bytes that are written. src/convert_run.rt
--- promises them. They print no `yes`, so this is in no circle of docs/trust.md.
+-- promises them. They print no `yes`, so this is in no circle of docs/trust.md. tsp_c imports it, too.
 use Rattle.tsp_judge.specs.Prelude.{Result, Ok, Err, Option, None, Some, ReadTrace, Sink, IsUnwritten, HasWritten, HasStopped, Fields, IsFile, StopsAt}
 use Rattle.std.specs.Prelude.{◌≡◌}
 use Rattle.tsp_io.specs.declared.piece.WriteFault.TheVariants as write_faults

@@ -1,5 +1,5 @@
 -- For src/scan.rt and src/shift.rt: digits found by one scan, and moved by the exponent, with values that stop at 64
--- bits.
+-- bits. tsp_read imports it, too.
 use Rattle.tsp_number.proofs.Prelude.{◌≡◌, ℕ, ◌+◌, ◌*◌, ◌<◌, ◌≤◌, List, [], ◌∷◌, ◌++◌, length, take, drop, Option, Some, None, ℤ, refl, arith, true, false, Bool, suc, ◌==◌, ◌||◌, length-append, ap, ◌∙◌, if◌then◌else◌, nat_lt, ◌≢◌, ◌-◌, ◌^◌, ◌/◌, ◌%◌, ◌&&◌, append_assoc, length-drop, take-append-drop, pos, negsuc, ◌+ℤ◌, ◌-ℤ◌, ◌≤ℤ◌, ◌⊎◌, inl, inr, sym, zero, subst, pow-le-pow_right, pow-suc, mul-le-mul, mul-mod_left, one-le-pow, cases_eq, cases_lt, nat_tests, ints, div-add-mod', same_from_place, digit_value_digit, digit_value, is_ascii_digit, list_all, option_map, AllDigits, digits_value, digits_value_after}
 use Rattle.std.proofs.lemmas.Grind.{common_steps}
 use Rattle.std.proofs.lemmas.Int.Digits.{digits_value-lt}

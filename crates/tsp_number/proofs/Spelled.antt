@@ -1,5 +1,5 @@
 -- For src/spelling.rt: digits written in pairs, without zeros that aren't needed, are the spelling of a decimal, and
--- the spelling reads back as the decimal.
+-- the spelling reads back as the decimal. tsp_file imports it, too.
 use Rattle.tsp_number.proofs.Prelude.{◌≡◌, ℕ, ◌+◌, ◌*◌, ◌/◌, ◌%◌, ◌^◌, ◌<◌, ◌≤◌, [], ◌∷◌, ◌++◌, ◌==◌, ◌≢◌, inl, inr, false, zero, suc, refl, sym, ap, ◌∙◌, arith, pow-add, length, ◌-◌, Bool, true, List, Result, Ok, ℤ, pos, negsuc, subst, unsigned_abs, append-nil, length-append, ◌&&◌, T, eqb, get_or, eqb→eq, pow-suc, div-div-eq-div-mul, add-mul-mod_self_right, add-mul-div_right, mod-eq_of_lt, div-one, mul-div-mul_right, mod-le, zero-mod, cases_eq, cases_lt, nat_tests, ints, mod-mul-add, mul-le, mod_below, div_below, div-add-mod', digit_value_digit, digit_value, AllDigits, digits_value}
 use Rattle.std.proofs.lemmas.Fmt.{length-decimal-le, decimal_is_IsNumeral}
 use Rattle.std.specs.Fmt.{decimal}

@@ -1,5 +1,5 @@
 -- A number word means at most one number, and reading it gives exactly one answer, which `decimal_of` and `whole_of`
--- compute. For src/word.rt, and for the laws on number words.
+-- compute. For src/word.rt, and for the laws on number words. tsp_read imports it, too.
 use Rattle.tsp_number.proofs.Prelude.{◌≡◌, ◌≢◌, ℕ, ◌+◌, ◌*◌, ◌/◌, ◌%◌, ◌^◌, ◌==◌, ◌&&◌, Bool, true, false, List, length, Option, Some, None, Result, Ok, Err, if◌then◌else◌, ℤ, pos, negsuc, ◌*ℤ◌, ◌≤ℤ◌, ◌<ℤ◌, ◌⊎◌, inl, inr, refl, arith, ap, sym, ◌∙◌, subst, unsigned_abs, nat_le, int_le, eq_of_mul-eq-mul_right, mul-mod_left, div-add-mod', MatchBool, nat_tests, ints, option_map}
 use Rattle.tsp_number.specs.declared.word.NumberFault.{NumberFault}
 use Rattle.tsp_number.specs.declared.word.NumberFault.TheVariants.{LongWord, BadNumber, TooFine, OutOfRange, NotWhole}

@@ -1,6 +1,6 @@
 -- Circles 1 and 2 of docs/trust.md.
 -- The unit of all coordinates, 10^-9, and how large a count of it may be. src/decimal.rt promises both numbers to code,
--- and docs/format.md to users.
+-- and docs/format.md to users. Crates above import it, too.
 use Rattle.std.specs.Prelude.{ℕ}
 
 -- the count of the number 1

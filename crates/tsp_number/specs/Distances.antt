@@ -2,7 +2,7 @@
 -- What each of TSPLIB's eight distances is, after Reinelt: the one whole number that satisfies some inequalities.
 -- src/distance.rt promises them, and tsp_file defines the costs of an instance by them. The meaning of every length
 -- rests on these, so a change here changes what `yes` promises. Further down, which distances grow as points move
--- apart; only searches need that.
+-- apart; only searches need that. Crates above import it, too.
 use Rattle.std.specs.Prelude.{◌≡◌, ℕ, zero, suc, Bool, nat_lt, nat_le, if◌then◌else◌, ◌+◌, ◌-◌, ◌*◌, ◌<◌, ◌≤◌, ◌-ℤ◌, unsigned_abs, max, ℤ, pos}
 use Rattle.tsp_number.specs.Decimal.{unit, most_count}
 use Rattle.tsp_number.specs.declared.decimal.Point.{Point}

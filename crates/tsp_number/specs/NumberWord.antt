@@ -1,7 +1,7 @@
 -- Circle 2 of docs/trust.md.
 -- The grammar of number words: the number that a word means, or its fault, and the one way in which a decimal is
 -- spelled. src/word.rt and src/spelling.rt promise it. Which files can be read, and the digits in canonical texts,
--- follow from here.
+-- follow from here. Crates above import it, too.
 use Rattle.std.specs.Char.{is_ascii_digit}
 use Rattle.std.specs.Fmt.{decimal}
 use Rattle.std.specs.Option.{option_map}

@@ -1,4 +1,5 @@
--- A line or word that begins in one piece of a text and ends in a later one (`Begun`, src/items.rt).
+-- A line or word that begins in one piece of a text and ends in a later one (`Begun`, src/items.rt). Crates above
+-- import it, too.
 use Rattle.tsp_read.proofs.Prelude.{◌≡◌, ap, Result, Ok, Err, ℕ, ◌+◌, ◌<◌, ◌≤◌, Bool, true, false, List, [], ◌∷◌, ◌++◌, length, refl, sym, subst, ◌∙◌, arith, append-nil, append_assoc, length-append, true≢false, false≢true, ltb-false, lt-ltb, le-ltb, or_parts, not, ◌&&◌, ◌||◌, nat_lt, ◌↔◌, ◌==◌, IsOk, OnOk, IsErrAnd, nil_from_test, most_line_bytes, is_blank, is_letter, start_filled, ends_line, is_not_empty, without_start, Item, LineEnd, ReadFault}
 use Rattle.tsp_read.proofs.IntakeSteps.{read_further, read_to_end, read_to_fault}
 use Rattle.tsp_read.proofs.LeftSteps.{letter_filled, left_none, before_on, from_on}

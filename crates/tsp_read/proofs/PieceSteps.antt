@@ -1,4 +1,5 @@
--- Pieces asked of a reader: each is needed, and together they give the file or the fault, for src/api.rt.
+-- Pieces asked of a reader: each is needed, and together they give the file or the fault, for src/api.rt. tsp_judge and
+-- tsp_solution import it, too.
 use Rattle.tsp_read.proofs.Prelude.{◌≡◌, ℕ, ◌+◌, ◌-◌, ◌≤◌, ◌<◌, Bool, true, false, List, [], ◌∷◌, ◌++◌, length, take, drop, take-append-drop, refl, sym, ap, subst, ◌∙◌, arith, Option, Some, None, Ok, Err, append-nil, length-append, ◌||◌, suc, Result, inl, inr, true≢false, false≢true, or_parts, take-append-le, none-some, ◌⊎◌, IfSome, not, ◌&&◌, is_err, watched, has_failed, most_file_bytes, Fields, fault_kept, settled_kept, ended_stays, part_kept, ended_kept, when, first_row, has_end_line, fault_in, IsClean, is_too_long, settled_part, settled_fault, fault, spelled, part, ParsesTo, ReadFault}
 use Rattle.std.proofs.KnownBytes.{Consumes-nil, Consumes-trans, Consumes-kept}
 use Rattle.std.specs.Io.KnownBytes.{Consumes, Keeps, IsAtEnd}

@@ -1,7 +1,7 @@
 -- Circle 2 of docs/trust.md.
 -- The result of reading a text, from memory, from a reader or in pieces: its file or its first fault, the same each
 -- way. Also how much is read at most, so that a reader is asked for no piece more than its text needs. src/api.rt
--- promises it, and tsp_judge and tsp_solution define their runs by it.
+-- promises it, and tsp_judge and tsp_solution define their runs by it. Crates above import it, too.
 use Rattle.tsp_read.specs.Prelude.{ℕ, zero, suc, Bool, false, List, Result, is_err, Some, Ok, Err, true, not, length, Option, None, is_some, take, most_file_bytes, Fields, Item, has_end_line, fault, ParsesTo, is_too_long, part, settled_part, settled_fault, ReadFault}
 use Rattle.std.specs.Io.KnownBytes.{IsAtEnd}
 use Rattle.std.specs.Prelude.{◌≡◌, ◌||◌, ◌+◌, ◌≤◌, ◌&&◌, ◌-◌, ◌⊎◌}

@@ -1,6 +1,7 @@
 -- Circle 2 of docs/trust.md.
 -- The bytes of the reports of `tsp check`, `tsp bound` and `tsp compare`, line by line, which src/report.rt and
--- src/compared.rt write. Each line ends with byte 10, and words are separated by one blank.
+-- src/compared.rt write. Each line ends with byte 10, and words are separated by one blank. tsp_c and tsp_judge import
+-- it, too.
 use Rattle.std.specs.Fmt.{signed_decimal}
 use Rattle.std.specs.List.{concat}
 use Rattle.std.specs.Option.{option_map_or}

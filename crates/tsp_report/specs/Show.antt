@@ -1,5 +1,6 @@
 -- The lines that `tsp show` prints for a file, which src/shown.rt writes. Each line ends with byte 10, and words are
--- separated by one blank. In no circle of docs/trust.md, because the lines contain no `yes`.
+-- separated by one blank. In no circle of docs/trust.md, because the lines contain no `yes`. tsp_c and tsp_judge import
+-- it, too.
 use Rattle.std.specs.Prelude.{ℕ, List, [], ◌∷◌, ◌++◌, length, codes, decimal, cond, ℤ, Option, None, Some, unwrap_or}
 use Rattle.std.specs.List.{flat_map, enumerate_from}
 use Rattle.std.specs.Option.{option_map_or}

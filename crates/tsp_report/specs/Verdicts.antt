@@ -1,6 +1,6 @@
 -- Circle 2 of docs/trust.md.
 -- The table of reasons, one row each, and which verdicts end with the line `yes`. src/verdict.rt is proved to have the
--- same table.
+-- same table. Crates above import it, too.
 use Rattle.std.specs.Prelude.{Bool, true, false, ℕ, List, Option, None, Some, codes, ℤ, pos}
 use Rattle.std.specs.Option.{option_map_or}
 use Rattle.tsp_report.specs.declared.task.Role.{Role}

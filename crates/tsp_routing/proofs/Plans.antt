@@ -1,5 +1,5 @@
 -- For the first laws in src/laws.rt: sums over the links of a plan, the number of its routes, and how often it leaves a
--- set of customers. Most theorems on plans rest on it.
+-- set of customers. Most theorems on plans rest on it. tsp_verdict imports it, too.
 use Rattle.tsp_routing.proofs.Prelude.{◌≡◌, ◌≢◌, ℕ, zero, suc, ◌+◌, ◌<◌, ◌≤◌, true, false, eqb, List, [], ◌∷◌, ◌++◌, length, refl, sym, ap, ◌∙◌, arith, inl, inr, ◌&&◌, ◌||◌, Bool, not, cond, suc_ℤ-*ℤ, zero-*ℤ, eqb-false, cases_Bool, both_ways, or_left, ints, recursion_from_All, All-from_recursion, All-contains, AllByRecursion, Contains, IsDistinct, concat, range_with_len, remove, list_any, ◌⊎◌, ℤ, pos, ◌+ℤ◌, ◌*ℤ◌, min, max, if◌then◌else◌, ◌≤ℤ◌, negsuc, int_lt, ◌-ℤ◌, most_nodes, nodes_to, one_if, none_or_one, twice, sum_below, sum_zero, sum_int_by-IsPermutation, length_by_first, length_by_second, sum_int_by-add, sum_int_by-scaled, IsScale, entry, weight_between, links, sum_int_by, RoutingProblem, IsCustomer, IsPlan, plan_length, length_of, crossing, weight_of, Comb, family_crossings}
 use Rattle.std.proofs.lemmas.Bool.Decides.{eqb_tells}
 use Rattle.std.proofs.lemmas.List.Folds.{Any-from_list_any}

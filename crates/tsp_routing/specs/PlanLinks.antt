@@ -1,6 +1,7 @@
 -- Circles 1 and 3 of docs/trust.md.
 -- The links of a plan, the sets of customers that routes cross, what a set demands, and how often a plan crosses it, at
 -- least and at most. Accepted.antt in tsp_judge uses `IsFilledPlan`, a plan without empty routes, and its bounds.
+-- tsp_verdict imports it, too.
 use Rattle.tsp_routing.specs.Prelude.{All, ℕ, List, [], length, ℤ, pos, nat_abs, max, min, Bool, true, false, not, zero, suc, most_nodes, IsNode, nodes_to, links, sum_int_by, RoutingProblem, IsCustomer, IsPlan, plan_length, IsLeastRoutes, family_crossings, Family, Decision}
 use Rattle.std.specs.Prelude.{◌≡◌, ◌≢◌, ◌∷◌, ◌++◌, ◌≤◌, ◌-◌, ◌+ℤ◌, ◌-ℤ◌, ◌*ℤ◌, ◌≤ℤ◌, ◌+◌, ◌*◌, ◌/◌, ◌==◌, if◌then◌else◌, ◌&&◌, ◌⊎◌}
 use Rattle.tsp_theory.specs.Tree.{weight_of, crossing}

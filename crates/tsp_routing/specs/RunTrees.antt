@@ -1,6 +1,6 @@
 -- Circle 3 of docs/trust.md.
 -- Memories and subset rows of a certificate for routes, and its bound by least runs, as a theorem. Also which lists and
--- rows are good: src/judged_memory.rt finds the first bad one, which becomes a reason.
+-- rows are good: src/judged_memory.rt finds the first bad one, which becomes a reason. tsp_verdict imports it, too.
 use Rattle.tsp_routing.specs.Prelude.{All, ℕ, nat_le, Bool, true, List, [], map, take, drop, length, ℤ, pos, slice_index_or, Option, Some, None, Step, Branch, Leaf, entry, RoutingProblem, IsCustomer, LeafNumbers, CaseStep, are_case_trees, leaves_of, Family, HasEachOnce, Decision, AreGoodLeavesBy, IsFirstBadLeafBy, listed_steps, IsScale}
 use Rattle.std.specs.Prelude.{◌+◌, ◌-◌, ◌*◌, ◌≡◌, ◌≢◌, ◌≤◌, ◌<◌, ◌≤ℤ◌, ◌*ℤ◌, ◌==◌, ◌∷◌, ◌++◌, ◌⊎◌, if◌then◌else◌}
 use Rattle.tsp_theory.specs.First.{IsFirstBad}

@@ -1,5 +1,5 @@
 -- The words of a section in groups, and that its pairs and fixed pairs are valid if no word has a fault.
--- ValidItems.antt puts it together with the other sections.
+-- ValidItems.antt puts it together with the other sections. tsp_read imports it, too.
 use Rattle.tsp_text.proofs.Prelude.{◌≡◌, ℕ, suc, ◌+◌, ◌*◌, ◌<◌, ◌≤◌, Bool, true, false, cond, ◌||◌, List, [], ◌∷◌, ◌++◌, length, map, refl, sym, ap, ◌∙◌, append_assoc, append-nil, arith, subst, None, eqb-true, eqb-false, true≢false, and_from, not_from_false, false≢true, length_push, map_push, take_all, length-map, list_any-append, list_any, list_all, ◌==◌, ℤ, take, not, ◌&&◌, nat_le, result_err, most_fixed, FixedEdgesPart, is_node, is_pair_of, are_fixed}
 use Rattle.tsp_text.proofs.ValidKeywords.{any_kept, before_kept, before_none, before_end, any_push, read_node, read_listed, differ, few_more, first_of_both}
 use Rattle.tsp_text.proofs.ValidRows.{is_taken, Grows, grown}

@@ -1,5 +1,5 @@
 -- The first fault of a text, once settled, is that of every longer text, and every text has one answer: the main laws
--- of src/laws.rt.
+-- of src/laws.rt. tsp_read imports it, too.
 use Rattle.tsp_text.proofs.Prelude.{◌≡◌, List, ◌∷◌, None, ap, ◌∙◌, [], ◌++◌, refl, sym, Option, Some, ◌≢◌, ℕ, Bool, true, false, Result, Ok, Err, ◌+◌, ◌-◌, cond, length, reverse, subst, arith, inl, inr, append_assoc, take, true≢false, false≢true, ltb-true, ltb-false, lt-leb, append-nil, reverse-append, take_all, take-append-le, list_any-append, option_or, option_map, ◌&&◌, ◌||◌, not, nat_lt, codes, ℤ, pos, negsuc, neg_ℤ, if◌then◌else◌, most_word_bytes, most_weight, most_nodes, most_families, most_rows, most_file_bytes, Field}
 use Rattle.std.proofs.Math.Seq.{take-append-add}
 use Rattle.std.proofs.lemmas.Option.{none-some, same_Some}

@@ -1,5 +1,5 @@
 -- The settled items of a text are the items of every longer text, whatever blanks stand around its lines.
--- SettledFaults.antt goes on from here.
+-- SettledFaults.antt goes on from here. tsp_read imports it, too.
 use Rattle.tsp_text.proofs.Prelude.{◌≡◌, ℕ, ◌+◌, true, false, cond, List, [], ◌∷◌, ◌++◌, length, drop, reverse, sym, ap, ◌∙◌, arith, Bool, map, refl, subst, inl, inr, length-append, false≢true, ltb-true, lt-ltb, nil_from_length, reverse-append, reverse-reverse, prefix_len, filter, slice_split, onto_first, ◌⊎◌, nat_lt, most_word_bytes, most_line_bytes, is_blank, is_letter}
 use Rattle.std.proofs.Math.Numerals.{one-add}
 use Rattle.tsp_text.specs.Items.{without_start, without_end, ends_line, lines_of, words_in, is_not_empty, begins, Item, Line, NumberWord, LineEnd, line_item, items_in, items_by, items_of, settled_pieces, settled_words, settled_line, settled_in, settled_items}

@@ -1,6 +1,7 @@
 -- Circle 2 of docs/trust.md.
 -- Which file a text parses to, or its first fault, and the printed words for each fault. Every text has exactly one of
 -- the two. tsp_read promises to find it, and every statement about a file reaches a user's bytes through `ParsesTo`.
+-- Crates above import it, too.
 use Rattle.tsp_text.specs.Prelude.{find, filter, ℕ, List, codes, decimal, [], Option, None, Some, Bool, true, false, cond, ℤ, pos, neg_ℤ, not, nat_lt, length, take, reverse, Result, Ok, Err, number_fault_text, most_demand, most_potential, is_section_field, most_file_bytes, most_matrix_nodes, Field, NameKey, TypeKey, CommentKey, CapacityKey, ScaleKey, LoadUnitKey, EdgeWeightTypeKey, EdgeWeightFormatKey, NodeCoordTypeKey, DisplayDataTypeKey, NodeCoordPart, DisplayDataPart, DemandPart, DepotPart, FixedEdgesPart, EdgeWeightPart, TourPart, NodePotentialPart, RowPotentialPart, ColumnPotentialPart, FixedEdgePotentialPart, FamilyPart, MemoryPart, SubsetRowPart, BranchPart}
 use Rattle.std.specs.Option.{option_or, option_map}
 use Rattle.std.specs.Prelude.{◌++◌, ◌≡◌, ◌∷◌, ◌&&◌}

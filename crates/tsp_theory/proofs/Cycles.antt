@@ -1,5 +1,5 @@
 -- Steps 3 and 4 of the cut argument in docs/proof.md: a tour is a 1-tree, and no cycle is shorter than the bound. Also
--- weak duality, for an ATSP.
+-- weak duality, for an ATSP. Crates above import it, too.
 use Rattle.tsp_theory.proofs.Prelude.{◌≡◌, ◌≢◌, ℕ, ◌≤◌, ◌<◌, suc, ◌+◌, List, [], ◌∷◌, length, get_or, refl, sym, ap, subst, ◌∙◌, arith, Bool, true, false, not, eqb, cond, map, inl, inr, ◌*◌, ◌^◌, ◌++◌, to_z, of_z, zero, ◌-◌, take, drop, length-append, drop-cons, cases_Bool, or_parts, or_cases, both_ways, ne_eqb, eqb-true, eqb-false, cases_eq, ints, to_z-of_z, fits_signed_from_abs, append-nil, take-append-drop, recursion_from_All, IsPermutation-sym, IsPermutation-append_comm, Contains-permutation, w64, w128, range_with_len, AllByRecursion, IsDistinct, list_any, AllPairs, Contains, ℤ, pos, ◌+ℤ◌, ◌*ℤ◌, ◌≤ℤ◌, negsuc, ◌-ℤ◌, neg_ℤ, FitsSigned, IsNode, nodes_to}
 use Rattle.std.proofs.lemmas.List.FromFn.{length-range_with_len, get_or-range_with_len}
 use Rattle.std.proofs.lemmas.Map.Keys.{IsDistinct-head, IsDistinct-tail, IsDistinct-cons, IsDistinct-IsPermutation}

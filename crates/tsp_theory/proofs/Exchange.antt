@@ -1,5 +1,5 @@
 -- The exchange: among pairs that join all nodes, one that leaves a part can be replaced by any other that leaves it.
--- Step 2 of the cut argument in docs/proof.md rests on it.
+-- Step 2 of the cut argument in docs/proof.md rests on it. tsp_bound and tsp_cases import it, too.
 use Rattle.tsp_theory.proofs.Prelude.{◌≡◌, ℕ, ◌+◌, Bool, true, false, not, ◌&&◌, ◌||◌, ◌==◌, cond, List, [], ◌∷◌, ◌++◌, length, length-append, get_or, ℤ, ◌≤ℤ◌, ◌⊎◌, inl, inr, refl, arith, ap, ap₂, sym, ◌∙◌, subst, cases_Bool, cases_eq, and_from, and_left, and_right, or_left, or_right, or_from, or_cases, or_parts, both_ways, false_from_ne_true, not-true, cond_both, eqb-true, eq-eqb, ne_eqb, get_or_append_left, get_or-append-add, All-nil, All-cons, All-head, All-tail, All-append, All-weaker, IsPermutation-refl, IsPermutation-sym, IsPermutation-trans, IsPermutation-cons, IsPermutation-append_right, IsPermutation-middle, IsPermutation-filter_both, All-permutation, All, list_any, filter}
 use Rattle.std.proofs.lemmas.List.Folds.{list_any_none}
 use Rattle.std.specs.List.Sorted.{IsPermutation}

@@ -1,5 +1,5 @@
 -- Step 5 of the cut argument in docs/proof.md: how often a cycle uses a pair or crosses a part, and bounds with numbers
--- on pairs.
+-- on pairs. Crates above import it, too.
 use Rattle.tsp_theory.proofs.Prelude.{◌≡◌, ℕ, Bool, true, false, not, cond, List, [], ◌∷◌, ℤ, ◌+ℤ◌, ◌≤ℤ◌, ◌⊎◌, inl, inr, refl, arith, ap, sym, ◌∙◌, ◌≢◌, zero, suc, ◌≤◌, ◌==◌, ◌&&◌, ◌||◌, subst, length, ap₂, subst₂, cases_Bool, both_ways, cases_eq, false_from_ne_true, and_parts, and_from, or_cases, or_left, or_right, eqb-true, eq-eqb, ne_eqb, ints, All-from_recursion, All-contains, recursion_from_All, AllByRecursion, Contains, AllPairs, list_any, pos, if◌then◌else◌, ◌-ℤ◌, ◌*ℤ◌}
 use Rattle.std.proofs.Math.Bool.{or_comm}
 use Rattle.std.proofs.lemmas.Bool.Decides.{nat_tests}

@@ -1,5 +1,5 @@
 -- Step 2 of the cut argument in docs/proof.md: least joins, found one after the other, make a least tree and a minimum
--- 1-tree.
+-- 1-tree. Crates above import it, too.
 use Rattle.tsp_theory.proofs.Prelude.{◌≡◌, ℕ, zero, suc, ◌+◌, ◌≤◌, ◌==◌, Bool, true, false, List, [], ◌∷◌, ◌++◌, length, append_assoc, append-nil, ℤ, ◌+ℤ◌, ◌≤ℤ◌, inl, inr, refl, arith, ap, sym, ◌∙◌, subst, ◌≢◌, ◌<◌, not, ◌||◌, cond, map, ltb, take, drop, to_z, of_z, cases_eq, both_ways, true_from_ne_false, eqb-true, cases_Bool, ne_eqb, ltb-true, ltb-false, eqb-false, cond_both, or_left, or_parts, eq-eqb, ints, to_z-of_z, length-map, get_or-set_same, get_or-set_other, All-nil, All-cons, All-head, All-tail, All-push, All-weaker, recursion_from_All, All-from_recursion, All-permutation, length_permutation, w64, All, list_any, AllByRecursion, filter, ◌<ℤ◌, int_lt, FitsSigned}
 use Rattle.std.proofs.Math.ListN.{set}
 use Rattle.std.proofs.Math.Seq.{take-append_seam}

@@ -1,6 +1,7 @@
 -- Circle 3 of docs/trust.md.
 -- The lower bounds that numbers on nodes give: by minimum 1-trees under potentials, with or without numbers on pairs,
--- and by duals of an assignment. The theorems are stated here, too; src/laws.rt proves them.
+-- and by duals of an assignment. The theorems are stated here, too; src/laws.rt proves them. Crates above import it,
+-- too.
 use Rattle.std.specs.List.{All, AllPairs}
 use Rattle.std.specs.Prelude.{◌≡◌, ◌≢◌, ℕ, ◌-◌, ◌^◌, ◌*◌, ◌≤◌, List, length, slice_index_or, ℤ, pos, neg_ℤ, ◌*ℤ◌, ◌≤ℤ◌, ◌+◌, ◌+ℤ◌, ◌-ℤ◌, ◌==◌, ◌&&◌, ◌||◌, Bool, false, if◌then◌else◌, [], ◌<ℤ◌}
 use Rattle.tsp_format.specs.Limits.{most_scale, most_potential, most_triples, most_multiplier, most_weight}

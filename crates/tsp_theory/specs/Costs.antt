@@ -1,5 +1,6 @@
 -- Costs between nodes as rows, and boxes of the plane or space with the points in them: the words in which the
 -- shortcuts of the trait `Costs` are promised. In no circle of docs/trust.md, because no bound is defined by them.
+-- tsp_bound and tsp_cost import it, too.
 use Rattle.std.specs.Prelude.{◌≡◌, ℕ, ℤ, List, slice_index_or, pos, neg_ℤ, ◌≤ℤ◌}
 use Rattle.tsp_number.specs.declared.decimal.Point.{Point}
 use Rattle.tsp_format.specs.Limits.{most_weight}

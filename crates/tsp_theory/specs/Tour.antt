@@ -1,6 +1,6 @@
 -- Circles 1 and 3 of docs/trust.md.
 -- What a tour of a travelling salesman problem is, and what a plan of a routing problem is: cycles, their lengths, and
--- which nodes and customers they serve. Accepted.antt in tsp_judge defines `yes` by them.
+-- which nodes and customers they serve. Accepted.antt in tsp_judge defines `yes` by them. Crates above import it, too.
 use Rattle.std.specs.List.{All, AllPairs, Contains, concat}
 use Rattle.std.specs.Prelude.{◌≡◌, ◌≢◌, ℕ, Bool, true, false, List, [], ◌∷◌, length, ◌⊎◌, ℤ, pos, ◌+ℤ◌, ◌≤ℤ◌, ◌-◌, ◌≤◌, slice_index_or, ◌*ℤ◌}
 use Rattle.tsp_format.specs.Nodes.{IsNode}

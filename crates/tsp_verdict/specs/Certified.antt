@@ -1,7 +1,7 @@
 -- Circle 3 of docs/trust.md.
 -- What a certificate does to a verdict, by TYPE: its bound, the reasons against it, and the verdicts on a tour, on
 -- routes, and on an instance alone. Accepted.antt in tsp_judge uses `kind_of` and `IsBoundOf`; src/certificate.rt,
--- src/known_bound.rt and src/solution_verdict.rt promise the rest.
+-- src/known_bound.rt and src/solution_verdict.rt promise the rest. tsp_c imports it, too.
 use Rattle.tsp_verdict.specs.Prelude.{ℕ, Bool, true, false, List, [], Option, None, Some, ℤ, pos, neg_ℤ, length, IsFromTo, IsFirstAsymmetric, Kind, cost, fixed_of, Fields, nodes_of, length_of, BoundsTours, HasNoTour, demand_of, problem_of, routing_of, IsTourOf, depots_of, demands_of, depot_of, rank_of, CertificateKind, Reason, MultiplierNotFixed, BadFamily, TooFewNodes, NotSymmetric, DepotCount, DepotDemand, FixedEdgesInRoutes, Verdict}
 use Rattle.std.specs.Prelude.{◌≡◌, ◌⊎◌, ◌∷◌, ◌^◌, ◌≢◌, ◌<◌, ◌≤◌}
 use Rattle.tsp_format.specs.declared.kinds.Kind.TheVariants as kinds

@@ -1,6 +1,7 @@
 -- The verdict on a solution: with or without a certificate, a claimed length and `--strict`, and in a comparison by
 -- what is known about the instance. src/solution_verdict.rt promises it, and the runs of tsp_judge report it. In no
--- circle of docs/trust.md: Accepted.antt in tsp_judge says what an accepted verdict means, without this file.
+-- circle of docs/trust.md: Accepted.antt in tsp_judge says what an accepted verdict means, without this file. tsp_c
+-- imports it, too.
 use Rattle.tsp_verdict.specs.Prelude.{Bool, Option, None, Some, option_map, ℤ, IsTrue, ℕ, Kind, Fields, is_instance, IsLeastRoutes, capacity_of, CertificateKind, Reason, LengthClaimed, Verdict}
 use Rattle.std.specs.Prelude.{◌≡◌, ◌≢◌, ◌⊎◌}
 use Rattle.tsp_format.specs.declared.kinds.Kind.TheVariants as kinds

@@ -1,6 +1,6 @@
 -- The verdict on a tour or on routes without a certificate: the first reason that applies, in the order in which
 -- reasons are judged. src/tour.rt and src/routes.rt find it. The line `no` rests on it, and `yes` doesn't, so it is in
--- no circle of docs/trust.md.
+-- no circle of docs/trust.md. example_check and tsp_judge import it, too.
 use Rattle.tsp_verdict.specs.Prelude.{concat, All, Contains, ℕ, Bool, List, length, slice_index, slice_index_or, [], unwrap_or, false, None, Some, ℤ, pos, nodes_to, IsFirstAsymmetric, cost, fixed_of, Fields, nodes_of, is_tour_file, Uses, length_of, load_of, IsCustomer, demand_of, plan_length, IsLeastRoutes, is_directed, IsTourOf, demands_of, depot_of, IsPlanOf, depots_of, capacity_of, rank_of, Reason, NotASolution, TooFewNodes, NotSymmetric, Dimension, TourCount, TourLength, NodeOutOfRange, RepeatedNode, FixedEdgeUnused, DepotCount, DepotDemand, FixedEdgesInRoutes, DepotInRoute, Unserved, Overload, Verdict}
 use Rattle.std.specs.Prelude.{◌≡◌, ◌-◌, ◌<◌, ◌≤◌, ◌≢◌, ◌∷◌, ◌<ℤ◌}
 use Rattle.tsp_format.specs.declared.kinds.Kind.TheVariants as kinds

@@ -1,6 +1,7 @@
 -- Circle 2 of docs/trust.md.
 -- What `--strict` demands, and src/strict.rt tests: that the verdict ignores no line of the instance. It ignores a line
--- with an unknown keyword, and one whose field the TYPE or the weight type of the instance doesn't use.
+-- with an unknown keyword, and one whose field the TYPE or the weight type of the instance doesn't use. tsp_c and
+-- tsp_judge import it, too.
 use Rattle.tsp_verdict.specs.Prelude.{Bool, true, false, not, IsTrue, Option, None, Some, is_some, option_map, ℕ, List, [], Fields, Reason, NotJudged, NotUsed, Verdict}
 use Rattle.std.specs.Prelude.{◌≡◌, ◌&&◌, ◌∷◌}
 use Rattle.std.specs.List.{find}

@@ -78,6 +78,26 @@ class OfStates(Planted):
         self.assertEqual(self.faults("For `specs/Angles.antt` and specs/Angular.antt."), ["specs/Angular.antt isn't in code font"])
 
 
+class OfCratesAbove(Planted):
+    """What a head says of other crates that import the file."""
+
+    def unnamed(self, head: str) -> list[str]:
+        """The faults of this head over the definition of corners."""
+        file = self.root / "crates/low/specs/states/Corners.antt"
+        file.write_text(file.read_text().replace("Corners.", head, 1))
+        found = crates(self.root)
+        return Heads(found).unnamed(found["low"], found["low"].specs[-1])
+
+    def test_no_crate(self) -> None:
+        self.assertEqual(self.unnamed("For `specs/Angles.antt`."), ["middle imports it"])
+
+    def test_the_crate(self) -> None:
+        self.assertEqual(self.unnamed("For `specs/Angles.antt`. middle imports it, too."), [])
+
+    def test_crates_above(self) -> None:
+        self.assertEqual(self.unnamed("For `specs/Angles.antt`. Crates above import it, too."), [])
+
+
 class OfAllFiles(Planted):
     """What the head of any file may say."""
 

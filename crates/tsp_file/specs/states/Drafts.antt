@@ -1,7 +1,7 @@
 -- The fields of a `Draft` as the record `Fields` (`fields_of`), by which contracts see every draft and file: in
 -- `src/draft.rt` and `src/file.rt`, in tsp_read, and above. A new field needs its line there. The first half is for
 -- `src/relayout.rt` alone and may follow its code: which cells of a full matrix have their costs while the matrix is
--- made from half of one.
+-- made from half of one. Crates above import it, too.
 use Rattle.tsp_file.specs.Prelude.{All, option_map, ℕ, Some, Bool, true, false, nat_le, List, slice_index_or, ℤ, pos, map, on_plane, Point, most_weight, IsNode, cells_of_line, line_len_of, Listed, Layout, FullMatrix, UpperRow, LowerRow, UpperDiagRow, LowerDiagRow, UpperCol, LowerCol, UpperDiagCol, LowerDiagCol, subset_rows_of, steps_of}
 use Rattle.std.specs.Global.{Vec}
 use Rattle.std.specs.Prelude.{◌+◌, ◌≡◌, ◌≢◌, ◌-◌, ◌*◌, ◌<◌, ◌≤◌}

@@ -1,7 +1,7 @@
 -- What is found on the way to the judgement on the memories and subset rows of a certificate: all are good, or the
 -- first bad one (`AreMemoriesJudged`). `src/judged_memory.rt` promises it, and `src/plan_tree.rt` says in these words
 -- what a valid file ensures (`AreListsOf`, `AreRowsOf`). `IsGoodMemory` defines which are good, so the rest may follow
--- the code.
+-- the code. tsp_verdict imports it, too.
 use Rattle.tsp_routing.specs.Prelude.{Vec, All, ℕ, Bool, true, List, [], map, take, length, slice_index_or, Option, Some, None, IsNode, IsCustomer, has}
 use Rattle.std.specs.Prelude.{◌≡◌, ◌+◌, ◌≤◌, ◌<◌, ◌++◌, if◌then◌else◌}
 use Rattle.tsp_format.specs.Steps.{SubsetRow}
