@@ -5,19 +5,22 @@
 //! A list has no dominated states: of those with the same memory, only the lightest stays. A
 //! heavier one can be dropped because it would continue exactly as the lighter one does
 //! (`equal_states_go_on_alike` in `laws.rt`).
+//!
+//! For speed, each list has a floor, which is a weight that none of its states is below. A step
+//! that would take even the floor past the limit skips the list unread; most steps do.
 
 ghost use Rattle.std.specs.Prelude.{◌≡◌, ◌≤◌, ◌<◌, ◌+◌, ℕ, ℤ, List, length, IfOk, IfSome, ◌≢◌, ◌-◌, ◌*◌, ◌^◌, ◌≤ℤ◌, ◌↔◌};
 ghost use Rattle.tsp_format.specs.Steps.{SubsetRow};
 ghost use Rattle.tsp_routing.specs.KeptStates.{most_states};
 ghost use Rattle.tsp_routing.specs.Prelude.{[], pos, neg_ℤ, slice_index_or, IsTrue, IsNode, IsCustomer};
 ghost use Rattle.tsp_routing.specs.states.Demands.{load_at};
-ghost use Rattle.tsp_routing.specs.states.KeptLists.{count_in_lists, entry_count, AreRisingLists, AreRisingRows, IsStateRowIfFew, AreStateRowsIfFew, rules_of, IsLeafOf, IsStateRow, AreStateRows, IsSizedRow, AreSizedRows, IsKeptList, IsKeptListTo, AreSizedEntries, AreLeastOf, AreRising, AreInOrder, LastStandsFor, IsLeastAdded, list_in};
+ghost use Rattle.tsp_routing.specs.states.KeptLists.{count_in_lists, entry_count, AreRisingLists, AreRisingRows, IsStateRowIfFew, AreStateRowsIfFew, rules_of, IsLeafOf, IsStateRow, AreStateRows, IsSizedRow, AreSizedRows, IsKeptList, IsKeptListTo, AreSizedEntries, AreLeastOf, AreRising, AreInOrder, LastStandsFor, IsLeastAdded, list_in, IsFloor, IsFloorRow, AreFloors, floor_in};
 ghost use Rattle.tsp_routing.specs.states.RunTables.{item_lists};
 
 use crate::run_leaf::{RunLeaf, home_at};
 use crate::run_steps::{Serving, add_nexts, entry_at, first_entry};
 use std::alloc::Global;
-use tsp_io::{Refused, push, sort};
+use tsp_io::{Refused, push, sort, with_capacity};
 use tsp_theory::weight_in;
 
 /// A label: a memory, and the least weight of the starts of runs that end with it. The list that
@@ -51,12 +54,15 @@ pub(crate) fn kept_states(
     ensures sizes { IfOk result (λ found. IfSome found (λ table. AreSizedRows leaf.now.nodes.now.nodes table.items)) }
 {
     let mut table = Vec::new(alloc);
+    let mut floors = Vec::new(alloc);
     let mut count = 0;
     'loads: for load in 0..leaf.nodes.room + 1 {
-        let Some(next) = states_with(alloc, leaf, &table, &mut count)? else {
+        let Some(next) = states_with(alloc, leaf, &table, &floors, &mut count)? else {
             return Ok(None);
         };
+        let own = floors_of(alloc, &next)?;
         push(&mut table, next)?;
+        push(&mut floors, own)?;
     }
     Ok(Some(table))
 }
@@ -71,10 +77,12 @@ fn states_with(
     alloc: Global,
     leaf: &RunLeaf,
     table: &[Vec<Vec<KeptState>>],
+    floors: &[Vec<i128>],
     count: &mut usize,
 ) -> Result<Option<Vec<Vec<KeptState>>>, Refused>
     requires few { length table.now ≤ leaf.now.nodes.now.room }
     requires sizes { AreSizedRows leaf.now.nodes.now.nodes table.now }
+    requires floors { AreFloors table.now floors.now }
     requires rising { AreRisingRows table.now }
     requires count { count.old ≡ entry_count table.now }
     requires fits { count.old ≤ most_states }
@@ -91,7 +99,7 @@ fn states_with(
     let mut lists = Vec::new(alloc);
     push(&mut lists, Vec::new(alloc))?;
     'nodes: for index in 0..leaf.nodes.nodes {
-        let list = kept_list(alloc, leaf, table, index + 1)?;
+        let list = kept_list(alloc, leaf, table, floors, index + 1)?;
         if list.len() > MOST_STATES - *count {
             return Ok(None);
         }
@@ -112,11 +120,13 @@ fn kept_list(
     alloc: Global,
     leaf: &RunLeaf,
     table: &[Vec<Vec<KeptState>>],
+    floors: &[Vec<i128>],
     last: u32,
 ) -> Result<Vec<KeptState>, Refused>
     requires last { IsNode leaf.now.nodes.now.nodes last }
     requires few { length table.now ≤ leaf.now.nodes.now.room }
     requires sizes { AreSizedRows leaf.now.nodes.now.nodes table.now }
+    requires floors { AreFloors table.now floors.now }
     ensures exact { IfOk result (λ list. (near : ℕ → List ℕ) (rows : List (SubsetRow × ℤ)) → IsLeafOf leaf.now near rows
         → AreStateRows (rules_of leaf.now near rows) leaf.now.limit table.now
         → IsKeptList (rules_of leaf.now near rows) leaf.now.limit (length table.now) last list.items) }
@@ -129,7 +139,7 @@ fn kept_list(
     if leaf.nodes.load(last) > table.len() as u64 {
         return Ok(Vec::new(alloc));
     }
-    let entries = all_entries(alloc, leaf, table, last)?;
+    let entries = all_entries(alloc, leaf, table, floors, last)?;
     let least = least_of(alloc, entries)?;
     Ok(least)
 }
@@ -143,12 +153,14 @@ fn all_entries(
     alloc: Global,
     leaf: &RunLeaf,
     table: &[Vec<Vec<KeptState>>],
+    floors: &[Vec<i128>],
     last: u32,
 ) -> Result<Vec<KeptState>, Refused>
     requires last { IsCustomer leaf.now.nodes.now.nodes leaf.now.nodes.now.depot last }
     requires own { load_at leaf.now.nodes.now.loads.now last ≤ length table.now }
     requires few { length table.now ≤ leaf.now.nodes.now.room }
     requires sizes { AreSizedRows leaf.now.nodes.now.nodes table.now }
+    requires floors { AreFloors table.now floors.now }
     ensures exact { IfOk result (λ entries. (near : ℕ → List ℕ) (rows : List (SubsetRow × ℤ)) → IsLeafOf leaf.now near rows
         → AreStateRows (rules_of leaf.now near rows) leaf.now.limit table.now
         → IsKeptListTo (rules_of leaf.now near rows) leaf.now.limit (length table.now) last leaf.now.nodes.now.nodes entries.items) }
@@ -156,7 +168,7 @@ fn all_entries(
 {
     let mut entries = first_entries(alloc, leaf, last, table.len())?;
     'befores: for index in 0..leaf.nodes.nodes {
-        add_from(alloc, leaf, table, index + 1, last, &mut entries)?;
+        add_from(alloc, leaf, table, floors, index + 1, last, &mut entries)?;
     }
     Ok(entries)
 }
@@ -198,6 +210,7 @@ fn add_from(
     alloc: Global,
     leaf: &RunLeaf,
     table: &[Vec<Vec<KeptState>>],
+    floors: &[Vec<i128>],
     before: u32,
     last: u32,
     entries: &mut Vec<KeptState>,
@@ -207,6 +220,7 @@ fn add_from(
     requires own { load_at leaf.now.nodes.now.loads.now last ≤ length table.now }
     requires few { length table.now ≤ leaf.now.nodes.now.room }
     requires sizes { AreSizedRows leaf.now.nodes.now.nodes table.now }
+    requires floors { AreFloors table.now floors.now }
     ensures exact { IfOk result (λ done. (near : ℕ → List ℕ) (rows : List (SubsetRow × ℤ)) → IsLeafOf leaf.now near rows
         → AreStateRows (rules_of leaf.now near rows) leaf.now.limit table.now
         → IsKeptListTo (rules_of leaf.now near rows) leaf.now.limit (length table.now) last (before - 1) entries.old.items
@@ -228,8 +242,10 @@ fn add_from(
         left,
         home: home_at(leaf.homes, left, last),
     };
-    let befores = list_at(table, table.len() - leaf.nodes.load(last) as usize, before);
-    add_nexts(alloc, leaf, serving, befores, entries)?;
+    let load = table.len() - leaf.nodes.load(last) as usize;
+    let floor = floor_at(floors, load, before);
+    let befores = list_at(table, load, before);
+    add_nexts(alloc, leaf, serving, floor, befores, entries)?;
     Ok(())
 }
 
@@ -241,6 +257,54 @@ pub(crate) fn list_at(table: &[Vec<Vec<KeptState>>], load: usize, node: u32) -> 
 {
     table[load][node as usize].as_slice()
 }
+
+// ---- floors
+
+/// The floor of each list.
+///
+/// # Errors
+///
+/// Out of memory.
+fn floors_of(alloc: Global, lists: &[Vec<KeptState>]) -> Result<Vec<i128>, Refused>
+    ensures { IfOk result (λ floors. IsFloorRow (item_lists lists.now) floors.items) }
+{
+    let mut floors = with_capacity(alloc, lists.len())?;
+    'lists: for index in 0..lists.len() {
+        push(&mut floors, floor_of(lists[index].as_slice()))?;
+    }
+    Ok(floors)
+}
+
+/// The least weight of a list; the largest number if the list is empty.
+fn floor_of(entries: &[KeptState]) -> i128
+    ensures { IsFloor entries.now result }
+{
+    let mut floor = i128::MAX;
+    'entries: for index in 0..entries.len() {
+        floor = lesser(floor, entry_at(entries, index).weight);
+    }
+    floor
+}
+
+/// The smaller of two weights.
+#[inline]
+fn lesser(a: i128, b: i128) -> i128
+    ensures { (result ≤ℤ a) × (result ≤ℤ b) }
+{
+    if a < b { a } else { b }
+}
+
+/// The floor of the list of a load and a customer.
+#[inline]
+fn floor_at(floors: &[Vec<i128>], load: usize, node: u32) -> i128
+    requires load { load < length floors.now }
+    requires node { node < length (slice_index_or (item_lists floors.now) load []) }
+    ensures { result ≡ floor_in floors.now load node }
+{
+    floors[load][node as usize]
+}
+
+// ---- the lightest entries
 
 /// The lightest entry for each memory, sorted by memory.
 ///

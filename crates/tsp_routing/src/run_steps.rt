@@ -2,7 +2,7 @@
 //! states that continue those of a list. `kept_states.rt` calls them. `MayServe` and `next_state`
 //! in `specs/Runs.antt` pin the rules of a step.
 //!
-//! For speed, a list is skipped if nothing in it can stay below the limit, and a step is put into a
+//! For speed, a list is skipped if not even its floor can stay below the limit, and a step is put into a
 //! table that serves all states of a list: which bits of the memory it passes on, and to where,
 //! which of them it flips, and for which it pays. By `IsTableOf` in
 //! `specs/states/MemoryTables.antt`, the table does the same as the keys one by one.
@@ -14,7 +14,7 @@ ghost use Rattle.tsp_routing.specs.PlanBounds.{most_link, most_capacity_in_parts
 ghost use Rattle.tsp_routing.specs.Prelude.{ℕ, ℤ, List, pos, neg_ℤ, IfSome, IsFromTo, IsCustomer, true, false, length, slice_index_or, [], IfOk, All, Bool, map};
 ghost use Rattle.tsp_routing.specs.Runs.{RunState};
 ghost use Rattle.tsp_routing.specs.states.Demands.{load_at};
-ghost use Rattle.tsp_routing.specs.states.KeptLists.{rules_of, IsLeafOf, IsFirstEntry, steps_in, IsNextEntry, AddsOne, AddsNexts, AreSizedEntries};
+ghost use Rattle.tsp_routing.specs.states.KeptLists.{rules_of, IsLeafOf, IsFirstEntry, steps_in, IsNextEntry, AddsOne, AddsNexts, AreSizedEntries, IsFloor};
 ghost use Rattle.tsp_routing.specs.states.MemoryTables.{IsTableOf, word_after, charge_after, flips_of, told_before, passed_word};
 ghost use Rattle.tsp_routing.specs.states.RunTables.{link_in, home_in};
 
@@ -119,7 +119,8 @@ fn is_below(limit: i128, weight: i128, home: i128) -> bool
 
 // ---- from all entries of a list to the next ones
 
-/// Adds the entries of the states that continue those of one list.
+/// Adds the entries of the states that continue those of one list, none of which weighs less than
+/// `floor`.
 ///
 /// # Errors
 ///
@@ -128,6 +129,7 @@ pub(crate) fn add_nexts(
     alloc: Global,
     leaf: &RunLeaf,
     serving: Serving,
+    floor: i128,
     befores: &[KeptState],
     entries: &mut Vec<KeptState>,
 ) -> Result<(), Refused>
@@ -137,6 +139,7 @@ pub(crate) fn add_nexts(
     requires link { serving.link ≡ link_in leaf.now.nodes.now.rows.now serving.before serving.last }
     requires left { serving.left ≤ leaf.now.nodes.now.room }
     requires home { serving.home ≡ home_in leaf.now.homes.now serving.left serving.last }
+    requires floor { IsFloor befores.now floor }
     requires sizes { (load : ℕ) × (load < 2 ^ 23) × AreSizedEntries load befores.now }
     ensures adds { IfOk result (λ done. (near : ℕ → List ℕ) (rows : List (SubsetRow × ℤ)) (load : ℕ) → IsLeafOf leaf.now near rows
         → load + load_at leaf.now.nodes.now.loads.now serving.last + serving.left ≡ leaf.now.nodes.now.room
@@ -146,7 +149,7 @@ pub(crate) fn add_nexts(
         → AreSizedEntries next entries.old.items → AreSizedEntries next entries.new.items) }
 {
     let most = most_before(leaf.limit, serving);
-    if !is_any_below(befores, most) {
+    if !is_light(floor, most) {
         return Ok(());
     }
     let steps = leaf
@@ -177,19 +180,6 @@ fn most_before(limit: i128, serving: Serving) -> i128
     ensures { result ≡ (limit -ℤ serving.link) -ℤ serving.home }
 {
     limit - i128::from(serving.link) - serving.home
-}
-
-/// Whether an entry of a list weighs less than this.
-fn is_any_below(entries: &[KeptState], most: i128) -> bool
-    ensures { result ≡ false → (index : ℕ) (default : KeptState) → index < length entries.now
-        → most ≤ℤ (slice_index_or entries.now index default).weight }
-{
-    'entries: for index in 0..entries.len() {
-        if is_light(entry_at(entries, index).weight, most) {
-            return true;
-        }
-    }
-    false
 }
 
 /// Whether a weight is less than this.

@@ -148,6 +148,27 @@ pub record IsSizedRow (n load : ℕ) (lists : List (List KeptState)) : Type 0 wh
 abbrev pub AreSizedRows : ℕ → List (Vec (Vec KeptState)) → Type 0
 AreSizedRows n table = (load : ℕ) → load < length table → IsSizedRow n load (item_lists (slice_index_or (item_lists table) load []))
 
+-- ---- floors
+
+-- no entry of a list weighs less than its floor
+abbrev pub IsFloor : List KeptState → ℤ → Type 0
+IsFloor entries floor = All (λ (entry : KeptState). floor ≤ℤ entry.weight) entries
+
+-- a floor for each list
+pub record IsFloorRow (lists : List (List KeptState)) (floors : List ℤ) : Type 0 where
+  pub places : length floors ≡ length lists
+  pub below : (last : ℕ) → last < length lists → IsFloor (slice_index_or lists last []) (slice_index_or floors last (pos 0))
+
+-- a floor for each list of each load
+pub record AreFloors (table : List (Vec (Vec KeptState))) (floors : List (Vec ℤ)) : Type 0 where
+  pub loads : length floors ≡ length table
+  pub rows : (load : ℕ) → load < length table → IsFloorRow (item_lists (slice_index_or (item_lists table) load []))
+      (slice_index_or (item_lists floors) load [])
+
+-- one floor
+abbrev pub floor_in : List (Vec ℤ) → ℕ → ℕ → ℤ
+floor_in floors load last = slice_index_or (slice_index_or (item_lists floors) load []) last (pos 0)
+
 -- ---- how many kept states there are
 
 -- how many entries the lists of a load have

@@ -1,11 +1,12 @@
 -- The goals of `kept_states` in src/kept_states.rt, which makes the table of kept states: its loop.
-use Rattle.tsp_routing.proofs.Prelude.{◌≡◌, ◌≤◌, ◌+◌, ◌∙◌, Option, ℕ, ℤ, List, [], ◌∷◌, ◌++◌, length, ap, subst, sym, arith, length-append, Vec}
+use Rattle.tsp_routing.proofs.Prelude.{◌≡◌, ◌≤◌, ◌+◌, ◌∙◌, Option, ℕ, ℤ, List, [], ◌∷◌, ◌++◌, length, ap, subst, subst₂, sym, arith, length-append, Vec}
 use Rattle.std.specs.Prelude.{IfSome}
 use Rattle.tsp_routing.specs.KeptStates.{most_states}
 use Rattle.tsp_routing.specs.declared.kept_states.KeptState.{KeptState}
 use Rattle.tsp_routing.specs.states.RunTables.{item_lists}
-use Rattle.tsp_routing.specs.states.KeptLists.{count_in_lists, entry_count, AreRisingLists, AreRisingRows, IsStateRowIfFew, rules_of, IsStateRow, AreStateRows, IsSizedRow, AreSizedRows}
+use Rattle.tsp_routing.specs.states.KeptLists.{count_in_lists, entry_count, AreRisingLists, AreRisingRows, IsStateRowIfFew, rules_of, IsStateRow, AreStateRows, IsSizedRow, AreSizedRows, IsFloorRow, AreFloors}
 use Rattle.tsp_routing.proofs.KeptCounts.{entry_count_pushed}
+use Rattle.tsp_routing.proofs.Floors.{floors_pushed}
 use Rattle.tsp_routing.proofs.WaysHome.{rows_pushed}
 use Rattle.tsp_routing.proofs.kept_states.kept_states.Goals as goal
 
@@ -48,6 +49,11 @@ loads-preserved c =
       sizes = subst (AreSizedRows n) (sym pushed)
           (rows_pushed (λ (k : ℕ) (xs : List (Vec KeptState)). IsSizedRow n k (item_lists xs)) table next h.sizes
           (subst (λ (xs : List (Vec (Vec KeptState))). IsSizedRow n (length xs) (item_lists next.items)) c.deref.ensures.value sizes));
+      floors =
+          let own : Vec ℤ = c.in_ok-own.own in
+          let more : c.push-in-loads.new.list.items ≡ c.loads.floors.items ++ own ∷ [] = c.in_ok-push-2.ensures.items in
+          subst₂ AreFloors (sym pushed) (sym more) (floors_pushed table c.loads.floors.items next own h.floors
+          (subst (λ (xs : List (Vec KeptState)). IsFloorRow (item_lists xs) own.items) c.deref-in-loads-2.ensures.value c.in_ok-own.ensures));
     }
 
 pub returns-in_default-clause-exact : goal.returns-in_default-clause-exact

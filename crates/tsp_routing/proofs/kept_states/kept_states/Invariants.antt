@@ -2,10 +2,10 @@
 use Rattle.std.proofs.Common.{◌≡◌, ◌≤◌, ℕ, ℤ, List, length}
 use Rattle.tsp_format.specs.Steps.{SubsetRow}
 use Rattle.tsp_routing.specs.KeptStates.{most_states}
-use Rattle.tsp_routing.specs.states.KeptLists.{entry_count, AreRisingRows, rules_of, IsLeafOf, AreStateRows, AreSizedRows}
+use Rattle.tsp_routing.specs.states.KeptLists.{entry_count, AreRisingRows, rules_of, IsLeafOf, AreStateRows, AreSizedRows, AreFloors}
 use Rattle.tsp_routing.proofs.kept_states.kept_states.Given as goal
 
--- the table has the rows of the loads below this one, and its entries are counted
+-- the table has the rows of the loads below this one, with their floors, and its entries are counted
 abbrev pub invariant-loads : goal.invariant-loads
 invariant-loads l = record {
   long : length l.table.items ≡ l.load;
@@ -15,4 +15,5 @@ invariant-loads l = record {
   counted : l.count ≡ entry_count l.table.items;
   fits : l.count ≤ most_states;
   sizes : AreSizedRows l.leaf.nodes.now.nodes l.table.items;
+  floors : AreFloors l.table.items l.floors.items;
 }

@@ -1,6 +1,6 @@
 -- The goals of `add_nexts` in src/run_steps.rt, which adds the entries that go on from those of a list: its loop, what
 -- its call requires and what it ensures.
-use Rattle.tsp_routing.proofs.Prelude.{◌≡◌, ◌<◌, ◌+◌, ◌*◌, ◌^◌, ℕ, ℤ, List, false, ◌-ℤ◌, pos, neg_ℤ, take, length, rules, get_or, sym, ◌∙◌, subst, arith, ints, take_all, All-get_or, IsFromTo, IsNode}
+use Rattle.tsp_routing.proofs.Prelude.{◌≡◌, ◌<◌, ◌+◌, ◌*◌, ◌^◌, ℕ, ℤ, List, false, ◌-ℤ◌, pos, neg_ℤ, take, length, rules, get_or, sym, ◌∙◌, subst, arith, ◌≤ℤ◌, ints, take_all, All-get_or, IsFromTo, IsNode}
 use Rattle.tsp_routing.specs.declared.kept_states.KeptState.{KeptState}
 use Rattle.tsp_routing.specs.states.KeptLists.{rules_of, AddsNexts}
 use Rattle.tsp_routing.specs.declared.memories.StepKey.{StepKey}
@@ -22,12 +22,12 @@ most_before-most-requires-clause-home c =
     let few = leaf.nodes.now.fits in
     (omega (arith, ints, home_low, home_high, home_is, few, c.requires.left), omega (arith, ints, home_low, home_high, home_is, few, c.requires.left))
 
-pub returns-then-not-is_any_below-clause-adds : goal.returns-then-not-is_any_below-clause-adds
-returns-then-not-is_any_below-clause-adds c = λ near rows load leaf_of full.
+pub returns-then-not-is_light-clause-adds : goal.returns-then-not-is_light-clause-adds
+returns-then-not-is_light-clause-adds c = λ near rows load leaf_of full.
     let leaf = c.args.leaf.now in
     let serving = c.args.serving in
     let befores : List KeptState = c.args.befores.now in
-    let off : c.is_any_below.result ≡ false = search rules in
+    let off : c.is_light.result ≡ false = search rules in
     let sizes = (leaf.sizes serving.left (omega (arith, leaf.long, c.requires.left))).sizes serving.last c.requires.last.0 in
     let home_low = sizes.0 in
     let home_high = sizes.1 in
@@ -49,11 +49,13 @@ returns-then-not-is_any_below-clause-adds c = λ near rows load leaf_of full.
     (λ index default state lt remembers at full.
     none_beyond leaf near rows state (get_or befores index default).weight c.most_before-most.result serving.link serving.home serving.before
     serving.last serving.left leaf_of at full c.requires.last c.requires.left c.requires.link c.requires.home most_is
-    (let beyond = c.is_any_below.ensures off index default lt in
+    (let beyond = c.is_light.ensures off in
+    let above = All-get_or (λ (e : KeptState). c.args.floor ≤ℤ e.weight) befores index default lt c.requires.floor in
     omega (
       arith,
       ints,
       beyond,
+      above,
       most_is,
       limit_low,
       limit_high,
