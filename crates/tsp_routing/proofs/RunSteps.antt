@@ -5,14 +5,15 @@ use Rattle.std.proofs.lemmas.Nat.Bits.{bit_at_lowest, bit_at-suc, bit_at-zero, b
 use Rattle.std.specs.Int.RustNames.{bit_xor}
 use Rattle.tsp_format.specs.Steps.{SubsetRow}
 use Rattle.tsp_routing.proofs.MemoryWords.{next_told, next_remembers, place_tells, pays, keys_pay, word_below, lowest, others}
-use Rattle.tsp_routing.proofs.Prelude.{◌≡◌, ℕ, ◌+◌, ◌-◌, ◌*◌, ◌≤◌, ◌<◌, ◌==◌, ◌&&◌, ◌||◌, Bool, true, false, not, List, [], ◌∷◌, ◌++◌, map, drop, length, get_or, refl, sym, ap, ap₂, ◌∙◌, subst, arith, inl, inr, if◌then◌else◌, nat_le, ℤ, pos, ◌+ℤ◌, All, AllByRecursion, cases_Bool, cases_lt, and_right, eqb-true, eq-eqb, lt-leb, le-leb, get_or_past, length-map, recursion_from_All, drop_more, append_assoc, Vec, IsNode, sum_int_by, has, zero, suc, ◌%◌, ◌^◌, take, ints, take_more, take_all, map_push, bit_at}
+use Rattle.tsp_routing.proofs.Prelude.{◌≡◌, ℕ, ◌+◌, ◌-◌, ◌*◌, ◌≤◌, ◌<◌, ◌==◌, ◌&&◌, ◌||◌, Bool, true, false, not, List, [], ◌∷◌, ◌++◌, map, drop, length, get_or, refl, sym, ap, ap₂, ◌∙◌, subst, subst₂, arith, inl, inr, if◌then◌else◌, nat_le, ℤ, pos, ◌+ℤ◌, All, AllByRecursion, cases_Bool, cases_lt, and_right, eqb-true, eq-eqb, lt-leb, le-leb, get_or_past, length-map, recursion_from_All, drop_more, append_assoc, Vec, IsNode, sum_int_by, has, zero, suc, ◌%◌, ◌^◌, take, ints, take_more, take_all, map_push, bit_at, cases_eq, get_or_push, get_or_append_left}
 use Rattle.tsp_routing.specs.Memories.{keys_of, told, in_row, is_member_of, charge_of, memory_word, memory_of, Remembers}
 use Rattle.tsp_routing.specs.Runs.{RunRules, RunState, next_state, charged}
 use Rattle.tsp_routing.specs.declared.memories.MemoryKey.{MemoryKey}
 use Rattle.tsp_routing.specs.declared.memories.PassedKey.{PassedKey}
 use Rattle.tsp_routing.specs.declared.memories.StepKey.{StepKey}
 use Rattle.tsp_routing.specs.declared.run_steps.StepTable.{StepTable}
-use Rattle.tsp_routing.specs.states.MemoryTables.{keys_in, key_places_in, IsKeyIn, AreMemoryTables, AreMemoriesOf, step_key_of, bit_after, word_after, charge_after, flips_of, told_before, passed_word, IsTableOf}
+use Rattle.tsp_routing.specs.states.MemoryTables.{keys_in, key_places_in, IsKeyIn, AreMemoryTables, AreMemoriesOf, step_key_of, bit_after, word_after, charge_after, flips_of, told_before, passed_word, IsTableOf, AreStepTables}
+use Rattle.tsp_routing.specs.states.RunTables.{item_lists}
 
 not_read : (bits : List Bool) → length bits ≤ 64 → get_or bits 64 false ≡ false
 not_read bits few = get_or_past bits 64 false few
@@ -384,3 +385,32 @@ table_gives_word steps table bits passed told is few same told_is =
     ap₂ (λ (m n : ℕ). bit_xor m n) exact is.flips
     ∙ sym (same_from_bits (word_after steps bits) (bit_xor word (memory_word (flips_of steps)))
     (λ place. after_bits steps bits place ∙ sym (bit_at_xor word (memory_word (flips_of steps)) place)))
+
+-- ---- the tables of steps that a leaf keeps
+
+-- one table more
+pub table_pushed : (P : ℕ → StepTable → Type 0) (tables : List StepTable) (own : StepTable) (index : ℕ) → length tables ≡ index
+    → ((place : ℕ) (default : StepTable) → place < index → P place (get_or tables place default)) → P index own
+    → (place : ℕ) (default : StepTable) → place < index + 1 → P place (get_or (tables ++ own ∷ []) place default)
+table_pushed P tables own index long all last place default lt = elim (cases_eq place index) [
+  | inl same ↦
+      subst (λ (k : ℕ). P k (get_or (tables ++ own ∷ []) k default)) (sym same)
+      (subst (P index) (sym (get_or_push tables own default index long)) last)
+  | inr other ↦
+      subst (P place) (sym (get_or_append_left tables (own ∷ []) default place (omega (arith, lt, other, long))))
+      (all place default (omega (arith, lt, other)))
+]
+
+-- a table that is kept
+pub table_kept : (nodes : ℕ) (keys : List (Vec MemoryKey)) (places : List (Vec ℕ)) (charges : List ℤ) (rows : List (Vec StepTable))
+    (before last : ℕ) (table : StepTable) → AreStepTables nodes keys places charges rows → 1 ≤ before → before ≤ length rows
+    → IsNode nodes last
+    → ((default : StepTable) → table ≡ get_or (get_or (item_lists rows) (before - 1) []) (last - 1) default)
+    → IsTableOf (map (step_key_of nodes charges (key_places_in places before) before) (keys_in keys last)) table
+table_kept nodes keys places charges rows before last table tables some within node is =
+    let from : before - 1 + 1 ≡ before = omega (arith, some) in
+    let to : last - 1 + 1 ≡ last = omega (arith, node.0) in
+    let row = tables (before - 1) (omega (arith, some, within)) in
+    subst (IsTableOf (map (step_key_of nodes charges (key_places_in places before) before) (keys_in keys last))) (sym (is table))
+    (subst₂ (λ (a b : ℕ). IsTableOf (map (step_key_of nodes charges (key_places_in places a) a) (keys_in keys b))
+    (get_or (get_or (item_lists rows) (before - 1) []) (last - 1) table)) from to (row.are (last - 1) table (omega (arith, node.0, node.1))))

@@ -27,7 +27,7 @@ use crate::plan_leaf::{
     LeafSum, PlanLeaf, customers_total, limits_total, rounded_up, times, times_given_back,
 };
 use crate::run_leaf::{RunLeaf, RunNodes, ways_home};
-use crate::run_steps::entry_at;
+use crate::run_steps::{entry_at, step_tables};
 use std::alloc::Global;
 use tsp_cases::OpenCase;
 use tsp_format::RowSets;
@@ -248,11 +248,13 @@ fn least_of_runs(
         → IfSome found (IsFromTo (neg_ℤ (pos (2 ^ 83))) (pos (2 ^ 83)))) }
 {
     let homes = ways_home(alloc, nodes)?;
+    let steps = step_tables(alloc, memories, charges)?;
     let leaf = RunLeaf {
         nodes,
         memories,
         charges,
         homes: &homes,
+        steps: &steps,
         limit,
     };
     let Some(table) = kept_states(alloc, &leaf)? else {

@@ -12,9 +12,11 @@ ghost use Rattle.tsp_format.specs.Steps.{IsFromTo, SubsetRow};
 ghost use Rattle.tsp_routing.specs.PlanBounds.{most_capacity_in_parts, most_link};
 ghost use Rattle.tsp_routing.specs.Prelude.{ℕ, length, most_nodes, IsNode, IsCustomer, ℤ, List, [], slice_index_or, IfOk, least_at};
 ghost use Rattle.tsp_routing.specs.states.Demands.{load_at};
+ghost use Rattle.tsp_routing.specs.states.MemoryTables.{AreStepTables};
 ghost use Rattle.tsp_routing.specs.states.RunTables.{AreLinkRows, AreHomeRowsSized, rules_by, link_in, row_in, home_in, item_lists, no_way, IsHomeRow, AreHomeRows, IsHomeRowSized, IsOnward, AreOnwards, IsOnwardSized, AreOnwardsSized, IsWayBelowTo, IsWayMetTo};
 
 use crate::memories::Memories;
+use crate::run_steps::StepTable;
 use std::alloc::Global;
 use tsp_io::{Refused, push, with_capacity};
 use tsp_theory::weight_in;
@@ -61,20 +63,22 @@ impl RunNodes<'_> {
     }
 }
 
-/// Nodes, loads and weights; memories, and the charge of each row; the table of ways home; and the
-/// limit: only runs below it count.
+/// Nodes, loads and weights; memories, and the charge of each row; the table of ways home; tables of
+/// steps; and the limit: only runs below it count.
 #[derive(Drop)]
 pub(crate) struct RunLeaf<'a> {
     pub(crate) nodes: &'a RunNodes<'a>,
     pub(crate) memories: &'a Memories,
     pub(crate) charges: &'a [i64],
     pub(crate) homes: &'a [Vec<i128>],
+    pub(crate) steps: &'a [Vec<StepTable>],
     pub(crate) limit: i128,
     ghost same: { memories.now.nodes ≡ nodes.now.nodes },
     ghost priced: { length charges.now ≡ memories.now.count },
     ghost long: { length homes.now ≡ nodes.now.room + 1 },
     ghost sizes: { AreHomeRowsSized nodes.now.nodes homes.now },
     ghost small: { IsFromTo (neg_ℤ (pos (2 ^ 90))) (pos (2 ^ 90)) limit },
+    ghost tables: { AreStepTables memories.now.nodes memories.now.keys.items memories.now.places.items charges.now steps.now },
 }
 
 // ---- completion bounds

@@ -11,18 +11,18 @@ ghost use Rattle.std.specs.Prelude.{◌≡◌, ◌≤◌, ◌+◌, ◌*◌, ◌^
 ghost use Rattle.tsp_format.specs.Steps.{SubsetRow};
 ghost use Rattle.tsp_routing.specs.Memories.{Remembers, memory_word};
 ghost use Rattle.tsp_routing.specs.PlanBounds.{most_link, most_capacity_in_parts};
-ghost use Rattle.tsp_routing.specs.Prelude.{ℕ, ℤ, List, pos, neg_ℤ, IfSome, IsFromTo, IsCustomer, true, false, length, slice_index_or, [], IfOk, All, Bool, map};
+ghost use Rattle.tsp_routing.specs.Prelude.{ℕ, ℤ, List, pos, neg_ℤ, IfSome, IsFromTo, IsCustomer, IsNode, true, false, length, slice_index_or, [], IfOk, All, Bool, map};
 ghost use Rattle.tsp_routing.specs.Runs.{RunState};
 ghost use Rattle.tsp_routing.specs.states.Demands.{load_at};
 ghost use Rattle.tsp_routing.specs.states.KeptLists.{rules_of, IsLeafOf, IsFirstEntry, steps_in, IsNextEntry, AddsOne, AddsNexts, AreSizedEntries, IsFloor};
-ghost use Rattle.tsp_routing.specs.states.MemoryTables.{IsTableOf, word_after, charge_after, flips_of, told_before, passed_word};
-ghost use Rattle.tsp_routing.specs.states.RunTables.{link_in, home_in};
+ghost use Rattle.tsp_routing.specs.states.MemoryTables.{AreStepTables, AreTablesFrom, IsTableOf, word_after, charge_after, flips_of, told_before, passed_word};
+ghost use Rattle.tsp_routing.specs.states.RunTables.{link_in, home_in, item_lists};
 
 use crate::kept_states::KeptState;
-use crate::memories::{PassedKey, StepKey, has_bit, with_bit};
+use crate::memories::{Memories, PassedKey, StepKey, has_bit, with_bit};
 use crate::run_leaf::{RunLeaf, home_at};
 use std::alloc::Global;
-use tsp_io::{Refused, push};
+use tsp_io::{Refused, push, with_capacity};
 use tsp_theory::weight_in;
 
 /// The entry after a first customer, if the route can carry `left` more; `None` if no way home
@@ -152,13 +152,80 @@ pub(crate) fn add_nexts(
     if !is_light(floor, most) {
         return Ok(());
     }
+    add_light(alloc, leaf, serving, most, befores, entries)
+}
+
+/// Adds the entries of the states that continue those of a list which weigh less than `most`.
+///
+/// # Errors
+///
+/// Out of memory.
+fn add_light(
+    alloc: Global,
+    leaf: &RunLeaf,
+    serving: Serving,
+    most: i128,
+    befores: &[KeptState],
+    entries: &mut Vec<KeptState>,
+) -> Result<(), Refused>
+    requires before { IsCustomer leaf.now.nodes.now.nodes leaf.now.nodes.now.depot serving.before }
+    requires last { IsCustomer leaf.now.nodes.now.nodes leaf.now.nodes.now.depot serving.last }
+    requires other { serving.before ≢ serving.last }
+    requires link { serving.link ≡ link_in leaf.now.nodes.now.rows.now serving.before serving.last }
+    requires left { serving.left ≤ leaf.now.nodes.now.room }
+    requires home { serving.home ≡ home_in leaf.now.homes.now serving.left serving.last }
+    requires sizes { (load : ℕ) × (load < 2 ^ 23) × AreSizedEntries load befores.now }
+    requires most { most ≡ (leaf.now.limit -ℤ serving.link) -ℤ serving.home }
+    ensures adds { IfOk result (λ done. (near : ℕ → List ℕ) (rows : List (SubsetRow × ℤ)) (load : ℕ) → IsLeafOf leaf.now near rows
+        → load + load_at leaf.now.nodes.now.loads.now serving.last + serving.left ≡ leaf.now.nodes.now.room
+        → AddsNexts (rules_of leaf.now near rows) leaf.now.limit load serving.before serving.last befores.now
+        entries.old.items entries.new.items) }
+    ensures sizes { IfOk result (λ done. (load next : ℕ) → load < next → AreSizedEntries load befores.now
+        → AreSizedEntries next entries.old.items → AreSizedEntries next entries.new.items) }
+{
+    if serving.before as usize <= leaf.steps.len() {
+        let table = table_at(leaf.steps, serving.before, serving.last);
+        return add_by_table(leaf, serving, table, most, befores, entries);
+    }
     let steps = leaf
         .memories
         .steps(alloc, leaf.charges, serving.before, serving.last)?;
     let table = step_table(alloc, &steps)?;
+    add_by_table(leaf, serving, &table, most, befores, entries)
+}
+
+/// As `add_light`, by the table of the step.
+///
+/// # Errors
+///
+/// Out of memory.
+fn add_by_table(
+    leaf: &RunLeaf,
+    serving: Serving,
+    table: &StepTable,
+    most: i128,
+    befores: &[KeptState],
+    entries: &mut Vec<KeptState>,
+) -> Result<(), Refused>
+    requires before { IsCustomer leaf.now.nodes.now.nodes leaf.now.nodes.now.depot serving.before }
+    requires last { IsCustomer leaf.now.nodes.now.nodes leaf.now.nodes.now.depot serving.last }
+    requires other { serving.before ≢ serving.last }
+    requires link { serving.link ≡ link_in leaf.now.nodes.now.rows.now serving.before serving.last }
+    requires left { serving.left ≤ leaf.now.nodes.now.room }
+    requires home { serving.home ≡ home_in leaf.now.homes.now serving.left serving.last }
+    requires sizes { (load : ℕ) × (load < 2 ^ 23) × AreSizedEntries load befores.now }
+    requires table { IsTableOf (steps_in leaf.now serving.before serving.last) table.now }
+    requires most { most ≡ (leaf.now.limit -ℤ serving.link) -ℤ serving.home }
+    ensures adds { IfOk result (λ done. (near : ℕ → List ℕ) (rows : List (SubsetRow × ℤ)) (load : ℕ) → IsLeafOf leaf.now near rows
+        → load + load_at leaf.now.nodes.now.loads.now serving.last + serving.left ≡ leaf.now.nodes.now.room
+        → AddsNexts (rules_of leaf.now near rows) leaf.now.limit load serving.before serving.last befores.now
+        entries.old.items entries.new.items) }
+    ensures sizes { IfOk result (λ done. (load next : ℕ) → load < next → AreSizedEntries load befores.now
+        → AreSizedEntries next entries.old.items → AreSizedEntries next entries.new.items) }
+{
     'befores: for index in 0..befores.len() {
         let entry = entry_at(befores, index);
-        add_next(leaf, serving, &table, most, entry, entries)?;
+        add_next(leaf, serving, table, most, entry, entries)?;
     }
     Ok(())
 }
@@ -238,6 +305,76 @@ pub(crate) struct StepTable {
     pub(crate) flips: u64,
     pub(crate) passed: Vec<PassedKey>,
     pub(crate) paid: Vec<StepKey>,
+}
+
+/// The most tables of steps that a leaf keeps. A table takes at most 2 kB.
+const MOST_TABLES: usize = 100_000;
+
+/// The tables of the steps from the first customers to each node: a row for each of them, with the
+/// table of the step to node j at place j - 1.
+///
+/// # Errors
+///
+/// If memory runs out. It allocates an entry for each table, and for each key that a step passes on
+/// or pays for.
+pub(crate) fn step_tables(
+    alloc: Global,
+    memories: &Memories,
+    charges: &[i64],
+) -> Result<Vec<Vec<StepTable>>, Refused>
+    requires charges { length charges.now ≡ memories.now.count }
+    ensures { IfOk result (λ rows. AreStepTables memories.now.nodes memories.now.keys.items memories.now.places.items charges.now rows.items) }
+{
+    let mut rows = Vec::new(alloc);
+    'nodes: for index in 0..rows_kept(memories.nodes) {
+        let row = tables_from(alloc, memories, charges, index + 1)?;
+        push(&mut rows, row)?;
+    }
+    Ok(rows)
+}
+
+/// How many rows a leaf keeps.
+fn rows_kept(nodes: u32) -> u32
+    ensures { result ≤ nodes }
+{
+    if nodes as usize * nodes as usize <= MOST_TABLES {
+        return nodes;
+    }
+    0
+}
+
+/// The tables of the steps from a node to each node.
+///
+/// # Errors
+///
+/// Out of memory.
+fn tables_from(
+    alloc: Global,
+    memories: &Memories,
+    charges: &[i64],
+    before: u32,
+) -> Result<Vec<StepTable>, Refused>
+    requires charges { length charges.now ≡ memories.now.count }
+    requires before { IsNode memories.now.nodes before }
+    ensures { IfOk result (λ row. AreTablesFrom memories.now.nodes memories.now.keys.items memories.now.places.items charges.now before row.items) }
+{
+    let mut row = with_capacity(alloc, memories.nodes as usize)?;
+    'nodes: for index in 0..memories.nodes {
+        let steps = memories.steps(alloc, charges, before, index + 1)?;
+        let table = step_table(alloc, &steps)?;
+        push(&mut row, table)?;
+    }
+    Ok(row)
+}
+
+/// The table of the step from one node to another.
+#[inline]
+fn table_at(rows: &[Vec<StepTable>], before: u32, last: u32) -> &StepTable
+    requires before { (1 ≤ before) × (before ≤ length rows.now) }
+    requires last { (1 ≤ last) × (last ≤ length (slice_index_or (item_lists rows.now) (before - 1) [])) }
+    ensures { (default : StepTable) → result.now ≡ slice_index_or (slice_index_or (item_lists rows.now) (before - 1) []) (last - 1) default }
+{
+    &rows[before as usize - 1][last as usize - 1]
 }
 
 /// The table of what a step does to each key.

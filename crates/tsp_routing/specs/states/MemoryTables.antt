@@ -144,3 +144,16 @@ pub record IsTableOf (steps : List StepKey) (table : StepTable) : Type 0 where
   pub passed : (bits : List Bool) → length bits ≤ 64 → passed_word table.passed.items bits ≡ memory_word (told_before steps bits)
   pub paid : (bits : List Bool) → length bits ≤ 64 → charge_after table.paid.items bits ≡ charge_after steps bits
   pub few_paid : length table.paid.items ≤ 64
+
+-- the tables of the steps from a node to each node, each at the place before its node's
+pub record AreTablesFrom (nodes : ℕ) (keys : List (Vec MemoryKey)) (places : List (Vec ℕ)) (charges : List ℤ) (before : ℕ)
+    (tables : List StepTable) : Type 0 where
+  pub many : length tables ≡ nodes
+  pub are : (place : ℕ) (default : StepTable) → place < nodes
+      → IsTableOf (map (step_key_of nodes charges (key_places_in places before) before) (keys_in keys (place + 1)))
+      (slice_index_or tables place default)
+
+-- the same of the steps from the first nodes
+abbrev pub AreStepTables : ℕ → List (Vec MemoryKey) → List (Vec ℕ) → List ℤ → List (Vec StepTable) → Type 0
+AreStepTables nodes keys places charges rows = (place : ℕ) → place < length rows
+    → AreTablesFrom nodes keys places charges (place + 1) (slice_index_or (item_lists rows) place [])

@@ -43,7 +43,7 @@ returns-clause-exact c = λ near rows are priced signs.
     let states = subst (AreStateRowsIfFew rules (to_z w128 (of_z w128 c.args.limit))) c.in-Some.is
     (c.in_ok-table.ensures.exact near rows (leaf_is _ near rows are priced signs homes)) in
     let least = c.least_run.ensures near rows (leaf_is _ near rows are priced signs homes)
-    (subst (AreStateRows rules (to_z w128 (of_z w128 c.args.limit))) (sym c.deref-2.ensures.value) states) in
+    (subst (AreStateRows rules (to_z w128 (of_z w128 c.args.limit))) (sym c.deref-3.ensures.value) states) in
     let counted = subst (λ (o : Option (Vec (Vec (Vec KeptState)))). IfSome o (λ (own : Vec (Vec (Vec KeptState))). entry_count own.items ≤ most_states))
     c.in-Some.is c.in_ok-table.ensures.few in
     let long = subst (λ (o : Option (Vec (Vec (Vec KeptState)))). IfSome o (λ (own : Vec (Vec (Vec KeptState))). length own.items ≡ nodes.room + 1))
@@ -65,7 +65,7 @@ returns-clause-size c = λ near rows are priced signs.
     let fits : FitsSigned w128 c.args.limit = search rules in
     let same = to_z-of_z w128 c.args.limit fits in
     let least = c.least_run.ensures near rows (leaf_is _ near rows are priced signs homes)
-    (subst (AreStateRows rules (to_z w128 (of_z w128 c.args.limit))) (sym c.deref-2.ensures.value)
+    (subst (AreStateRows rules (to_z w128 (of_z w128 c.args.limit))) (sym c.deref-3.ensures.value)
     (subst (AreStateRowsIfFew rules (to_z w128 (of_z w128 c.args.limit))) c.in-Some.is
     (c.in_ok-table.ensures.exact near rows (leaf_is _ near rows are priced signs homes)))) in
     let result_fits : FitsSigned w128 c.least_run.result = search rules in

@@ -1,9 +1,9 @@
--- The loop of `add_nexts` in src/run_steps.rt.
+-- The loop of `add_by_table` in src/run_steps.rt.
 use Rattle.std.proofs.Common.{◌≡◌, ◌<◌, ◌+◌, ℕ, ℤ, List, take}
 use Rattle.tsp_format.specs.Steps.{SubsetRow}
 use Rattle.tsp_routing.specs.states.Demands.{load_at}
 use Rattle.tsp_routing.specs.states.KeptLists.{rules_of, IsLeafOf, AddsNexts, AreSizedEntries}
-use Rattle.tsp_routing.proofs.run_steps.add_nexts.Given as goal
+use Rattle.tsp_routing.proofs.run_steps.add_by_table.Given as goal
 
 -- the entries that go on from the first `index` ones are added
 abbrev pub invariant-befores : goal.invariant-befores
