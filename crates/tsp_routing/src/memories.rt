@@ -203,9 +203,10 @@ fn key_from_last(keys: &[MemoryKey], back: usize) -> MemoryKey
 pub(crate) fn has_bit(word: u64, place: u8) -> bool
     ensures { (bits : List Bool) → length bits ≤ 64 → word ≡ memory_word bits → result ≡ slice_index_or bits place false }
 {
-    // Without a branch on the place: bits are random, and a wrong guess costs more than the shift.
-    let bit = (word >> (place as u32 % 64)) & 1;
-    place < 64 && bit == 1
+    if place >= 64 {
+        return false;
+    }
+    (word >> place as u32) & 1 == 1
 }
 
 /// A word with one more bit, below all others.

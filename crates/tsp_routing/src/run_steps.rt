@@ -534,7 +534,7 @@ fn told_word(passed: &[PassedKey], word: u64) -> u64
     let mut told: u64 = 0;
     'keys: for index in 0..passed.len() {
         let key = passed_at(passed, index);
-        told = with_mask(told, key.mask, has_bit(word, key.place));
+        told = with_mask(told, key.mask, bit_of(word, key.place));
     }
     told
 }
@@ -548,12 +548,22 @@ fn passed_at(passed: &[PassedKey], index: usize) -> PassedKey
     passed[index]
 }
 
-/// A word with one more bit, if the key was set.
+/// The bit of a word at a place, as a number; 0 from place 64 on. Bits are as good as random, so a
+/// branch on one is often guessed wrong: here, there is none.
 #[inline]
-fn with_mask(word: u64, mask: u64, is_told: bool) -> u64
-    ensures { result ≡ (word + (if is_told then mask else 0)) % 2 ^ 64 }
+fn bit_of(word: u64, place: u8) -> u64
+    ensures { (bits : List Bool) → length bits ≤ 64 → word ≡ memory_word bits
+        → result ≡ (if slice_index_or bits place false then 1 else 0) }
 {
-    word.wrapping_add(if is_told { mask } else { 0 })
+    (word >> (place as u32 % 64)) & u64::from(place < 64)
+}
+
+/// A word with one more bit, if the key was set: `bit` is 1 or 0.
+#[inline]
+fn with_mask(word: u64, mask: u64, bit: u64) -> u64
+    ensures { (is_told : Bool) → bit ≡ (if is_told then 1 else 0) → result ≡ (word + (if is_told then mask else 0)) % 2 ^ 64 }
+{
+    word.wrapping_add(mask.wrapping_mul(bit))
 }
 
 /// What a step pays.
