@@ -1,5 +1,5 @@
 -- For src/kept_states.rt: the floors of lists, while they are made.
-use Rattle.tsp_routing.proofs.Prelude.{◌≡◌, ◌<◌, ◌+◌, ◌++◌, ◌∙◌, ℕ, ℤ, zero, suc, List, [], ◌∷◌, take, pos, length, get_or, sym, ap, subst, arith, inl, inr, ◌≤ℤ◌, Vec, All, ints, cases_eq, take_more, All-push, All-weaker, get_or_push, get_or_append_left, length-append}
+use Rattle.tsp_routing.proofs.Prelude.{◌≡◌, ◌<◌, ◌+◌, ◌++◌, ◌∙◌, ℕ, ℤ, zero, suc, List, [], ◌∷◌, take, pos, length, get_or, sym, ap, subst, arith, inl, inr, ◌≤ℤ◌, Vec, ints, cases_eq, take_more, All-push, All-weaker, get_or_push, get_or_append_left, length-append}
 use Rattle.tsp_routing.specs.declared.kept_states.KeptState.{KeptState}
 use Rattle.tsp_routing.specs.states.KeptLists.{IsFloor, IsFloorRow, AreFloors}
 use Rattle.tsp_routing.specs.states.RunTables.{item_lists}

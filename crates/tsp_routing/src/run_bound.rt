@@ -224,8 +224,8 @@ fn twice(potential: i64) -> i128
 ///
 /// # Errors
 ///
-/// If memory runs out. It allocates an entry for each node and load up to the capacity, and for
-/// each kept state.
+/// If memory runs out. It allocates an entry for each node and load up to the capacity, for each
+/// pair of nodes if there are few, and for each kept state.
 fn least_of_runs(
     alloc: Global,
     nodes: &RunNodes,

@@ -2,10 +2,11 @@
 //! states that continue those of a list. `kept_states.rt` calls them. `MayServe` and `next_state`
 //! in `specs/Runs.antt` pin the rules of a step.
 //!
-//! For speed, a list is skipped if not even its floor can stay below the limit, and a step is put into a
-//! table that serves all states of a list: which bits of the memory it passes on, and to where,
-//! which of them it flips, and for which it pays. By `IsTableOf` in
-//! `specs/states/MemoryTables.antt`, the table does the same as the keys one by one.
+//! For speed, a list is skipped if not even its floor can stay below the limit, and a step is put
+//! into a table that serves all states of a list: which bits of the memory it passes on, and to
+//! where, which of them it flips, and for which it pays. By `IsTableOf` in
+//! `specs/states/MemoryTables.antt`, the table does the same as the keys one by one. A leaf with few
+//! nodes keeps the tables of all steps for all loads.
 
 ghost use Rattle.std.specs.Prelude.{◌≡◌, ◌≤◌, ◌+◌, ◌*◌, ◌^◌, ◌≢◌, ◌<◌, ◌+ℤ◌, ◌≤ℤ◌, ◌<ℤ◌, ◌++◌, ◌∷◌, ◌-ℤ◌, ◌-◌, ◌%◌, if◌then◌else◌};
 ghost use Rattle.tsp_format.specs.Steps.{SubsetRow};
@@ -155,7 +156,8 @@ pub(crate) fn add_nexts(
     add_light(alloc, leaf, serving, most, befores, entries)
 }
 
-/// Adds the entries of the states that continue those of a list which weigh less than `most`.
+/// Adds the entries of the states that continue those of one list. Only states that weigh less than
+/// `most` have any.
 ///
 /// # Errors
 ///
@@ -194,7 +196,7 @@ fn add_light(
     add_by_table(leaf, serving, &table, most, befores, entries)
 }
 
-/// As `add_light`, by the table of the step.
+/// Adds the entries as `add_light` does, by the table of the step.
 ///
 /// # Errors
 ///
@@ -307,7 +309,7 @@ pub(crate) struct StepTable {
     pub(crate) paid: Vec<StepKey>,
 }
 
-/// The most tables of steps that a leaf keeps. A table takes at most 2 kB.
+/// The most tables of steps that a leaf keeps. A table takes about 2 kB at most.
 const MOST_TABLES: usize = 100_000;
 
 /// The tables of the steps from the first customers to each node: a row for each of them, with the
@@ -333,7 +335,7 @@ pub(crate) fn step_tables(
     Ok(rows)
 }
 
-/// How many rows a leaf keeps.
+/// How many rows a leaf keeps: all or none.
 fn rows_kept(nodes: u32) -> u32
     ensures { result ≤ nodes }
 {
@@ -548,8 +550,8 @@ fn passed_at(passed: &[PassedKey], index: usize) -> PassedKey
     passed[index]
 }
 
-/// The bit of a word at a place, as a number; 0 from place 64 on. Bits are as good as random, so a
-/// branch on one is often guessed wrong: here, there is none.
+/// The bit of a word at a place, as a number; 0 from place 64 on. It doesn't branch on the bit,
+/// because the processor would often guess it wrong.
 #[inline]
 fn bit_of(word: u64, place: u8) -> u64
     ensures { (bits : List Bool) → length bits ≤ 64 → word ≡ memory_word bits

@@ -1,5 +1,5 @@
 -- The goals of `floor_of` in src/kept_states.rt, which finds the least weight of a list: its loop and what it ensures.
-use Rattle.tsp_routing.proofs.Prelude.{◌≤◌, ℕ, ℤ, List, take, length, subst, arith, rules, FitsSigned, to_z, w128, ints, to_z-of_z, take_all, ◌≤ℤ◌}
+use Rattle.tsp_routing.proofs.Prelude.{ℤ, List, subst, arith, rules, FitsSigned, to_z, w128, ints, to_z-of_z, take_all}
 use Rattle.tsp_routing.specs.declared.kept_states.KeptState.{KeptState}
 use Rattle.tsp_routing.specs.states.KeptLists.{IsFloor}
 use Rattle.tsp_routing.proofs.Floors.{floor_one_more}

@@ -1,6 +1,6 @@
 -- The goals of `add_by_table` in src/run_steps.rt, which adds the entries that go on from those of a list by a table: its
 -- loop, what its call requires and what it ensures.
-use Rattle.tsp_routing.proofs.Prelude.{◌≡◌, ◌<◌, ◌+◌, ◌*◌, ◌^◌, ℕ, List, pos, neg_ℤ, take, sym, subst, arith, ints, take_all, All-get_or, IsFromTo}
+use Rattle.tsp_routing.proofs.Prelude.{◌+◌, ◌*◌, ◌^◌, ℕ, List, pos, neg_ℤ, sym, subst, arith, ints, take_all, All-get_or, IsFromTo}
 use Rattle.tsp_routing.specs.declared.kept_states.KeptState.{KeptState}
 use Rattle.tsp_routing.specs.states.KeptLists.{rules_of, AddsNexts}
 use Rattle.tsp_routing.proofs.KeptLists.{adds_more, adds_none, sizes_go_on}

@@ -1,6 +1,6 @@
 -- The goals of `add_light` in src/run_steps.rt, which adds the entries that go on from the light ones of a list: what its
 -- calls require.
-use Rattle.tsp_routing.proofs.Prelude.{◌≡◌, ◌∙◌, ℕ, List, sym, subst, IsNode}
+use Rattle.tsp_routing.proofs.Prelude.{◌∙◌, ℕ, List, sym, subst, IsNode}
 use Rattle.tsp_routing.specs.declared.memories.StepKey.{StepKey}
 use Rattle.tsp_routing.specs.states.MemoryTables.{IsTableOf}
 use Rattle.tsp_routing.proofs.RunSteps.{few_steps, table_kept}

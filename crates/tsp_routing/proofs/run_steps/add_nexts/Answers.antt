@@ -1,6 +1,6 @@
 -- The goals of `add_nexts` in src/run_steps.rt, which adds the entries that go on from those of a list: what its calls
 -- require and what it ensures.
-use Rattle.tsp_routing.proofs.Prelude.{◌≡◌, ℕ, ℤ, List, false, ◌-ℤ◌, length, rules, get_or, subst, arith, ◌≤ℤ◌, ints, take_all, All-get_or}
+use Rattle.tsp_routing.proofs.Prelude.{◌≡◌, ℤ, List, false, ◌-ℤ◌, length, rules, get_or, subst, arith, ◌≤ℤ◌, ints, take_all, All-get_or}
 use Rattle.tsp_routing.specs.declared.kept_states.KeptState.{KeptState}
 use Rattle.tsp_routing.specs.states.KeptLists.{rules_of, AddsNexts}
 use Rattle.tsp_routing.proofs.KeptLists.{adds_nothing}

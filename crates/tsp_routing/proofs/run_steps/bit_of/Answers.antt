@@ -1,5 +1,5 @@
 -- The goals of `bit_of` in src/run_steps.rt, which reads a bit of a word: what it ensures.
-use Rattle.tsp_routing.proofs.Prelude.{◌≡◌, ◌≤◌, ◌<◌, ◌%◌, ◌/◌, ◌^◌, ℕ, Bool, true, false, List, length, get_or, sym, ap, ap₂, ◌∙◌, subst, arith, rules, inl, inr, cases_lt, get_or_past, bit_at, if◌then◌else◌}
+use Rattle.tsp_routing.proofs.Prelude.{◌≡◌, ◌%◌, ◌/◌, ◌^◌, ℕ, Bool, false, sym, ap, ap₂, ◌∙◌, arith, rules, inl, inr, cases_lt, get_or_past, bit_at, if◌then◌else◌}
 use Rattle.std.specs.Int.Bits.{bit_and, and_zero_r}
 use Rattle.std.proofs.lemmas.Nat.Bits.{shr_and_one}
 use Rattle.tsp_routing.proofs.MemoryWords.{bit_of_word}

@@ -1,5 +1,5 @@
 -- The goals of `told_word` in src/run_steps.rt, which passes on the bits that are told: its loop and what it ensures.
-use Rattle.tsp_routing.proofs.Prelude.{◌≡◌, ◌≤◌, ◌<◌, ◌%◌, ◌^◌, Bool, false, List, take, length, get_or, refl, ap, ◌∙◌, take_all}
+use Rattle.tsp_routing.proofs.Prelude.{◌%◌, ◌^◌, Bool, false, List, get_or, refl, ap, ◌∙◌, take_all}
 use Rattle.tsp_routing.specs.declared.memories.PassedKey.{PassedKey}
 use Rattle.tsp_routing.specs.states.MemoryTables.{passed_word}
 use Rattle.tsp_routing.proofs.RunSteps.{told_more}

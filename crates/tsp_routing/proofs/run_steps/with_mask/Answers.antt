@@ -1,5 +1,5 @@
 -- The goals of `with_mask` in src/run_steps.rt, which adds a bit to a word: what it ensures.
-use Rattle.tsp_routing.proofs.Prelude.{◌≡◌, ◌%◌, ◌^◌, ◌+◌, ◌*◌, ◌<◌, ℕ, Bool, true, false, refl, ap, ◌∙◌, arith, if◌then◌else◌}
+use Rattle.tsp_routing.proofs.Prelude.{◌≡◌, ◌%◌, ◌^◌, ◌+◌, ◌*◌, ◌<◌, ℕ, Bool, true, false, ap, arith, if◌then◌else◌}
 use Rattle.tsp_routing.proofs.run_steps.with_mask.Goals as goal
 
 -- plan: the mask once, or not
