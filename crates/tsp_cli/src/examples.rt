@@ -306,9 +306,9 @@ pub fn examples_of_opened_files()
     ensures another_task { (by kept : CertificateKind) (a b c : InputPath) (claimed : Option ℤ) (strict also : Bool) (x z : Watched InputPath)
         → ¬ AreFresh (λ place file. file ≡ place) (file_tasks.Check a b (Some (by, c)) claimed strict)
         (file_tasks.Bound x (kept, z) also) }
-    ensures first_solution { (file : InputPath) → IsOpenedAt (λ place file. file ≡ place) (codes "a" ∷ codes "b" ∷ []) 0 file
+    ensures first_solution { (file : InputPath) → IsOpenedAt (λ place file. file ≡ place) (codes "a" ∷ codes "b" ∷ []) 0 (Ok file)
         → (place : InputPath) × IsInputPathAt (codes "a") place × (file ≡ place) }
-    ensures second_solution { (file : InputPath) → IsOpenedAt (λ place file. file ≡ place) (codes "a" ∷ codes "b" ∷ []) 1 file
+    ensures second_solution { (file : InputPath) → IsOpenedAt (λ place file. file ≡ place) (codes "a" ∷ codes "b" ∷ []) 1 (Ok file)
         → (place : InputPath) × IsInputPathAt (codes "b") place × (file ≡ place) }
     ensures each_solution { (comparison : Comparison InputPath)
         → length (paths_of comparison) ≡ length comparison.solutions.now }

@@ -119,14 +119,16 @@ pub fn examples_of_faulty_files_of_comparisons()
 {}
 
 /// Each solution is read from the reader that was opened for its place. Here, the reader of place k
-/// holds the byte k.
+/// holds the byte k, and opening it takes no memory.
 pub fn examples_of_opened_solutions()
     ensures first { (read_trace : ReadTrace)
         → IsReadTraceAt (λ reader. Some (reader ∷ [])) (λ reader room given left after. reader ≡ after)
-        (λ place reader. reader ≡ place) 0 read_trace → read_trace.known ≡ Some (0 ∷ []) }
+        (λ place opened. opened ≡ Ok place) 0 (Some read_trace) → read_trace.known ≡ Some (0 ∷ []) }
     ensures second { (read_trace : ReadTrace)
         → IsReadTraceAt (λ reader. Some (reader ∷ [])) (λ reader room given left after. reader ≡ after)
-        (λ place reader. reader ≡ place) 1 read_trace → read_trace.known ≡ Some (1 ∷ []) }
+        (λ place opened. opened ≡ Ok place) 1 (Some read_trace) → read_trace.known ≡ Some (1 ∷ []) }
+    ensures unopened { (place : ℕ) → ¬ IsReadTraceAt (λ reader. Some (reader ∷ [])) (λ reader room given left after. reader ≡ after)
+        (λ place opened. opened ≡ Ok place) place None }
 {}
 
 /// Which verdicts are accepted.
