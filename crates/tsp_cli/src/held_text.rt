@@ -47,12 +47,19 @@ impl HeldText {
 }
 
 impl Read for HeldText {
-    ghost use Rattle.std.specs.Prelude.{Some};
-    ghost use Rattle.tsp_cli.specs.states.HeldText.{rest_of};
+    ghost use Rattle.std.specs.Io.{ReadsAtMost};
+    ghost use Rattle.std.specs.Io.KnownBytes.{ReadConsumes};
+    ghost use Rattle.std.specs.Prelude.{◌≡◌, ◌↔◌, IsErr, IsTrue};
+    ghost use Rattle.tsp_cli.specs.states.HeldText.{fails_of, held_remaining};
 
-    ghost remaining = { λ held. Some (rest_of held) };
+    ghost remaining = { held_remaining };
 
-    fn read(&mut self, buf: &mut [u8]) -> io::Result<usize> {
+    fn read(&mut self, buf: &mut [u8]) -> io::Result<usize>
+        ensures bound { ReadsAtMost result buf.new }
+        ensures bytes { ReadConsumes (held_remaining self.old) (held_remaining self.new) result buf.new }
+        ensures fails { IsErr result ↔ IsTrue (fails_of self.old) }
+        ensures failing { fails_of self.new ≡ fails_of self.old }
+    {
         if self.fails {
             return Err(io::Error::from(ErrorKind::Other));
         }
