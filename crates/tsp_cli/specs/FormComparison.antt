@@ -1,7 +1,6 @@
 -- `tsp compare --form`: the text that `tsp solution --of` would write for each solution is compared. A file that has no
 -- such text is compared as it stands. src/form_comparison.rt promises it. In no circle of docs/trust.md.
-use Rattle.std.specs.Prelude.{◌≡◌, ◌≢◌, ◌⊎◌, ◌+◌, ℕ, Bool, true, false, List, [], Option, None, Some, Result, Ok, Err, ⊤, slice_index_or}
-use Rattle.std.specs.List.{replicate}
+use Rattle.std.specs.Prelude.{◌≡◌, ◌≢◌, ◌⊎◌, ◌+◌, replicate, ℕ, Bool, true, false, List, [], Option, None, Some, Result, Ok, Err, ⊤, slice_index_or}
 use Rattle.std.specs.declared.alloc.AllocError.{AllocError}
 use Rattle.std.specs.declared.io.Error.{Error}
 use Rattle.clap.specs.Words.{Text}

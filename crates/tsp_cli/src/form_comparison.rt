@@ -2,14 +2,14 @@
 //! A file that has no such text is compared as it stands. `running.rt` comes here if a comparison
 //! names a form. `specs/FormComparison.antt` pins which text is compared.
 
-ghost use Rattle.std.specs.Prelude.{◌≡◌, ◌≢◌, MatchResult, ⊤, length, map};
+ghost use Rattle.std.specs.Prelude.{◌≡◌, ◌≢◌, IfOk, MatchResult, ⊤, length, map};
 ghost use Rattle.std.specs.String.{string_bytes};
 ghost use Rattle.tsp_io.specs.states.Output.{FailsByWrite, sink_of};
 ghost use Rattle.tsp_judge.specs.CompareRun.{IsFollowed};
 ghost use Rattle.tsp_text.specs.declared.fault.ReadFault.TheVariants as read_faults;
 ghost use Rattle.tsp_solution.specs.declared.fault.SolutionFault.TheVariants as faults;
 ghost use Rattle.tsp_cli.specs.FormCheck.{form_hints};
-ghost use Rattle.tsp_cli.specs.FormComparison.{ComparesTextsOf, HoldsSolution, HoldsUnread, IsKnownBy, IsOpenedByForm, OpensByForm, is_refusal};
+ghost use Rattle.tsp_cli.specs.FormComparison.{ComparesTextsOf, HoldsSolution, HoldsUnread, IsKnownBy, IsOpenedByForm, OpensByForm, is_refusal, too_many_blanks};
 ghost use Rattle.tsp_cli.specs.ProgramRun.{IsFresh, paths_of};
 ghost use Rattle.tsp_cli.specs.RunEnd.{MayTell};
 
@@ -194,12 +194,21 @@ fn unread(alloc: Global, fault: SolutionFault) -> Result<HeldText, AllocError>
 {
     match fault {
         SolutionFault::File(ReadFault::Device) => Ok(HeldText::failing(alloc)),
-        SolutionFault::File(ReadFault::TooLong) => {
-            match filled(alloc, b' ', MOST_FILE_BYTES + 1) {
-                Ok(blanks) => Ok(HeldText::of(blanks)),
-                Err(_) => Err(AllocError),
-            }
-        }
+        SolutionFault::File(ReadFault::TooLong) => Ok(HeldText::of(too_many_blanks(alloc)?)),
         _ => Err(AllocError),
+    }
+}
+
+/// Blanks, one more than a file may have bytes.
+///
+/// # Errors
+///
+/// Memory was refused.
+fn too_many_blanks(alloc: Global) -> Result<Vec<u8>, AllocError>
+    ensures { IfOk result (λ blanks. blanks.items ≡ too_many_blanks) }
+{
+    match filled(alloc, b' ', MOST_FILE_BYTES + 1) {
+        Ok(blanks) => Ok(blanks),
+        Err(_) => Err(AllocError),
     }
 }
