@@ -1,6 +1,6 @@
 -- A run of the program `tsp`, from the words of its command line to its exit status. `run` in src/running.rt promises
 -- `EndsProgram`. In no circle of docs/trust.md: the contracts of tsp_judge say what `yes` means.
-use Rattle.std.specs.Prelude.{◌≡◌, ℕ, false, List, [], Option, Some, Result, map, slice_index_or, ◌≢◌, ◌⊎◌, ◌||◌, Bool, ◌∷◌, codes, drop, Ok, Err, OnOk, true}
+use Rattle.std.specs.Prelude.{◌≡◌, ℕ, false, List, [], Option, None, Some, Result, map, slice_index_or, ◌≢◌, ◌⊎◌, ◌||◌, Bool, ◌∷◌, codes, drop, Ok, Err, OnOk, true}
 use Rattle.std.specs.Str.{bytes_eq}
 use Rattle.std.specs.String.{string_bytes}
 use Rattle.std.specs.declared.alloc.AllocError.{AllocError}

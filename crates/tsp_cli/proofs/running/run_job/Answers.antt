@@ -86,8 +86,8 @@ some_of : {A : Type 0} (word : Option A) → is_some word ≡ true → word ≢ 
 some_of None named = cc
 some_of (Some word) named = λ none. cc
 
-pub returns-in-Compare-then-is_some : goal.returns-in-Compare-then-is_some
-returns-in-Compare-then-is_some g c =
+pub returns-then-is_some : goal.returns-then-is_some
+returns-then-is_some g c =
     let ran = c.run_form_comparison.ensures in
     let gives = subst (λ task. GivesTask c.args.job.now (Ok task)) c.in-Compare.is c.in-Ok.ensures in
     let asked : GivesFormComparison c.args.job.now c.in-Ok-form_of.form c.in-Compare.comparison =
@@ -97,8 +97,8 @@ returns-in-Compare-then-is_some g c =
       rw (← c.is_explained-explain.ensures) ran.2,
     )
 
-pub returns-in-Compare : goal.returns-in-Compare
-returns-in-Compare g c =
+pub returns-else-is_some : goal.returns-else-is_some
+returns-else-is_some g c =
     let ran = c.run_comparison.ensures in
     let gives = subst (λ task. GivesTask c.args.job.now (Ok task)) c.in-Compare.is c.in-Ok.ensures in
     let unnamed = none_of c.args.job.now.form (sym c.is_some.ensures ∙ c.if-is_some.false) in
