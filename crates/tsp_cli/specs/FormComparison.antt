@@ -22,7 +22,7 @@ use Rattle.tsp_solution.specs.declared.fault.SolutionFault.TheVariants as faults
 use Rattle.tsp_solution.specs.declared.form.Form.{Form}
 use Rattle.tsp_solution.specs.declared.hints.Hints.{Hints}
 use Rattle.tsp_solution.specs.declared.run.SolutionRunFault.{SolutionRunFault}
-use Rattle.tsp_solution.specs.declared.run.SolutionRunFault.TheVariants.{File, Write}
+use Rattle.tsp_solution.specs.declared.run.SolutionRunFault.TheVariants.{File}
 use Rattle.tsp_cli.specs.FormCheck.{GivesWhole, IsTurnOn, IsWrittenBy, LacksBytes, form_hints}
 use Rattle.tsp_cli.specs.Solutions.{GivesForm}
 use Rattle.tsp_cli.specs.Tasks.{GivesTask, IsInputPathAt}

@@ -1,6 +1,6 @@
 -- The goals of `known_by` in src/form_comparison.rt, which says what is known about the solutions of an instance: what it
 -- ensures.
-use Rattle.std.proofs.Common.{◌≡◌, Option, None, Err, refl, sym, subst, ◌∙◌}
+use Rattle.std.proofs.Common.{◌≡◌, Option, None, Err, refl, sym, ◌∙◌}
 use Rattle.tsp_solution.specs.SolutionRun.{GivesShape}
 use Rattle.tsp_solution.specs.declared.fault.FormFault.TheVariants.{NotAnInstance}
 use Rattle.tsp_solution.specs.declared.fault.SolutionFault.TheVariants.{File, Place}

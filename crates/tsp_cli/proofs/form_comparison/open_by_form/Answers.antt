@@ -1,5 +1,5 @@
 -- The goals of `open_by_form` in src/form_comparison.rt, which reads a solution and rewrites it: what it ensures.
-use Rattle.std.specs.Prelude.{◌≡◌, ◌≢◌, ℕ, List, Option, Some, Result, Ok, Err, MatchResult, ⊤}
+use Rattle.std.specs.Prelude.{◌≢◌, ℕ, List, Option, Some, Result, Ok, Err, MatchResult, ⊤}
 use Rattle.std.proofs.Common.{inl, inr, sym, subst}
 use Rattle.std.specs.declared.alloc.AllocError.{AllocError}
 use Rattle.std.specs.declared.io.Error.{Error}

@@ -1,7 +1,7 @@
 -- The goals of `run_job` in src/running.rt, which does a job and returns how it ended: what it ensures.
 use Rattle.std.proofs.Common.{inl, inr}
 use Rattle.std.specs.Prelude.{◌≢◌}
-use Rattle.tsp_cli.proofs.Prelude.{◌≡◌, ◌∙◌, refl, sym, subst, List, ℕ, Bool, true, false, is_some, Option, None, Some, Result, Ok, Keeps-refl}
+use Rattle.tsp_cli.proofs.Prelude.{◌≡◌, ◌∙◌, refl, sym, subst, List, ℕ, true, false, is_some, Option, None, Some, Result, Ok, Keeps-refl}
 use Rattle.std.specs.declared.io.Error.{Error}
 use Rattle.tsp_io.specs.Streams.{Sink}
 use Rattle.tsp_report.specs.declared.task.Comparison.{Comparison}
