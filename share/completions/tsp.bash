@@ -18,7 +18,7 @@ _tsp() {
         show) words='--explain -h --help -V --version' ;;
         convert) words='--layout --explain -h --help -V --version' ;;
         check) words='--potentials --branches --length --form --strict --explain -h --help -V --version' ;;
-        compare) words='--potentials --branches --strict --explain -h --help -V --version' ;;
+        compare) words='--potentials --branches --form --strict --explain -h --help -V --version' ;;
         bound) words='--potentials --branches --strict --explain -h --help -V --version' ;;
         solution) words='--of --form --first --depot --forms --explain -h --help -V --version' ;;
         esac

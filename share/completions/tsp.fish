@@ -25,6 +25,8 @@ complete -c tsp -n '__fish_seen_subcommand_from compare' -l explain -d 'Explain 
 complete -c tsp -n '__fish_seen_subcommand_from compare' -l potentials -r -F -d 'The potentials file'
 complete -c tsp -n '__fish_seen_subcommand_from compare' -l branches -r -F -d 'The branches file'
 complete -c tsp -n '__fish_seen_subcommand_from compare' -l strict -d 'Reject unknown keywords and unused fields'
+complete -c tsp -n '__fish_seen_subcommand_from compare' -l form -x -d 'The form of the solutions' \
+    -a 'auto tour json ortools cvrplib lkh r concorde-edges concorde table list'
 complete -c tsp -n '__fish_seen_subcommand_from bound' -l explain -d 'Explain a fault, or the line no'
 complete -c tsp -n '__fish_seen_subcommand_from bound' -l potentials -r -F -d 'The potentials file'
 complete -c tsp -n '__fish_seen_subcommand_from bound' -l branches -r -F -d 'The branches file'

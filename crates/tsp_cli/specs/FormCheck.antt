@@ -70,10 +70,14 @@ abbrev pub LacksBytes : {F : Type 0} → (F → Option (List ℕ)) → (F → Li
 LacksBytes {F = F} remaining gives begins place fault = (old new : Watched F) × begins place old
     × TakesAtMost most_taken (read_trace_of remaining old new) (StopsText fault) × IsReadOn gives old new
 
+-- the text that `tsp solution` writes for a solution, by what is known about it
+abbrev pub IsWrittenBy : Hints → List ℕ → List ℕ → Type 0
+IsWrittenBy known solution text = (file : Fields) × IsReadAs known solution file × (text ≡ text_of file)
+
 -- the text that `tsp solution` writes for a solution of the instance with a text
 abbrev pub IsWrittenFor : Hints → List ℕ → List ℕ → List ℕ → Type 0
 IsWrittenFor hints solution instance text = (known : Hints) × GivesHintsOf hints (Some instance) (Ok known)
-    × ((file : Fields) × IsReadAs known solution file × (text ≡ text_of file))
+    × IsWrittenBy known solution text
 
 -- both files were read, and these are the text of the instance and the one that is written for the solution
 abbrev pub AreTextsOf : {F : Type 0} → (F → Option (List ℕ)) → (F → List ℕ → Result ℕ Error → List ℕ → F → Type 0)

@@ -88,9 +88,13 @@ compare_files = with_rule (with_rule (new_app (codes "compare")) (path (codes "F
 abbrev pub compare_certified : App
 compare_certified = with_rule (with_rule compare_files of_potentials) of_branches
 
--- compare F S.. [--potentials P] [--branches B] [--strict] [--explain]
+-- compare F S.. [--potentials P] [--branches B] [--form NAME]
+abbrev pub compare_formed : App
+compare_formed = with_rule compare_certified (option (codes "NAME") (codes "form"))
+
+-- compare F S.. [--potentials P] [--branches B] [--form NAME] [--strict] [--explain]
 abbrev pub compare : App
-compare = with_rule (with_rule compare_certified strict) explain
+compare = with_rule (with_rule compare_formed strict) explain
 
 -- bound F
 abbrev pub bound_files : App

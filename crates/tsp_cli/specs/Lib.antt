@@ -1,10 +1,11 @@
--- Definitions of a command line (Grammar, Tasks, Solutions, FormCheck) and of the run that it asks for (ProgramRun,
+-- Definitions of a command line (Grammar, Tasks, Solutions, FormCheck, FormComparison) and of the run that it asks for (ProgramRun,
 -- RunEnd). Only tsp_tool is above, and no circle of docs/trust.md contains one of them.
 pub mod Examples
 pub mod Grammar
 pub mod Tasks
 pub mod Solutions
 pub mod FormCheck
+pub mod FormComparison
 pub mod states
 pub mod RunEnd
 pub mod ProgramRun

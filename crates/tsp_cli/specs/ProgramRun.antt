@@ -1,8 +1,9 @@
 -- A run of the program `tsp`, from the words of its command line to its exit status. `run` in src/running.rt promises
 -- `EndsProgram`. In no circle of docs/trust.md: the contracts of tsp_judge say what `yes` means.
-use Rattle.std.specs.Prelude.{◌≡◌, ℕ, false, List, [], Option, Some, Result, map, slice_index_or, ◌≢◌, ◌⊎◌, ◌||◌, Bool, ◌∷◌, codes, drop, Ok, Err, OnOk, true}
+use Rattle.std.specs.Prelude.{◌≡◌, ℕ, false, List, [], Option, None, Some, Result, map, slice_index_or, ◌≢◌, ◌⊎◌, ◌||◌, Bool, ◌∷◌, codes, drop, Ok, Err, OnOk, true}
 use Rattle.std.specs.Str.{bytes_eq}
 use Rattle.std.specs.String.{string_bytes}
+use Rattle.std.specs.declared.alloc.AllocError.{AllocError}
 use Rattle.std.specs.declared.io.Error.{Error}
 use Rattle.std.specs.declared.io.ErrorKind.{ErrorKind}
 use Rattle.std.specs.declared.io.ErrorKind.TheVariants as io_kinds
@@ -14,6 +15,7 @@ use Rattle.tsp_report.specs.declared.task.Comparison.{Comparison}
 use Rattle.tsp_report.specs.declared.task.FileTask.{FileTask}
 use Rattle.tsp_report.specs.declared.task.Task.{Task}
 use Rattle.tsp_report.specs.declared.task.Task.TheVariants as tasks
+use Rattle.tsp_solution.specs.declared.form.Form.{Form}
 use Rattle.tsp_solution.specs.declared.run.SolutionRunFault.{SolutionRunFault}
 use Rattle.tsp_judge.specs.TaskRun.{AreComparedOn, IsCompared, AreReadOn, IsDone}
 use Rattle.tsp_judge.specs.declared.Watched.{Watched}
@@ -27,6 +29,7 @@ use Rattle.tsp_cli.specs.Grammar.{GivesJob, IsOtherRefusal}
 use Rattle.tsp_cli.specs.RunEnd.{status_of_run_end, TellsAll, Prints, PrintsSome, version_text}
 use Rattle.tsp_cli.specs.Tasks.{IsInputPathAt, GivesTask}
 use Rattle.tsp_cli.specs.FormCheck.{GivesFormCheck, IsCheckedByForm, LacksTexts, asks_form}
+use Rattle.tsp_cli.specs.FormComparison.{GivesFormComparison, IsComparedByForm, LacksInstance}
 use Rattle.tsp_cli.specs.Solutions.{GivesForm, GivesSolution, IsSolved}
 use Rattle.tsp_cli.specs.declared.form_check.FormCheck.{FormCheck}
 use Rattle.tsp_cli.specs.declared.job.TaskFault.{TaskFault}
@@ -47,9 +50,10 @@ IsFresh opens place reader = opens place (watched reader) × (has_failed reader 
 abbrev pub paths_of : Comparison InputPath → List Text
 paths_of comparison = map string_bytes comparison.solutions.now
 
--- opening the path with this index, counted from 0, may give this file
-abbrev pub IsOpenedAt : {F : Type 0} → (InputPath → F → Type 0) → List Text → ℕ → F → Type 0
-IsOpenedAt opens paths index file = (place : InputPath) × IsInputPathAt (slice_index_or paths index []) place × opens place file
+-- opening the path with this index, counted from 0, may give this file; it takes no memory
+abbrev pub IsOpenedAt : {F : Type 0} → (InputPath → F → Type 0) → List Text → ℕ → Result F AllocError → Type 0
+IsOpenedAt opens paths index (Ok file) = (place : InputPath) × IsInputPathAt (slice_index_or paths index []) place × opens place file
+IsOpenedAt opens paths index (Err refused) = ⊥
 
 -- the readers of the instance and the certificate, each of its opened file
 abbrev pub AreOpened : {F : Type 0} → (InputPath → F → Type 0) → Comparison InputPath → Comparison (Watched F) → Type 0
@@ -104,8 +108,24 @@ EndsFormCheck remaining gives opens check sink (Solved answer) = ((fault : Solut
     × LacksTexts remaining gives (IsFresh opens) check fault) × IsUnwritten sink
 EndsFormCheck remaining gives opens check sink other = ⊥
 
+-- how a run with a comparison of solutions in some form ends: their texts were compared, or the instance can't be read
+abbrev pub EndsFormComparison : {F : Type 0} → (F → Option (List ℕ)) → (F → List ℕ → Result ℕ Error → List ℕ → F → Type 0)
+    → (InputPath → F → Type 0) → Option Form → Comparison InputPath → Sink → RunEnd → Type 0
+EndsFormComparison remaining gives opens form comparison sink (run_ends.Compared answer) =
+    IsComparedByForm remaining gives (IsFresh opens) form comparison (paths_of comparison) sink answer
+EndsFormComparison remaining gives opens form comparison sink (Solved answer) =
+    LacksInstance remaining gives (IsFresh opens) comparison sink answer
+EndsFormComparison remaining gives opens form comparison sink other = ⊥
+
+-- the same for a job that asks for such a comparison
+abbrev pub EndsComparedByForm : {F : Type 0} → (F → Option (List ℕ)) → (F → List ℕ → Result ℕ Error → List ℕ → F → Type 0)
+    → (InputPath → F → Type 0) → Job → Sink → RunEnd → Type 0
+EndsComparedByForm remaining gives opens job sink run_end = (form : Option Form) × (comparison : Comparison InputPath)
+    × GivesFormComparison job form comparison × EndsFormComparison remaining gives opens form comparison sink run_end
+
 -- How a run with this job ends: it asks for no task, and then nothing is written; or the task was done on its opened
--- files; or the solutions were compared; or a solution was rewritten, or had a fault before it could be checked.
+-- files; or the solutions were compared; or a solution was rewritten; or a file had a fault before a solution in some
+-- form could be checked or compared.
 abbrev pub EndsWith : {F : Type 0} → (F → Option (List ℕ)) → (F → List ℕ → Result ℕ Error → List ℕ → F → Type 0)
     → (InputPath → F → Type 0) → Job → Sink → RunEnd → Type 0
 EndsWith remaining gives opens job sink (NoJob fault) = ⊥
@@ -113,10 +133,12 @@ EndsWith remaining gives opens job sink (Printed printed) = ⊥
 EndsWith remaining gives opens job sink (NoTask fault) = GivesNone job fault × IsUnwritten sink
 EndsWith remaining gives opens job sink (Solved answer) = IsSolved remaining gives (IsFresh opens) job sink answer
     ⊎ StopsByForm remaining gives opens job sink answer
+    ⊎ EndsComparedByForm remaining gives opens job sink (Solved answer)
 EndsWith remaining gives opens job sink (Ended answer) = EndsTask remaining gives opens job sink answer
-EndsWith remaining gives opens job sink (run_ends.Compared answer) = (comparison : Comparison InputPath) × GivesTask job
-    (Ok (tasks.Compare comparison))
-    × IsComparedAs remaining gives opens comparison sink answer
+EndsWith remaining gives opens job sink (run_ends.Compared answer) =
+    ((comparison : Comparison InputPath) × GivesTask job (Ok (tasks.Compare comparison)) × (job.form ≡ None)
+    × IsComparedAs remaining gives opens comparison sink answer)
+    ⊎ EndsComparedByForm remaining gives opens job sink (run_ends.Compared answer)
 
 -- the words ask for the version
 abbrev pub AsksVersion : JobFault → Type 0

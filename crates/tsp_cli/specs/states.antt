@@ -1,3 +1,4 @@
--- Definitions that look into structs of the code: an input file (src/input.rt), also for the main.rt of tsp_tool. No
--- circle rests on them.
+-- Definitions that look into structs of the code: an input file (src/input.rt), also for the main.rt of tsp_tool, and a
+-- text in memory (src/held_text.rt). No circle rests on them.
 pub mod InputFile
+pub mod HeldText

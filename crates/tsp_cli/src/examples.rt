@@ -24,13 +24,17 @@ ghost use Rattle.tsp_judge.specs.declared.run_status.RunFault.TheVariants as run
 ghost use Rattle.tsp_judge.specs.declared.task_run.Outcome.{Outcome};
 ghost use Rattle.tsp_judge.specs.declared.task_run.Outcome.TheVariants as outcomes;
 ghost use Rattle.tsp_solution.specs.declared.fault.FormFault.TheVariants as form_faults;
+ghost use Rattle.tsp_solution.specs.SolutionText.{GivesHintsOf};
+ghost use Rattle.tsp_solution.specs.declared.fault.SolutionFault.{SolutionFault};
 ghost use Rattle.tsp_solution.specs.declared.fault.SolutionFault.TheVariants as solution_faults;
+ghost use Rattle.tsp_solution.specs.declared.form.Form.{Form};
 ghost use Rattle.tsp_solution.specs.declared.form.Form.TheVariants as forms;
 ghost use Rattle.tsp_solution.specs.declared.run.SolutionRunFault.TheVariants as solution_ends;
 ghost use Rattle.clap.specs.Words.{fault_of};
 ghost use Rattle.clap.specs.declared.error.Error.{Error};
 ghost use Rattle.clap.specs.declared.error.kind.ErrorKind.TheVariants as kinds;
 ghost use Rattle.tsp_cli.specs.FormCheck.{GivesFormCheck, asks_form, by_check_number, form_hints, task_of_check};
+ghost use Rattle.tsp_cli.specs.FormComparison.{GivesFormComparison, HoldsUnread, IsKnownBy, is_refusal};
 ghost use Rattle.tsp_cli.specs.Grammar.{word_of, tsp};
 ghost use Rattle.tsp_cli.specs.ProgramRun.{IsOpenedAt, paths_of, AreFresh, begins_with_help};
 ghost use Rattle.tsp_cli.specs.Examples.{IsWholeLine, found_value, all_values};
@@ -39,6 +43,8 @@ ghost use Rattle.tsp_cli.specs.Tasks.{GivesTask, IsFileTask, IsTask, IsInputPath
 ghost use Rattle.tsp_cli.specs.declared.ends.ErrorLine.TheVariants as error_lines;
 ghost use Rattle.tsp_cli.specs.declared.ends.RunEnd.TheVariants as run_ends;
 ghost use Rattle.tsp_cli.specs.declared.form_check.FormCheck.{FormCheck};
+ghost use Rattle.tsp_cli.specs.declared.held_text.HeldText.{HeldText};
+ghost use Rattle.tsp_cli.specs.states.HeldText.{fails_of, rest_of};
 ghost use Rattle.tsp_cli.specs.declared.job.InputPath.{InputPath};
 ghost use Rattle.tsp_cli.specs.declared.job.Job.{Job};
 ghost use Rattle.tsp_cli.specs.declared.job.JobFault.TheVariants as job_faults;
@@ -115,6 +121,9 @@ pub fn examples_of_lines()
     ensures checked_form { found_value (codes "NAME") (codes "check" ∷ codes "a" ∷ codes "b" ∷ codes "--form" ∷ codes "auto" ∷ [])
         ≡ Some (codes "auto") }
     ensures no_checked_form { found_value (codes "NAME") (codes "check" ∷ codes "a" ∷ codes "b" ∷ []) ≡ None }
+    ensures compared_form { found_value (codes "NAME") (codes "compare" ∷ codes "a" ∷ codes "b" ∷ codes "--form" ∷ codes "auto" ∷ [])
+        ≡ Some (codes "auto") }
+    ensures no_compared_form { found_value (codes "NAME") (codes "compare" ∷ codes "a" ∷ codes "b" ∷ []) ≡ None }
     ensures no_file { fault_of tsp (codes "show" ∷ []) ≢ [] }
     ensures no_solution { fault_of tsp (codes "check" ∷ codes "a" ∷ []) ≢ [] }
     ensures two_solutions { fault_of tsp
@@ -188,6 +197,21 @@ pub fn examples_of_checks_by_form()
     ensures named { (form_hints (Some forms.Json)).form ≡ Some forms.Json }
     ensures found { (form_hints None).form ≡ None }
     ensures no_depot { (form_hints (Some forms.Json)).depot ≡ None }
+{}
+
+/// Which comparisons read solutions in some form, and what takes the place of a solution that has a
+/// fault or can't be read.
+pub fn examples_of_comparisons_by_form()
+    ensures unnamed { (job : Job) (form : Option Form) (comparison : Comparison InputPath) → job.form ≡ None
+        → ¬ GivesFormComparison job form comparison }
+    ensures memory { is_refusal (solution_ends.File 1 solution_faults.OutOfMemory) ≡ true }
+    ensures file_memory { is_refusal (solution_ends.File 1 (solution_faults.File read_faults.OutOfMemory)) ≡ true }
+    ensures fault { is_refusal (solution_ends.File 1 (solution_faults.Place 2 3 form_faults.NotANode)) ≡ false }
+    ensures device { (held : HeldText) → HoldsUnread (solution_faults.File read_faults.Device) held
+        → (rest_of held ≡ []) × (fails_of held ≡ true) }
+    ensures other_fault { (held : HeldText) → ¬ HoldsUnread solution_faults.OutOfMemory held }
+    ensures faulty_instance { (fault : SolutionFault) → GivesHintsOf (form_hints None) (Some []) (Err fault)
+        → IsKnownBy (form_hints None) [] None }
 {}
 
 /// Which of two faults of a command line isn't named: the one that comes later in the order of
@@ -306,9 +330,9 @@ pub fn examples_of_opened_files()
     ensures another_task { (by kept : CertificateKind) (a b c : InputPath) (claimed : Option ℤ) (strict also : Bool) (x z : Watched InputPath)
         → ¬ AreFresh (λ place file. file ≡ place) (file_tasks.Check a b (Some (by, c)) claimed strict)
         (file_tasks.Bound x (kept, z) also) }
-    ensures first_solution { (file : InputPath) → IsOpenedAt (λ place file. file ≡ place) (codes "a" ∷ codes "b" ∷ []) 0 file
+    ensures first_solution { (file : InputPath) → IsOpenedAt (λ place file. file ≡ place) (codes "a" ∷ codes "b" ∷ []) 0 (Ok file)
         → (place : InputPath) × IsInputPathAt (codes "a") place × (file ≡ place) }
-    ensures second_solution { (file : InputPath) → IsOpenedAt (λ place file. file ≡ place) (codes "a" ∷ codes "b" ∷ []) 1 file
+    ensures second_solution { (file : InputPath) → IsOpenedAt (λ place file. file ≡ place) (codes "a" ∷ codes "b" ∷ []) 1 (Ok file)
         → (place : InputPath) × IsInputPathAt (codes "b") place × (file ≡ place) }
     ensures each_solution { (comparison : Comparison InputPath)
         → length (paths_of comparison) ≡ length comparison.solutions.now }

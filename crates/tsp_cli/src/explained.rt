@@ -16,10 +16,11 @@ use std::io::{self, Read, Write};
 use std::marker::PhantomData;
 use tsp_explain::{explain_file, push_lines};
 use tsp_judge::{
-    ComparisonContext, Follow, Found, RunFault, Solution, Solutions, explain_fault,
+    ComparisonContext, Follow, Found, RunFault, Solution, Solutions, Watched, explain_fault,
     explain_known_bound, explain_outcome, explain_solution,
 };
 use tsp_report::{Role, Task};
+use tsp_solution::{FormFault, Hints, SolutionFault, SolutionRunFault, read_text, solution_text};
 
 /// Explains line by line why a job makes no task. The text is cut short if memory runs out.
 pub(crate) fn fault_explanation(alloc: Global, fault: TaskFault) -> Vec<u8> {
@@ -160,6 +161,8 @@ pub(crate) struct Followed<'a, F, O> {
     pub(crate) task_run: &'a TaskRun<'a, F, O>,
     /// Their paths.
     pub(crate) solutions: &'a [String],
+    /// What is known about them, if they may have any form.
+    pub(crate) known: Option<Hints>,
 }
 
 impl<F: Read + Drop, O: Open<F>> Solutions<F> for Followed<'_, F, O> {
@@ -175,10 +178,9 @@ impl<F: Read + Drop, O: Open<F>> Solutions<F> for Followed<'_, F, O> {
         self.solutions[index].as_bytes()
     }
 
-    fn open(&self, index: usize) -> F {
-        self.task_run
-            .files
-            .open(input_path_at(&self.solutions[index]))
+    fn open(&self, index: usize) -> Result<F, AllocError> {
+        let place = input_path_at(&self.solutions[index]);
+        Ok(self.task_run.files.open(place))
     }
 }
 
@@ -245,11 +247,52 @@ impl<F: Read + Drop, O: Open<F>> Followed<'_, F, O> {
                 explain_solution(alloc, text, &self.task_run.names(), common, solution)
             }
             Found::Fault(fault) => {
+                if let Some(form_fault) = self.form_fault(place) {
+                    return push_form_fault(text, name, form_fault);
+                }
                 let again = again(place, self.task_run.files);
                 explain_file(alloc, text, name, Some(Role::Solution), again, *fault)
             }
         }
     }
+
+    /// What is wrong with the form of the solution at a place, if it may have any and can be read
+    /// once more.
+    fn form_fault(&self, place: InputPath<'_>) -> Option<FormFaultAt> {
+        let known = self.known?;
+        let alloc = self.task_run.alloc;
+        let mut reader = Watched::new(again(place, self.task_run.files)?);
+        let solution = match read_text(alloc, &mut reader) {
+            Ok(solution) => solution,
+            Err(_) => return None,
+        };
+        let written = solution_text(alloc, &solution, None, known);
+        drop(solution);
+        match written {
+            Err(
+                SolutionRunFault::File {
+                    file: _,
+                    fault: SolutionFault::Place { line, word, fault },
+                },
+            ) => Some(FormFaultAt { line, word, fault }),
+            _ => None,
+        }
+    }
+}
+
+/// What is wrong at a word of a solution in some form.
+#[derive(Clone, Copy)]
+struct FormFaultAt {
+    line: u32,
+    word: u32,
+    fault: FormFault,
+}
+
+/// Explains why a solution can't be read in its form.
+fn push_form_fault(text: &mut Vec<u8>, name: &str, found: FormFaultAt) -> Result<(), AllocError> {
+    let FormFaultAt { line, word, fault } = found;
+    let _ = writeln!(text, "{}:{}: word {}: {}", name, line, word, fault);
+    push_lines(text, fault.sentence())
 }
 
 /// Ends the line that counts, if there is one.

@@ -149,7 +149,7 @@ fn by_check_number(fault: SolutionRunFault) -> SolutionRunFault
 /// # Errors
 ///
 /// Those of `read_text`.
-fn text_at<F: Gives + Drop, O: Open<F>>(
+pub(crate) fn text_at<F: Gives + Drop, O: Open<F>>(
     alloc: Global,
     place: InputPath<'_>,
     files: &O,
@@ -189,7 +189,7 @@ pub(crate) fn check_texts<F: Gives + Drop, O: Open<F>, W: Takes>(
 }
 
 /// The file of a certificate, opened, if one is named.
-fn opened_certificate<F: Gives + Drop, O: Open<F>>(
+pub(crate) fn opened_certificate<F: Gives + Drop, O: Open<F>>(
     certificate: Option<(CertificateKind, InputPath<'_>)>,
     files: &O,
 ) -> Option<(CertificateKind, Watched<F>)>

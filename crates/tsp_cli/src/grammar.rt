@@ -4,7 +4,7 @@
 
 ghost use Rattle.std.specs.Prelude.{◌≡◌, IfOk, false};
 ghost use Rattle.clap.specs.Words.{App, Rule, new_app, rule_of, with_rule, with_subcommand};
-ghost use Rattle.tsp_cli.specs.Grammar.{IsCommandOf, has_globals, path, several_paths, optional_path, option, flag, explain, strict, show, convert, check_files, check_certified, check_claimed, check, compare_files, compare_certified, compare, bound_files, bound_certified, bound, solution_files, solution_hints, solution_verb, start, tsp};
+ghost use Rattle.tsp_cli.specs.Grammar.{IsCommandOf, has_globals, path, several_paths, optional_path, option, flag, explain, strict, show, convert, check_files, check_certified, check_claimed, check, compare_files, compare_certified, compare_formed, compare, bound_files, bound_certified, bound, solution_files, solution_hints, solution_verb, start, tsp};
 
 use clap::{Arg, ArgAction, Command};
 use std::alloc::{AllocError, Global};
@@ -96,16 +96,18 @@ prints a line for each: its length and path, or why it is rejected or can't be
 read. With --potentials or --branches it also prints a bound, and each line
 says optimal or gives the gap. With --strict, an instance with an unknown
 keyword, or with a field that it doesn't use, is rejected, and no solution is
-read.
+read. With --form auto, a solution is read as tsp solution --of F reads it. If
+it can't be read so, it is read as a file of TYPE TOUR.
 
 Exit status: the largest of 0 all accepted, 1 a no, 2 a fault in a file or
 the wrong kind, 5 a failed read or write; or 3 out of memory, 4 two
-certificates.
+certificates or no such form.
 
 Examples:
   tsp compare a.tsp a.tour b.tour
   tsp compare a.tsp *.tour --potentials a.potentials
-  tsp compare a.tsp *.tour --branches a.branches";
+  tsp compare a.tsp *.tour --branches a.branches
+  tsp compare a.vrp *.sol --form auto";
 
 /// The end of the help of `bound`.
 const BOUND_NOTES: &str = "\
@@ -219,12 +221,21 @@ fn check_files<'a>(alloc: Global) -> Result<Command<'a>, AllocError>
     then(one, path(alloc, "T", "The solution, of TYPE TOUR"))
 }
 
-/// `compare F T.. [--potentials P] [--branches B] [--strict] [--explain]`.
+/// `compare F T.. [--potentials P] [--branches B] [--form NAME] [--strict] [--explain]`.
 fn compare<'a>(alloc: Global) -> Result<Command<'a>, AllocError>
     ensures { IfOk result (IsCommandOf compare) }
 {
-    let one = then(compare_certified(alloc), strict(alloc));
+    let one = then(compare_formed(alloc), strict(alloc));
     then(one, explain(alloc))
+}
+
+/// `compare F T.. [--potentials P] [--branches B] [--form NAME]`.
+fn compare_formed<'a>(alloc: Global) -> Result<Command<'a>, AllocError>
+    ensures { IfOk result (IsCommandOf compare_formed) }
+{
+    let about = "Read the solutions in this form, or with auto in any";
+    let form = option(alloc, "NAME", "form", about);
+    then(compare_certified(alloc), form)
 }
 
 /// `compare F T.. [--potentials P] [--branches B]`.

@@ -107,8 +107,8 @@ impl JobFault {
 }
 
 /// Reads the words of a command line, those after the program's own name: `show F`, `convert F
-/// [--layout L]`, `check F T [--potentials P] [--branches B] [--length N] [--strict]`, `compare F
-/// T.. [--potentials P] [--branches B] [--strict]`, `bound F [--potentials P] [--branches B]
+/// [--layout L]`, `check F T [--potentials P] [--branches B] [--length N] [--form NAME] [--strict]`,
+/// `compare F T.. [--potentials P] [--branches B] [--form NAME] [--strict]`, `bound F [--potentials P] [--branches B]
 /// [--strict]`, `solution [T] [--of F] [--form NAME] [--first 0|1] [--depot D] [--forms]`, each
 /// with or without `--explain`, or no words at all.
 ///

@@ -17,7 +17,9 @@ mod ends;
 mod examples;
 mod explained;
 mod form_check;
+mod form_comparison;
 mod grammar;
+mod held_text;
 mod input;
 mod job;
 mod laws;
@@ -26,10 +28,10 @@ mod solution_run;
 
 pub use ends::{ErrorLine, RunEnd, line_of, status_of_run_end, tell};
 pub use examples::{
-    examples_of_checks_by_form, examples_of_help, examples_of_lines, examples_of_opened_files,
-    examples_of_printed_lines, examples_of_second_faults, examples_of_statuses,
-    examples_of_strict_requests, examples_of_two_certificates, examples_of_verbs,
-    examples_of_versions,
+    examples_of_checks_by_form, examples_of_comparisons_by_form, examples_of_help,
+    examples_of_lines, examples_of_opened_files, examples_of_printed_lines,
+    examples_of_second_faults, examples_of_statuses, examples_of_strict_requests,
+    examples_of_two_certificates, examples_of_verbs, examples_of_versions,
 };
 pub use grammar::VERSION;
 pub use input::{InputFile, Open};

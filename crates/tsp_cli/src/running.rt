@@ -8,13 +8,14 @@ ghost use Rattle.std.specs.Prelude.{◌≡◌, ◌≢◌, ◌||◌, IfOk, OnOk, 
 ghost use Rattle.std.specs.String.{string_bytes};
 ghost use Rattle.tsp_io.specs.states.Output.{FailsByWrite, sink_of};
 ghost use Rattle.tsp_judge.specs.TaskRun.{outcome_of_check};
-ghost use Rattle.tsp_cli.specs.ProgramRun.{EndsFormCheck, IsComparedAs, AreOpened, IsFresh, EndsProgram, EndsRefused, EndsWith, HasNoWords, IsDoneAs, Runs, RunsComparison, RunsJob, RunsFileTask, begins_with_help, AreFresh};
+ghost use Rattle.tsp_cli.specs.ProgramRun.{EndsFormCheck, EndsFormComparison, IsComparedAs, AreOpened, IsFresh, EndsProgram, EndsRefused, EndsWith, HasNoWords, IsDoneAs, Runs, RunsComparison, RunsJob, RunsFileTask, begins_with_help, AreFresh};
 ghost use Rattle.tsp_cli.specs.declared.job.Verb.TheVariants as verbs;
 ghost use Rattle.tsp_cli.specs.RunEnd.{Prints, PrintsSome, version_text, status_of_run_end, Tells, TellsAfter, TellsAll, waiting_line};
 
 use crate::ends::{RunEnd, status_of_run_end, tell};
 use crate::explained::{Followed, TaskRun, end_count, explanation, fault_explanation};
-use crate::form_check::{CheckedTexts, FormCheck, check_texts, form_check_of, texts_of};
+use crate::form_check::{CheckedTexts, FormCheck, check_texts, form_check_of, text_at, texts_of};
+use crate::form_comparison::compare_by_form;
 use crate::grammar::VERSION;
 use crate::input::Open;
 use crate::job::{InputPath, Job, JobFault, TaskFault, Verb, job_of, task_of, unread};
@@ -28,6 +29,7 @@ use std::marker::PhantomData;
 use tsp_io::{Gives, Output, Takes, write_text};
 use tsp_judge::{Judged, Outcome, RunError, Watched, WriteFault, compare, perform};
 use tsp_report::{Comparison, FileTask, Task};
+use tsp_solution::{Form, SolutionRunFault};
 
 /// What a run knows about its host.
 #[derive(Clone, Copy)]
@@ -172,7 +174,12 @@ fn run_job<F: Gives + Drop, O: Open<F>, W: Takes, E: Write>(
             Some(check) => run_form_check(&task_run, check, out, errors),
             None => run_file_task(&task_run, files, out, errors),
         },
-        Task::Compare(comparison) => run_comparison(&task_run, comparison, out, errors),
+        Task::Compare(comparison) => {
+            if job.form.is_some() {
+                return run_form_comparison(&task_run, comparison, form, out, errors);
+            }
+            run_comparison(&task_run, comparison, out, errors)
+        }
     }
 }
 
@@ -273,8 +280,36 @@ fn run_comparison<F: Gives + Drop, O: Open<F>, W: Takes, E: Write>(
     let followed = Followed {
         task_run,
         solutions,
+        known: None,
     };
     let found = compare(task_run.alloc, &mut readers, &followed, out, errors);
+    let run_end = RunEnd::Compared(found);
+    end_count(task_run, errors);
+    let reported = tell_end(task_run, &run_end, out.error(), errors);
+    (status_of_run_end(&run_end), reported)
+}
+
+/// Compares solutions in some form, and reports how that ended. Opens and reads the instance, opens
+/// the certificate, if one is named, and then reads and rewrites one solution after the other.
+fn run_form_comparison<F: Gives + Drop, O: Open<F>, W: Takes, E: Write>(
+    task_run: &TaskRun<'_, F, O>,
+    comparison: &Comparison<'_, InputPath<'_>>,
+    form: Option<Form>,
+    out: &mut Output<W>,
+    errors: &mut E,
+) -> (u8, io::Result<()>)
+    ensures { RunsJob (EndsFormComparison F.remaining F.gives (O.opens task_run.now.files.now) form comparison.now
+        (sink_of W.contents out.old out.new)) task_run.now.explain (E.contents errors.old) (E.contents errors.new) result }
+{
+    let instance = match text_at(task_run.alloc, comparison.instance, task_run.files) {
+        Ok(instance) => instance,
+        Err(fault) => {
+            let unread = SolutionRunFault::File { file: 1, fault };
+            return tell_solved(task_run.alloc, Err(unread), errors, task_run.explain);
+        }
+    };
+    let found = compare_by_form(task_run, comparison, form, &instance, out, errors);
+    drop(instance);
     let run_end = RunEnd::Compared(found);
     end_count(task_run, errors);
     let reported = tell_end(task_run, &run_end, out.error(), errors);

@@ -2,6 +2,7 @@
 use Rattle.tsp_judge.proofs.Prelude.{◌≡◌, ◌||◌, ℕ, suc, ◌+◌, ◌<◌, ◌≤◌, List, [], ◌∷◌, ◌++◌, length, take, Option, true, false, Bool, refl, sym, ap, subst, ◌∙◌, append_assoc, append-nil, arith, inl, inr, add-one, ◌⊎◌, Appends-nil, Appends-trans, Appends-kept, max, Result, Ok, Err, IfOk, slice_index_or, Some, None, ℤ, IsTrue, ReadTrace, Sink, IsUnwritten, HasWritten, HasStopped, Writes, output_failed, sink_of, writer_of, read_trace_of, watched, has_failed, Fields, HasReads, IsReadOn, IsFile, most_taken, ReadFault, IsProblem, problem_of, routing_of, solution_line, IsSized, report_of, head_of, is_clear, is_yes, CertificateKind, AppliesToTouring, AppliesToRouting, AppliesToInstanceBy, AppliesToCertificate, HasNoSolutionBy, IsCertifiedTourVerdict, IsCertifiedRoutesVerdict, IsCertifiedVerdictBy, IsCertifiedVerdict, IsKnownBound, IsVerdictFrom, IsJudgedWhole, strict_reason, IsKnownBoundAsked, IsFoundWith, IsVerdictBy, IsVerdictWith}
 use Rattle.std.proofs.lemmas.Bool.{false≢true}
 use Rattle.std.specs.Io.KnownBytes.{Appends}
+use Rattle.std.specs.declared.alloc.AllocError.{AllocError}
 use Rattle.std.specs.declared.io.Error.{Error}
 use Rattle.tsp_io.specs.declared.piece.WriteFault.{WriteFault}
 use Rattle.tsp_io.specs.declared.piece.WriteFault.TheVariants as write_faults
@@ -58,9 +59,9 @@ unwritten_then contents a b c x h k = (h.0, k.1 ∙ h.1, Appends-kept _ _ _ x h.
 -- ---- one solution
 
 -- the read trace of a reader that was opened, and has not failed before
-pub read_trace_at : {R : Type 0} (remaining : R → Option (List ℕ)) (gives : R → List ℕ → Result ℕ Error → List ℕ → R → Type 0) (opens : ℕ → R → Type 0) (place : ℕ) (reader : R)
-    (old new : Watched R) (given : List ℕ) → opens place reader → watched old ≡ reader → has_failed old ≡ false → IsReadOn gives old new → length given ≤ most_taken
-    → IsReadTraceAt remaining gives opens place (read_trace_of remaining old new given)
+pub read_trace_at : {R : Type 0} (remaining : R → Option (List ℕ)) (gives : R → List ℕ → Result ℕ Error → List ℕ → R → Type 0) (opens : ℕ → Result R AllocError → Type 0) (place : ℕ) (reader : R)
+    (old new : Watched R) (given : List ℕ) → opens place (Ok reader) → watched old ≡ reader → has_failed old ≡ false → IsReadOn gives old new → length given ≤ most_taken
+    → IsReadTraceAt remaining gives opens place (Some (read_trace_of remaining old new given))
 read_trace_at remaining gives opens place reader old new given opened is sound on few =
     let failed : has_failed new ≡ on.1 = on.3 ∙ ap (λ b. b || on.1) sound in record {
       reader = reader;
@@ -87,26 +88,26 @@ pub found_sized : (common : ComparisonContext) (read_trace : ReadTrace) (found :
 found_sized common read_trace (Ok verdict) h = sized common.certificate None common.instance h.0 verdict h.2
 found_sized common read_trace (Err fault) h = tt
 
-pub one_refused : (IsReadTrace : ℕ → ReadTrace → Type 0) (paths : List (List ℕ)) (common : ComparisonContext) (place : ℕ) (sink : Sink) (read_trace : ReadTrace) (fault : RunFault) → IsReadTrace place read_trace
+pub one_refused : (IsReadTrace : ℕ → Option ReadTrace → Type 0) (paths : List (List ℕ)) (common : ComparisonContext) (place : ℕ) (sink : Sink) (read_trace : ReadTrace) (fault : RunFault) → IsReadTrace place (Some read_trace)
     → Finds common read_trace (Err fault) → IsUnwritten sink → ComparesOne IsReadTrace paths common place sink (Err fault)
-one_refused IsReadTrace paths common place sink read_trace OutOfMemory is refused unwritten = ((read_trace, is, refused), unwritten)
+one_refused IsReadTrace paths common place sink read_trace OutOfMemory is refused unwritten = ((Some read_trace, is, refused), unwritten)
 one_refused IsReadTrace paths common place sink read_trace (Write fault) is refused unwritten = absurd refused
 one_refused IsReadTrace paths common place sink read_trace WrongKind is refused unwritten = absurd refused
 one_refused IsReadTrace paths common place sink read_trace (File file fault) is refused unwritten = absurd refused
 one_refused IsReadTrace paths common place sink read_trace (Relayout fault) is refused unwritten = absurd refused
 
-pub one_stopped : (IsReadTrace : ℕ → ReadTrace → Type 0) (paths : List (List ℕ)) (common : ComparisonContext) (place : ℕ) (sink : Sink) (read_trace : ReadTrace) (found : Result Verdict ReadFault) (fault : WriteFault)
-    → IsReadTrace place read_trace → IsFoundIn common read_trace found → Writes sink (solution_line found (slice_index_or paths place [])) (Err fault)
+pub one_stopped : (IsReadTrace : ℕ → Option ReadTrace → Type 0) (paths : List (List ℕ)) (common : ComparisonContext) (place : ℕ) (sink : Sink) (read_trace : ReadTrace) (found : Result Verdict ReadFault) (fault : WriteFault)
+    → IsReadTrace place (Some read_trace) → IsFoundIn common read_trace found → Writes sink (solution_line found (slice_index_or paths place [])) (Err fault)
     → ComparesOne IsReadTrace paths common place sink (Err (Write fault))
 one_stopped IsReadTrace paths common place sink read_trace found write_faults.Device is finds writes = (read_trace, is, (found, finds, writes))
 one_stopped IsReadTrace paths common place sink read_trace found write_faults.OutOfMemory is finds writes = absurd writes
 
 -- ---- one solution after another
 
-abbrev pub IsOneOf : (ℕ → ReadTrace → Type 0) → ComparisonContext → ℕ → Result Verdict ReadFault → Type 0
-IsOneOf IsReadTrace common place found = (read_trace : ReadTrace) × IsReadTrace place read_trace × IsFoundIn common read_trace found
+abbrev pub IsOneOf : (ℕ → Option ReadTrace → Type 0) → ComparisonContext → ℕ → Result Verdict ReadFault → Type 0
+IsOneOf IsReadTrace common place found = (read_trace : ReadTrace) × IsReadTrace place (Some read_trace) × IsFoundIn common read_trace found
 
-pub found_next : (IsReadTrace : ℕ → ReadTrace → Type 0) (common : ComparisonContext) (place : ℕ) (found : List (Result Verdict ReadFault)) (next : Result Verdict ReadFault)
+pub found_next : (IsReadTrace : ℕ → Option ReadTrace → Type 0) (common : ComparisonContext) (place : ℕ) (found : List (Result Verdict ReadFault)) (next : Result Verdict ReadFault)
     → AreFound IsReadTrace common place found → IsOneOf IsReadTrace common (place + length found) next → AreFound IsReadTrace common place (found ++ next ∷ [])
 found_next IsReadTrace common place [] next h k = (subst (λ p. IsOneOf IsReadTrace common p next) (omega arith) k, tt)
 found_next IsReadTrace common place (first ∷ rest) next h k =
@@ -133,14 +134,14 @@ length_next [] next = refl
 length_next (first ∷ rest) next = let more : length (rest ++ next ∷ []) ≡ length rest + 1 = length_next rest next in omega (arith, more)
 
 -- What has come of the first solutions, as many as this, of which the largest status is known.
-pub record HasCompared (IsReadTrace : ℕ → ReadTrace → Type 0) (paths : List (List ℕ)) (common : ComparisonContext) (sink : Sink) (count status : ℕ) : Type 0 where
+pub record HasCompared (IsReadTrace : ℕ → Option ReadTrace → Type 0) (paths : List (List ℕ)) (common : ComparisonContext) (sink : Sink) (count status : ℕ) : Type 0 where
   pub found : List (Result Verdict ReadFault)
   pub are : AreFound IsReadTrace common 0 found
   pub counted : length found ≡ count
   pub written : HasWritten sink (all_solution_lines found paths)
   pub largest : status ≡ largest_status found
 
-pub compared_none : {W : Type 0} {T : _} (contents : W → Option (List ℕ)) (a : Output W T) (IsReadTrace : ℕ → ReadTrace → Type 0) (paths : List (List ℕ)) (common : ComparisonContext) → output_failed a ≡ false
+pub compared_none : {W : Type 0} {T : _} (contents : W → Option (List ℕ)) (a : Output W T) (IsReadTrace : ℕ → Option ReadTrace → Type 0) (paths : List (List ℕ)) (common : ComparisonContext) → output_failed a ≡ false
     → HasCompared IsReadTrace paths common (sink_of contents a a) 0 0
 compared_none contents a IsReadTrace paths common sound = record {
   found = [];
@@ -150,7 +151,7 @@ compared_none contents a IsReadTrace paths common sound = record {
   largest = refl;
 }
 
-pub compared_next : {W : Type 0} {T : _} (contents : W → Option (List ℕ)) (a b c : Output W T) (IsReadTrace : ℕ → ReadTrace → Type 0) (paths : List (List ℕ)) (common : ComparisonContext) (count status : ℕ) (found : Found)
+pub compared_next : {W : Type 0} {T : _} (contents : W → Option (List ℕ)) (a b c : Output W T) (IsReadTrace : ℕ → Option ReadTrace → Type 0) (paths : List (List ℕ)) (common : ComparisonContext) (count status : ℕ) (found : Found)
     → HasCompared IsReadTrace paths common (sink_of contents a b) count status → count < length paths → ComparesOne IsReadTrace paths common count (sink_of contents b c) (Ok found)
     → HasCompared IsReadTrace paths common (sink_of contents a c) (count + 1) (max (status_of_found (result_of found)) status)
 compared_next contents a b c IsReadTrace paths common count status found h more k =
@@ -158,7 +159,7 @@ compared_next contents a b c IsReadTrace paths common count status found h more 
     let line = subst (λ n. HasWritten (sink_of contents b c) (solution_line next (slice_index_or paths n []))) (sym h.counted) k.3 in
     record {
       found = h.found ++ next ∷ [];
-      are = found_next IsReadTrace common 0 h.found next h.are (k.0, subst (λ n. IsReadTrace n k.0) (sym h.counted ∙ omega arith) k.1, k.2);
+      are = found_next IsReadTrace common 0 h.found next h.are (k.0, subst (λ n. IsReadTrace n (Some k.0)) (sym h.counted ∙ omega arith) k.1, k.2);
       counted = length_next h.found next ∙ ap (λ n. n + 1) h.counted;
       written = subst (HasWritten (sink_of contents a c)) (lines_next h.found paths next (omega (arith, h.counted, more)))
           (written_then contents a b c (all_solution_lines h.found paths) _ h.written line);
@@ -166,7 +167,7 @@ compared_next contents a b c IsReadTrace paths common count status found h more 
     }
 
 -- one solution ends the comparison
-pub compared_ends : {W : Type 0} {T : _} (contents : W → Option (List ℕ)) (a b c : Output W T) (IsReadTrace : ℕ → ReadTrace → Type 0) (paths : List (List ℕ)) (common : ComparisonContext) (count status : ℕ) (fault : RunFault)
+pub compared_ends : {W : Type 0} {T : _} (contents : W → Option (List ℕ)) (a b c : Output W T) (IsReadTrace : ℕ → Option ReadTrace → Type 0) (paths : List (List ℕ)) (common : ComparisonContext) (count status : ℕ) (fault : RunFault)
     → HasCompared IsReadTrace paths common (sink_of contents a b) count status → count < length paths → ComparesOne IsReadTrace paths common count (sink_of contents b c) (Err fault)
     → ComparesAll IsReadTrace paths common [] (sink_of contents a c) (Err fault)
 compared_ends contents a b c IsReadTrace paths common count status OutOfMemory h more k = (
@@ -180,7 +181,7 @@ compared_ends contents a b c IsReadTrace paths common count status (Write write_
     let next = k.2.0 in
     let line = subst (λ n. HasStopped (sink_of contents b c) (solution_line next (slice_index_or paths n []))) (sym h.counted) k.2.2 in (
       h.found ++ next ∷ [],
-      found_next IsReadTrace common 0 h.found next h.are (k.0, subst (λ n. IsReadTrace n k.0) (sym h.counted ∙ omega arith) k.1, k.2.1),
+      found_next IsReadTrace common 0 h.found next h.are (k.0, subst (λ n. IsReadTrace n (Some k.0)) (sym h.counted ∙ omega arith) k.1, k.2.1),
       omega (arith, length_next h.found next, h.counted, more),
       subst (HasStopped (sink_of contents a c)) (lines_next h.found paths next (omega (arith, h.counted, more)))
           (stopped_then contents a b c (all_solution_lines h.found paths) _ h.written line),
@@ -190,13 +191,13 @@ compared_ends contents a b c IsReadTrace paths common count status WrongKind h m
 compared_ends contents a b c IsReadTrace paths common count status (File file fault) h more k = absurd k
 compared_ends contents a b c IsReadTrace paths common count status (Relayout fault) h more k = absurd k
 
-pub compared_all : {W : Type 0} {T : _} (contents : W → Option (List ℕ)) (a b : Output W T) (IsReadTrace : ℕ → ReadTrace → Type 0) (paths : List (List ℕ)) (common : ComparisonContext) (count status : ℕ)
+pub compared_all : {W : Type 0} {T : _} (contents : W → Option (List ℕ)) (a b : Output W T) (IsReadTrace : ℕ → Option ReadTrace → Type 0) (paths : List (List ℕ)) (common : ComparisonContext) (count status : ℕ)
     → HasCompared IsReadTrace paths common (sink_of contents a b) count status → count ≡ length paths → ComparesAll IsReadTrace paths common [] (sink_of contents a b) (Ok status)
 compared_all contents a b IsReadTrace paths common count status h all = (h.found, h.are, h.counted ∙ all, h.written, h.largest)
 
 -- ---- the head before them
 
-pub after_head : {W : Type 0} {T : _} (contents : W → Option (List ℕ)) (a b c : Output W T) (IsReadTrace : ℕ → ReadTrace → Type 0) (paths : List (List ℕ)) (common : ComparisonContext) (head : List ℕ) (ended : Result ℕ RunFault)
+pub after_head : {W : Type 0} {T : _} (contents : W → Option (List ℕ)) (a b c : Output W T) (IsReadTrace : ℕ → Option ReadTrace → Type 0) (paths : List (List ℕ)) (common : ComparisonContext) (head : List ℕ) (ended : Result ℕ RunFault)
     → HasWritten (sink_of contents a b) head → ComparesAll IsReadTrace paths common [] (sink_of contents b c) ended → ComparesAll IsReadTrace paths common head (sink_of contents a c) ended
 after_head contents a b c IsReadTrace paths common head (Ok status) h k = (k.0, k.1, k.2, written_then contents a b c head (all_solution_lines k.0 paths) h k.3, k.4)
 after_head contents a b c IsReadTrace paths common head (Err OutOfMemory) h k = (k.0, k.1, k.2, k.3, written_then contents a b c head (all_solution_lines k.0 paths) h k.4)
@@ -207,7 +208,7 @@ after_head contents a b c IsReadTrace paths common head (Err (File file fault)) 
 after_head contents a b c IsReadTrace paths common head (Err (Relayout fault)) h k = absurd k
 
 -- the writer fails at the head
-pub head_stopped : (clear : Bool) (IsReadTrace : ℕ → ReadTrace → Type 0) (paths : List (List ℕ)) (common : ComparisonContext) (sink : Sink) (fault : WriteFault)
+pub head_stopped : (clear : Bool) (IsReadTrace : ℕ → Option ReadTrace → Type 0) (paths : List (List ℕ)) (common : ComparisonContext) (sink : Sink) (fault : WriteFault)
     → Writes sink (head_of common.instance common.known_bound) (Err fault) → ComparesBy clear IsReadTrace paths common sink (Err (Write fault))
 head_stopped true IsReadTrace paths common sink write_faults.Device stops =
     ([], tt, omega arith, subst (HasStopped sink) (sym (append-nil (head_of common.instance common.known_bound))) stops)
@@ -217,7 +218,7 @@ head_stopped false IsReadTrace paths common sink write_faults.OutOfMemory stops 
 
 -- ---- the files that are read once
 
-pub compare_first_stops : (strict : Bool) (IsReadTrace : ℕ → ReadTrace → Type 0) (paths : List (List ℕ)) (given : Given) (first : ReadTrace) (sink : Sink) (fault : RunFault) → ReadsFile 1 first (Err fault)
+pub compare_first_stops : (strict : Bool) (IsReadTrace : ℕ → Option ReadTrace → Type 0) (paths : List (List ℕ)) (given : Given) (first : ReadTrace) (sink : Sink) (fault : RunFault) → ReadsFile 1 first (Err fault)
     → IsUnreadIn given → IsUnwritten sink → EndsCompare strict IsReadTrace paths given first sink fault
 compare_first_stops strict IsReadTrace paths given first sink (File place fault) stops two unwritten = (unwritten, inl (stops.0, stops.1, two))
 compare_first_stops strict IsReadTrace paths given first sink WrongKind stops two unwritten = absurd stops
@@ -225,7 +226,7 @@ compare_first_stops strict IsReadTrace paths given first sink (Write fault) stop
 compare_first_stops strict IsReadTrace paths given first sink OutOfMemory stops two unwritten = absurd stops
 compare_first_stops strict IsReadTrace paths given first sink (Relayout fault) stops two unwritten = absurd stops
 
-pub compare_second_stops : (strict : Bool) (IsReadTrace : ℕ → ReadTrace → Type 0) (paths : List (List ℕ)) (given : Given) (first : ReadTrace) (instance : Fields) (sink : Sink) (fault : RunFault) → IsFile first instance
+pub compare_second_stops : (strict : Bool) (IsReadTrace : ℕ → Option ReadTrace → Type 0) (paths : List (List ℕ)) (given : Given) (first : ReadTrace) (instance : Fields) (sink : Sink) (fault : RunFault) → IsFile first instance
     → ReadsGiven 2 given (Err fault) → IsUnwritten sink → EndsCompare strict IsReadTrace paths given first sink fault
 compare_second_stops strict IsReadTrace paths None first instance sink fault one stops unwritten = absurd stops
 compare_second_stops strict IsReadTrace paths (Some second) first instance sink (File place fault) one stops unwritten =
@@ -237,7 +238,7 @@ compare_second_stops strict IsReadTrace paths (Some second) first instance sink 
 
 -- ---- a comparison that ends early
 
-pub ends_lacking : (strict : Bool) (IsReadTrace : ℕ → ReadTrace → Type 0) (paths : List (List ℕ)) (given : Given) (first : ReadTrace) (instance : Fields) (certificate : Option (CertificateKind × Fields)) (sink : Sink)
+pub ends_lacking : (strict : Bool) (IsReadTrace : ℕ → Option ReadTrace → Type 0) (paths : List (List ℕ)) (given : Given) (first : ReadTrace) (instance : Fields) (certificate : Option (CertificateKind × Fields)) (sink : Sink)
     (fault : RunFault) → IsFile first instance → IsFileIn given certificate → LacksKnownBound certificate instance fault → IsUnwritten sink → EndsCompare strict IsReadTrace paths given first sink fault
 ends_lacking strict IsReadTrace paths given first instance certificate sink (File place fault) one two lacks unwritten = absurd lacks
 ends_lacking strict IsReadTrace paths given first instance certificate sink WrongKind one two lacks unwritten = inl (instance, certificate, one, two, lacks, unwritten)
@@ -245,12 +246,12 @@ ends_lacking strict IsReadTrace paths given first instance certificate sink (Wri
 ends_lacking strict IsReadTrace paths given first instance certificate sink OutOfMemory one two lacks unwritten = inl (instance, certificate, one, two, lacks, unwritten)
 ends_lacking strict IsReadTrace paths given first instance certificate sink (Relayout fault) one two lacks unwritten = absurd lacks
 
-no_file : (opened : Bool) (IsReadTrace : ℕ → ReadTrace → Type 0) (paths : List (List ℕ)) (common : ComparisonContext) (sink : Sink) (place : ℕ) (fault : ReadFault)
+no_file : (opened : Bool) (IsReadTrace : ℕ → Option ReadTrace → Type 0) (paths : List (List ℕ)) (common : ComparisonContext) (sink : Sink) (place : ℕ) (fault : ReadFault)
     → ComparesBy opened IsReadTrace paths common sink (Err (File place fault)) → ⊥
 no_file true IsReadTrace paths common sink place fault c = c
 no_file false IsReadTrace paths common sink place fault c = c
 
-pub ends_comparing : (strict : Bool) (IsReadTrace : ℕ → ReadTrace → Type 0) (paths : List (List ℕ)) (given : Given) (first : ReadTrace) (common : ComparisonContext) (sink : Sink) (fault : RunFault) → AreReadOnce given first common
+pub ends_comparing : (strict : Bool) (IsReadTrace : ℕ → Option ReadTrace → Type 0) (paths : List (List ℕ)) (given : Given) (first : ReadTrace) (common : ComparisonContext) (sink : Sink) (fault : RunFault) → AreReadOnce given first common
     → ComparesOn strict IsReadTrace paths common sink (Err fault) → EndsCompare strict IsReadTrace paths given first sink fault
 ends_comparing strict IsReadTrace paths given first common sink (File place fault) read c = absurd (no_file _ IsReadTrace paths common sink place fault c.1)
 ends_comparing strict IsReadTrace paths given first common sink WrongKind read c = inr (common, read, c)
@@ -271,7 +272,7 @@ pub reported_next : {E : Type 0} (tells : ℕ → E → E → Type 0) (count : �
 reported_next tells count first next last some more = rw (add-one count) (next, some, more)
 
 -- of those before the solution that ends the comparison
-pub reported_before : (IsReadTrace : ℕ → ReadTrace → Type 0) (paths : List (List ℕ)) (common : ComparisonContext) (place : ℕ) (sink : Sink) (fault : RunFault) (count : ℕ) → place < count
+pub reported_before : (IsReadTrace : ℕ → Option ReadTrace → Type 0) (paths : List (List ℕ)) (common : ComparisonContext) (place : ℕ) (sink : Sink) (fault : RunFault) (count : ℕ) → place < count
     → ComparesOne IsReadTrace paths common place sink (Err fault) → place ≤ most_reported fault count
 reported_before IsReadTrace paths common place sink OutOfMemory count more k = omega (arith, more)
 reported_before IsReadTrace paths common place sink (Write fault) count more k = omega (arith, more)
@@ -381,7 +382,7 @@ all_judged given instance known_bound asked is =
     judged_whole true instance (clear_before (strict_reason true instance) asked.0 (sym (ap is_clear asked.2) ∙ is)).1 refl
 
 -- and if none is judged, the head is the whole text
-pub none_judged : (clear : Bool) (IsReadTrace : ℕ → ReadTrace → Type 0) (paths : List (List ℕ)) (common : ComparisonContext) (sink : Sink) (status : ℕ)
+pub none_judged : (clear : Bool) (IsReadTrace : ℕ → Option ReadTrace → Type 0) (paths : List (List ℕ)) (common : ComparisonContext) (sink : Sink) (status : ℕ)
     → (clear ≡ true → ⊥) → ComparesBy clear IsReadTrace paths common sink (Ok status)
     → HasWritten sink (head_of common.instance common.known_bound) × (status ≡ 1)
 none_judged true IsReadTrace paths common sink status not by = absurd (not refl)

@@ -3,6 +3,7 @@
 -- docs/trust.md: what `optimal` in a line means is in Accepted.antt, and laws tie the two. tsp_cli imports it, too.
 use Rattle.tsp_judge.specs.Prelude.{ℕ, suc, max, Bool, true, false, List, [], length, Option, None, Some, Result, Ok, Err, IsTrue, slice_index_or, zero, ReadTrace, Sink, IsUnwritten, HasWritten, HasStopped, Fields, HasReads, IsFile, StopsAt, most_taken, IsProblem, head_of, solution_line, report_of, is_yes, is_clear, CertificateKind, Verdict, NoneOfKnownBoundWithoutMemory, HasKnownBound, is_judged, NoneBeforeRepeatsOn, IsVerdictWith, IsKnownBoundAsked}
 use Rattle.std.specs.Prelude.{◌≡◌, ◌≢◌, ◌⊎◌, ◌<◌, ◌≤◌, ◌∷◌, ◌++◌, ◌-◌}
+use Rattle.std.specs.declared.alloc.AllocError.{AllocError}
 use Rattle.std.specs.declared.io.Error.{Error}
 use Rattle.tsp_io.specs.declared.piece.WriteFault.TheVariants as write_faults
 use Rattle.tsp_read.specs.declared.ReadFault.{ReadFault}
@@ -29,15 +30,21 @@ IsFaultOfCompare given first file fault = ((file ≡ 1) × StopsAt fault first �
 
 -- the read trace of a reader that was opened for the solution at this place, counted from 0; the reader has failed if
 -- its last read returned an error
-pub record IsReadTraceAt {R : Type 0} (remaining : R → Option (List ℕ)) (gives : R → List ℕ → Result ℕ Error → List ℕ → R → Type 0)
-    (opens : ℕ → R → Type 0) (place : ℕ) (read_trace : ReadTrace)
+pub record IsOpenedReadTraceAt {R : Type 0} (remaining : R → Option (List ℕ)) (gives : R → List ℕ → Result ℕ Error → List ℕ → R → Type 0)
+    (opens : ℕ → Result R AllocError → Type 0) (place : ℕ) (read_trace : ReadTrace)
     : Type 0 where
   pub reader : R
-  pub opened : opens place reader
+  pub opened : opens place (Ok reader)
   pub known : read_trace.known ≡ remaining reader
   pub sound : read_trace.had_failed ≡ false
   pub asked : (count : ℕ) × (after : R) × HasReads gives count reader after read_trace.failed
   pub few : length read_trace.given ≤ most_taken
+
+-- the read trace of the solution at this place, or None if memory was refused for opening it
+abbrev pub IsReadTraceAt : {R : Type 0} → (R → Option (List ℕ)) → (R → List ℕ → Result ℕ Error → List ℕ → R → Type 0)
+    → (ℕ → Result R AllocError → Type 0) → ℕ → Option ReadTrace → Type 0
+IsReadTraceAt remaining gives opens place (Some read_trace) = IsOpenedReadTraceAt remaining gives opens place read_trace
+IsReadTraceAt remaining gives opens place None = (refused : AllocError) × opens place (Err refused)
 
 -- What is found about the solution that a reader delivers: the verdict of a check of the three files, and its meaning
 -- if the solution is accepted; or the fault of the file.
@@ -47,9 +54,11 @@ IsFoundIn common read_trace (Ok verdict) = (solution : Fields) × IsFile read_tr
     × (is_yes verdict ≡ true → IsAccepted common.certificate None common.instance solution (report_of common.instance verdict))
 IsFoundIn common read_trace (Err fault) = StopsAt fault read_trace × (fault ≢ read_faults.OutOfMemory)
 
--- Memory is refused for reading the solution, or for judging it; then no reason applies that is found without memory.
-abbrev pub IsRefusedIn : ComparisonContext → ReadTrace → Type 0
-IsRefusedIn common read_trace = StopsAt read_faults.OutOfMemory read_trace
+-- Memory is refused for opening the solution, for reading it, or for judging it; then no reason applies that is found
+-- without memory.
+abbrev pub IsRefusedIn : ComparisonContext → Option ReadTrace → Type 0
+IsRefusedIn common None = Unit {0}
+IsRefusedIn common (Some read_trace) = StopsAt read_faults.OutOfMemory read_trace
     ⊎ ((solution : Fields) × IsFile read_trace solution × NoneBeforeRepeatsOn common.instance solution)
 
 -- the verdict or the fault alone
@@ -60,7 +69,7 @@ result_of (founds.Fault fault) = Err fault
 -- what is found, or that memory is refused
 abbrev pub Finds : ComparisonContext → ReadTrace → Result Found RunFault → Type 0
 Finds common read_trace (Ok found) = IsFoundIn common read_trace (result_of found)
-Finds common read_trace (Err OutOfMemory) = IsRefusedIn common read_trace
+Finds common read_trace (Err OutOfMemory) = IsRefusedIn common (Some read_trace)
 Finds common read_trace (Err other) = ⊥
 
 -- the exit status of a check of that solution, which is its second file
@@ -69,13 +78,13 @@ status_of_found (Ok verdict) = status_of (Ok (is_yes verdict))
 status_of_found (Err fault) = status_of (Err (File 2 fault))
 
 -- the result for the solution at a place: its line was written, or a prefix of it, or memory is refused
-abbrev pub ComparesOne : (ℕ → ReadTrace → Type 0) → List (List ℕ) → ComparisonContext → ℕ → Sink → Result Found RunFault → Type 0
-ComparesOne IsReadTrace paths common place sink (Ok found) = (read_trace : ReadTrace) × IsReadTrace place read_trace
+abbrev pub ComparesOne : (ℕ → Option ReadTrace → Type 0) → List (List ℕ) → ComparisonContext → ℕ → Sink → Result Found RunFault → Type 0
+ComparesOne IsReadTrace paths common place sink (Ok found) = (read_trace : ReadTrace) × IsReadTrace place (Some read_trace)
     × IsFoundIn common read_trace (result_of found)
     × HasWritten sink (solution_line (result_of found) (slice_index_or paths place []))
-ComparesOne IsReadTrace paths common place sink (Err OutOfMemory) = ((read_trace : ReadTrace) × IsReadTrace place read_trace × IsRefusedIn common read_trace)
+ComparesOne IsReadTrace paths common place sink (Err OutOfMemory) = ((read_trace : Option ReadTrace) × IsReadTrace place read_trace × IsRefusedIn common read_trace)
     × IsUnwritten sink
-ComparesOne IsReadTrace paths common place sink (Err (Write write_faults.Device)) = (read_trace : ReadTrace) × IsReadTrace place read_trace
+ComparesOne IsReadTrace paths common place sink (Err (Write write_faults.Device)) = (read_trace : ReadTrace) × IsReadTrace place (Some read_trace)
     × ((found : Result Verdict ReadFault) × IsFoundIn common read_trace found
     × HasStopped sink (solution_line found (slice_index_or paths place [])))
 ComparesOne IsReadTrace paths common place sink (Err other) = ⊥
@@ -83,9 +92,9 @@ ComparesOne IsReadTrace paths common place sink (Err other) = ⊥
 -- ---- all solutions
 
 -- These were found, in order, of the solutions from this place on; each reader was opened for its place.
-abbrev pub AreFound : (ℕ → ReadTrace → Type 0) → ComparisonContext → ℕ → List (Result Verdict ReadFault) → Type 0
+abbrev pub AreFound : (ℕ → Option ReadTrace → Type 0) → ComparisonContext → ℕ → List (Result Verdict ReadFault) → Type 0
 AreFound IsReadTrace common place [] = Unit {0}
-AreFound IsReadTrace common place (found ∷ rest) = ((read_trace : ReadTrace) × IsReadTrace place read_trace × IsFoundIn common read_trace found)
+AreFound IsReadTrace common place (found ∷ rest) = ((read_trace : ReadTrace) × IsReadTrace place (Some read_trace) × IsFoundIn common read_trace found)
     × AreFound IsReadTrace common (suc place) rest
 
 -- the lines of what was found, each with its solution's path
@@ -102,13 +111,13 @@ largest_status (found ∷ rest) = max (status_of_found found) (largest_status re
 -- The result for the solutions with these paths; `before` is the text before their lines. Ok: the line of each was
 -- written, and the result is the largest status. OutOfMemory: the lines of the solutions before were written, and
 -- nothing else. If the writer fails, a prefix of such a text was written.
-abbrev pub ComparesAll : (ℕ → ReadTrace → Type 0) → List (List ℕ) → ComparisonContext → List ℕ → Sink → Result ℕ RunFault → Type 0
+abbrev pub ComparesAll : (ℕ → Option ReadTrace → Type 0) → List (List ℕ) → ComparisonContext → List ℕ → Sink → Result ℕ RunFault → Type 0
 ComparesAll IsReadTrace paths common before sink (Ok status) = (found : List (Result Verdict ReadFault))
     × AreFound IsReadTrace common 0 found × (length found ≡ length paths) × HasWritten sink (before ++ all_solution_lines found paths)
     × (status ≡ largest_status found)
 ComparesAll IsReadTrace paths common before sink (Err OutOfMemory) = (found : List (Result Verdict ReadFault))
     × AreFound IsReadTrace common 0 found × (length found < length paths)
-    × ((read_trace : ReadTrace) × IsReadTrace (length found) read_trace × IsRefusedIn common read_trace)
+    × ((read_trace : Option ReadTrace) × IsReadTrace (length found) read_trace × IsRefusedIn common read_trace)
     × HasWritten sink (before ++ all_solution_lines found paths)
 ComparesAll IsReadTrace paths common before sink (Err (Write write_faults.Device)) = (found : List (Result Verdict ReadFault))
     × AreFound IsReadTrace common 0 found × (length found ≤ length paths) × HasStopped sink (before ++ all_solution_lines found paths)
@@ -121,13 +130,13 @@ ComparesNone head sink (Err (Write write_faults.Device)) = HasStopped sink head
 ComparesNone head sink (Err other) = ⊥
 
 -- the result for all solutions: each is judged, or none is
-abbrev pub ComparesBy : Bool → (ℕ → ReadTrace → Type 0) → List (List ℕ) → ComparisonContext → Sink → Result ℕ RunFault → Type 0
+abbrev pub ComparesBy : Bool → (ℕ → Option ReadTrace → Type 0) → List (List ℕ) → ComparisonContext → Sink → Result ℕ RunFault → Type 0
 ComparesBy true IsReadTrace paths common sink ended =
     ComparesAll IsReadTrace paths common (head_of common.instance common.known_bound) sink ended
 ComparesBy false IsReadTrace paths common sink ended = ComparesNone (head_of common.instance common.known_bound) sink ended
 
 -- the same; the known bound is that of the instance and the certificate, with or without `strict`
-abbrev pub ComparesOn : Bool → (ℕ → ReadTrace → Type 0) → List (List ℕ) → ComparisonContext → Sink → Result ℕ RunFault → Type 0
+abbrev pub ComparesOn : Bool → (ℕ → Option ReadTrace → Type 0) → List (List ℕ) → ComparisonContext → Sink → Result ℕ RunFault → Type 0
 ComparesOn strict IsReadTrace paths common sink ended = IsKnownBoundAsked strict common.certificate common.instance common.known_bound
     × ComparesBy (is_clear common.known_bound) IsReadTrace paths common sink ended
 
@@ -150,20 +159,20 @@ EndsLacking given first sink fault = (instance : Fields) × (certificate : Optio
     × IsFile first instance × IsFileIn given certificate × LacksKnownBound certificate instance fault × IsUnwritten sink
 
 -- why a comparison ends early: a file that isn't valid, no known bound, or a solution at which memory or the writer failed
-abbrev pub EndsCompare : Bool → (ℕ → ReadTrace → Type 0) → List (List ℕ) → Given → ReadTrace → Sink → RunFault → Type 0
+abbrev pub EndsCompare : Bool → (ℕ → Option ReadTrace → Type 0) → List (List ℕ) → Given → ReadTrace → Sink → RunFault → Type 0
 EndsCompare strict IsReadTrace paths given first sink (File file fault) = IsUnwritten sink × IsFaultOfCompare given first file fault
 EndsCompare strict IsReadTrace paths given first sink fault = EndsLacking given first sink fault
     ⊎ ((common : ComparisonContext) × AreReadOnce given first common × ComparesOn strict IsReadTrace paths common sink (Err fault))
 
 -- The result of a comparison of the solutions with these paths, each of a reader that was opened for its place.
-abbrev pub IsComparison : Bool → (ℕ → ReadTrace → Type 0) → List (List ℕ) → Given → ReadTrace → Sink → Result Compared RunFault → Type 0
+abbrev pub IsComparison : Bool → (ℕ → Option ReadTrace → Type 0) → List (List ℕ) → Given → ReadTrace → Sink → Result Compared RunFault → Type 0
 IsComparison strict IsReadTrace paths given first sink (Ok compared) = AreReadOnce given first compared.common
     × ComparesOn strict IsReadTrace paths compared.common sink (Ok compared.status)
 IsComparison strict IsReadTrace paths given first sink (Err fault) = EndsCompare strict IsReadTrace paths given first sink fault
 
 -- The same for readers of type R: what each has left, gives at a read, and is opened for.
 abbrev pub IsCompareRun : {R : Type 0} → Bool → (R → Option (List ℕ)) → (R → List ℕ → Result ℕ Error → List ℕ → R → Type 0)
-    → (ℕ → R → Type 0) → List (List ℕ) → Given → ReadTrace → Sink → Result Compared RunFault → Type 0
+    → (ℕ → Result R AllocError → Type 0) → List (List ℕ) → Given → ReadTrace → Sink → Result Compared RunFault → Type 0
 IsCompareRun strict remaining gives opens paths given first sink result =
     IsComparison strict (IsReadTraceAt remaining gives opens) paths given first sink result
 

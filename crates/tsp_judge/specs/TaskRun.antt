@@ -5,6 +5,7 @@ use Rattle.std.specs.Prelude.{◌≡◌}
 use Rattle.tsp_judge.specs.declared.bound_run.Bounded.{Bounded}
 use Rattle.tsp_judge.specs.declared.check.Judged.{Judged}
 use Rattle.tsp_judge.specs.declared.run_status.RunFault.{RunFault}
+use Rattle.std.specs.declared.alloc.AllocError.{AllocError}
 use Rattle.std.specs.declared.io.Error.{Error}
 use Rattle.tsp_io.specs.declared.watched.Watched.{Watched}
 use Rattle.tsp_report.specs.declared.task.Comparison.{Comparison}
@@ -80,7 +81,7 @@ AreComparedOn gives old new = IsReadOn gives old.instance new.instance × IsName
 -- The solutions are compared with these readers: that of the instance, and that of the certificate, if there is one.
 -- The reader of each solution comes from opening its index.
 abbrev pub IsCompared : {R : Type 0} → (R → Option (List ℕ)) → (R → List ℕ → Result ℕ Error → List ℕ → R → Type 0)
-    → (ℕ → R → Type 0) → List (List ℕ) → Comparison (Watched R) → Comparison (Watched R) → Sink → Result Compared RunFault → Type 0
+    → (ℕ → Result R AllocError → Type 0) → List (List ℕ) → Comparison (Watched R) → Comparison (Watched R) → Sink → Result Compared RunFault → Type 0
 IsCompared remaining gives opens names old new sink answer = TakesAtMost most_taken (read_trace_of remaining old.instance new.instance)
     (λ first. TakesNamed remaining old.certificate new.certificate (λ given.
     IsCompareRun old.strict remaining gives opens names given first sink answer))

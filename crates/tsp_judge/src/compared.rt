@@ -2,13 +2,14 @@
 //! calls it. The laws `lines_of_..` in `laws.rt` say what a line means.
 
 ghost use Rattle.tsp_judge.specs.Prelude.{max, false, true, [], length, MatchResult, ℕ, List, slice_index_or, ReadTrace, TakesAtMost, FailsByWrite, output_failed, sink_of, read_trace_of, IsReadOn, IsFile, most_taken, IsProblem, IsKnownBound, IsKnownBoundAsked, is_clear};
-ghost use Rattle.std.specs.Prelude.{◌≡◌, ◌<◌};
+ghost use Rattle.std.specs.Prelude.{◌≡◌, ◌<◌, Result};
+ghost use Rattle.std.specs.declared.alloc.AllocError.{AllocError};
 ghost use Rattle.tsp_judge.specs.CheckRun.{Given, IsFileIn, TakesNamed, IsNamedReadOn};
 ghost use Rattle.tsp_judge.specs.CompareRun.{IsReadTraceAt, ComparesOne, ComparesAll, ComparesBy, IsCompareRun, LacksKnownBound, Finds, result_of, status_of_found, IsFollowedBy, IsFollowed};
 
 use crate::check::{is_judged, lent, read_certificate, read_file};
 use crate::run_status::{RunError, RunFault, Status, status_of};
-use std::alloc::Global;
+use std::alloc::{AllocError, Global};
 use tsp_cost::Instance;
 use tsp_file::File;
 use tsp_io::{Gives, Output, Takes, Watched};
@@ -46,7 +47,7 @@ pub struct Compared {
 /// `File` if the instance (1) or the certificate (2) isn't valid or can't be read. `WrongKind` if
 /// both are valid, but the first isn't an instance, or is a CVRP and the certificate holds
 /// potentials. In these cases nothing is written. `OutOfMemory` if memory runs out while files are
-/// judged or a solution is read; if that happens at a solution, the head and the lines of the
+/// judged or a solution is opened or read; if that happens at a solution, the head and the lines of the
 /// earlier solutions were written. `Write` if the writer fails, after a prefix of the text. From
 /// each reader, at most 4,096 bytes past `MOST_FILE_BYTES` are read.
 pub fn run_compare<I: Gives, C: Gives, R: Gives + Drop, E, S: Solutions<R> + Follow<E>, W: Takes>(
@@ -171,7 +172,11 @@ fn compare_one<R: Gives + Drop, S: Solutions<R>, W: Takes>(
     ensures { ComparesOne (IsReadTraceAt R.remaining R.gives (S.opens solutions.now)) (S.names solutions.now) common.now index
         (sink_of W.contents out.old out.new) result }
 {
-    let mut reader = Watched::new(solutions.open(index));
+    let reader = match solutions.open(index) {
+        Ok(reader) => reader,
+        Err(refused) => return Err(RunError::unopened(refused)),
+    };
+    let mut reader = Watched::new(reader);
     let found = find(alloc, common, &mut reader)?;
     match write_line(found.result(), solutions.name(index), out) {
         Ok(()) => Ok(found),
@@ -292,8 +297,8 @@ pub trait Solutions<R> {
     /// The path of each, in order, as it is printed.
     ghost names: { Self → List (List ℕ) };
 
-    /// Whether opening the solution at a place may give this reader.
-    ghost opens: { Self → ℕ → R → Type 0 };
+    /// Whether opening the solution at a place may give this reader, or be refused memory.
+    ghost opens: { Self → ℕ → Result R AllocError → Type 0 };
 
     /// How many there are.
     fn count(&self) -> usize
@@ -305,7 +310,11 @@ pub trait Solutions<R> {
         ensures { result.now ≡ slice_index_or (names self.now) index [] };
 
     /// Opens the solution at a place.
-    fn open(&self, index: usize) -> R
+    ///
+    /// # Errors
+    ///
+    /// Memory was refused.
+    fn open(&self, index: usize) -> Result<R, AllocError>
         requires { index < length (names self.now) }
         ensures { opens self.now index result };
 }

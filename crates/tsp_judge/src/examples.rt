@@ -4,7 +4,7 @@
 //! holds, but one of these laws fails.
 
 ghost use Rattle.tsp_judge.specs.Prelude.{ℕ, List, [], true, false, None, Some, Ok, Err, pos, codes, Bool, Option, ℤ, decimal, Result, Sink, HasStopped, HasWritten, IsUnwritten, ReadTrace, IsUnread, TakesAtMost, Fields, IsReadOn, StopsAt, most_taken, kind_of, is_bounded, IsKnownBound, head_of, is_bound_yes, is_clear, is_yes, CertificateKind, read_trace_of};
-ghost use Rattle.std.specs.Prelude.{◌≡◌, ◌∷◌, ◌++◌, ◌+◌};
+ghost use Rattle.std.specs.Prelude.{◌≡◌, ◌∷◌, ◌++◌, ◌+◌, IfSome};
 ghost use Rattle.tsp_format.specs.declared.kinds.Kind.TheVariants as kinds;
 ghost use Rattle.tsp_format.specs.declared.layout.Layout.{Layout};
 ghost use Rattle.tsp_io.specs.declared.piece.WriteFault.TheVariants as write_faults;
@@ -82,19 +82,19 @@ pub fn examples_of_written_reports()
 pub fn examples_of_strict_comparisons()
     ensures not_judged { (common : ComparisonContext) (sink : Sink) (status : ℕ)
         → common.instance ≡ with_unknown kinds.Atsp 4 → common.known_bound ≡ record { least = None; found = None }
-        → ¬ ComparesOn true (λ place read_trace. StopsAt read_faults.TooLong read_trace) (codes "a.tour" ∷ []) common sink (Ok status) }
+        → ¬ ComparesOn true (λ place read_trace. IfSome read_trace (StopsAt read_faults.TooLong)) (codes "a.tour" ∷ []) common sink (Ok status) }
     ensures reason { (common : ComparisonContext) (sink : Sink)
         → common.instance ≡ with_unknown kinds.Atsp 4 → common.known_bound ≡ record { least = None; found = Some (bounds.No reasons.NotJudged) }
         → IsKnownBound common.certificate common.instance (record { least = None; found = None })
         → HasWritten sink (head_of (with_unknown kinds.Atsp 4) (record { least = None; found = Some (bounds.No reasons.NotJudged) }))
-        → ComparesOn true (λ place read_trace. StopsAt read_faults.TooLong read_trace) (codes "a.tour" ∷ []) common sink (Ok 1) }
+        → ComparesOn true (λ place read_trace. IfSome read_trace (StopsAt read_faults.TooLong)) (codes "a.tour" ∷ []) common sink (Ok 1) }
     ensures judged { (common : ComparisonContext) (sink : Sink) (read_trace : ReadTrace)
         → common.instance ≡ with_unknown kinds.Atsp 4 → common.known_bound ≡ record { least = None; found = None }
         → IsKnownBound common.certificate common.instance (record { least = None; found = None })
         → StopsAt read_faults.TooLong read_trace
         → HasWritten sink (head_of (with_unknown kinds.Atsp 4) (record { least = None; found = None })
         ++ all_solution_lines (Err read_faults.TooLong ∷ []) (codes "a.tour" ∷ []))
-        → ComparesOn false (λ place read_trace. StopsAt read_faults.TooLong read_trace) (codes "a.tour" ∷ []) common sink (Ok 2) }
+        → ComparesOn false (λ place read_trace. IfSome read_trace (StopsAt read_faults.TooLong)) (codes "a.tour" ∷ []) common sink (Ok 2) }
 {}
 
 /// Lines in the order of the solutions, each with its own path, and whole lines of the first ones
@@ -119,14 +119,16 @@ pub fn examples_of_faulty_files_of_comparisons()
 {}
 
 /// Each solution is read from the reader that was opened for its place. Here, the reader of place k
-/// holds the byte k.
+/// holds the byte k, and opening it takes no memory.
 pub fn examples_of_opened_solutions()
     ensures first { (read_trace : ReadTrace)
         → IsReadTraceAt (λ reader. Some (reader ∷ [])) (λ reader room given left after. reader ≡ after)
-        (λ place reader. reader ≡ place) 0 read_trace → read_trace.known ≡ Some (0 ∷ []) }
+        (λ place opened. opened ≡ Ok place) 0 (Some read_trace) → read_trace.known ≡ Some (0 ∷ []) }
     ensures second { (read_trace : ReadTrace)
         → IsReadTraceAt (λ reader. Some (reader ∷ [])) (λ reader room given left after. reader ≡ after)
-        (λ place reader. reader ≡ place) 1 read_trace → read_trace.known ≡ Some (1 ∷ []) }
+        (λ place opened. opened ≡ Ok place) 1 (Some read_trace) → read_trace.known ≡ Some (1 ∷ []) }
+    ensures unopened { (place : ℕ) → ¬ IsReadTraceAt (λ reader. Some (reader ∷ [])) (λ reader room given left after. reader ≡ after)
+        (λ place opened. opened ≡ Ok place) place None }
 {}
 
 /// Which verdicts are accepted.

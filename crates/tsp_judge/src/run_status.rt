@@ -7,6 +7,7 @@ ghost use Rattle.tsp_text.specs.declared.fault.ReadFault.TheVariants as read_fau
 ghost use Rattle.tsp_judge.specs.RunStatus.{status_number, status_of, status_of_fault};
 ghost use Rattle.tsp_judge.specs.declared.run_status.RunFault.TheVariants.{File, WrongKind, Write, OutOfMemory, Relayout};
 
+use std::alloc::AllocError;
 use std::fmt;
 use std::marker::Model;
 use thiserror::Error;
@@ -52,8 +53,8 @@ impl fmt::Display for RunFault {
 
 /// Why a run ended early. Contracts see only the fault.
 ///
-/// `OutOfMemory` can only be made from a [`ReadError`] or a [`Refused`], and only a call that was
-/// refused memory makes those.
+/// `OutOfMemory` can only be made from a [`ReadError`] or a [`Refused`], which only a call that was
+/// refused memory makes, or from the error of whoever opens the solutions of a comparison.
 #[derive(Clone, Copy, Debug, Drop)]
 pub struct RunError {
     ending: RunFault,
@@ -86,6 +87,15 @@ impl RunError {
                 file,
                 fault: unread.fault(),
             },
+        }
+    }
+
+    /// Memory was refused to open a solution of a comparison.
+    pub(crate) fn unopened(_refused: AllocError) -> RunError
+        ensures { result ≡ OutOfMemory }
+    {
+        RunError {
+            ending: RunFault::OutOfMemory,
         }
     }
 

@@ -4,7 +4,7 @@
 use crate::asserts::{same, same_at};
 use crate::devices::{Drip, NEVER, Refusal, Trickle};
 use crate::judge::files::{DUALS, THREE_NODES, TOUR};
-use std::alloc::Global;
+use std::alloc::{AllocError, Global};
 use std::io::ErrorKind;
 use std::test::Fail;
 use tsp_judge::{
@@ -43,9 +43,9 @@ impl Solutions<Trickle<'static>> for Four {
         }
     }
 
-    fn open(&self, index: usize) -> Trickle<'static> {
+    fn open(&self, index: usize) -> Result<Trickle<'static>, AllocError> {
         let fails_at = if index == 3 { 20 } else { NEVER };
-        Trickle::new(TEXTS[index].as_bytes(), fails_at, ErrorKind::Other)
+        Ok(Trickle::new(TEXTS[index].as_bytes(), fails_at, ErrorKind::Other))
     }
 }
 

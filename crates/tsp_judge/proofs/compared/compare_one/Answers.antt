@@ -11,36 +11,36 @@ write_line-requires g c =
     let found = c.in_ok-found.ensures.found in
     subst (λ r. IfOk r IsSized) (sym c.result.ensures) (found_sized c.args.common.now (read_trace_of g.R.Read.remaining c.new-reader.result c.find.new.reader found.0) _ found.2)
 
-pub returns-in-Ok : goal.returns-in-Ok
-returns-in-Ok g c =
+pub returns-in-Ok-write_line : goal.returns-in-Ok-write_line
+returns-in-Ok-write_line g c =
     let found = c.in_ok-found.ensures.found in
     let read_trace = read_trace_of g.R.Read.remaining c.new-reader.result c.find.new.reader found.0 in
-    let opened = read_trace_at g.R.Read.remaining g.R.Gives.gives (g.S.Solutions.opens c.args.solutions.now) c.args.index c.open.result c.new-reader.result c.find.new.reader found.0
-    c.open.ensures c.new-reader.ensures.inner c.new-reader.ensures.sound c.in_ok-found.ensures.asked found.1 in (
+    let opened = read_trace_at g.R.Read.remaining g.R.Gives.gives (g.S.Solutions.opens c.args.solutions.now) c.args.index c.in-Ok.reader c.new-reader.result c.find.new.reader found.0
+    c.in-Ok.ensures c.new-reader.ensures.inner c.new-reader.ensures.sound c.in_ok-found.ensures.asked found.1 in (
       read_trace,
       opened,
       found.2,
-      subst₂ (λ r (path : List _). HasWritten (sink_of g.W.Takes.contents c.args.out.now c.write_line.new.out) (solution_line r path)) c.result.ensures c.name.ensures c.in-Ok.ensures,
+      subst₂ (λ r (path : List _). HasWritten (sink_of g.W.Takes.contents c.args.out.now c.write_line.new.out) (solution_line r path)) c.result.ensures c.name.ensures c.in-Ok-write_line.ensures,
     )
 
 pub returns : goal.returns
 returns g c =
     let found = c.in_ok-found.ensures.found in
     let read_trace = read_trace_of g.R.Read.remaining c.new-reader.result c.find.new.reader found.0 in
-    let opened = read_trace_at g.R.Read.remaining g.R.Gives.gives (g.S.Solutions.opens c.args.solutions.now) c.args.index c.open.result c.new-reader.result c.find.new.reader found.0
-    c.open.ensures c.new-reader.ensures.inner c.new-reader.ensures.sound c.in_ok-found.ensures.asked found.1 in
+    let opened = read_trace_at g.R.Read.remaining g.R.Gives.gives (g.S.Solutions.opens c.args.solutions.now) c.args.index c.in-Ok.reader c.new-reader.result c.find.new.reader found.0
+    c.in-Ok.ensures c.new-reader.ensures.inner c.new-reader.ensures.sound c.in_ok-found.ensures.asked found.1 in
     rw c.unwritten.ensures
     (one_stopped (IsReadTraceAt g.R.Read.remaining g.R.Gives.gives (g.S.Solutions.opens c.args.solutions.now)) (g.S.Solutions.names c.args.solutions.now) c.args.common.now c.args.index
-    (sink_of g.W.Takes.contents c.args.out.now c.write_line.new.out) read_trace _ c.in-Err.fault opened found.2
-    (subst₂ (λ r (path : List _). Writes (sink_of g.W.Takes.contents c.args.out.now c.write_line.new.out) (solution_line r path) (Err c.in-Err.fault)) c.result.ensures c.name.ensures
-    c.in-Err.ensures))
+    (sink_of g.W.Takes.contents c.args.out.now c.write_line.new.out) read_trace _ c.in-Err-write_line.fault opened found.2
+    (subst₂ (λ r (path : List _). Writes (sink_of g.W.Takes.contents c.args.out.now c.write_line.new.out) (solution_line r path) (Err c.in-Err-write_line.fault)) c.result.ensures c.name.ensures
+    c.in-Err-write_line.ensures))
 
 pub returns-in_err-found : goal.returns-in_err-found
 returns-in_err-found g c =
     let same : c.from_residual.result ≡ Err c.in_err-found.field-0.0 = propagated _ _ c.from_residual.ensures.1 in
     let found = c.in_err-found.ensures.found in
     let read_trace = read_trace_of g.R.Read.remaining c.new-reader.result c.find.new.reader found.0 in
-    let opened = read_trace_at g.R.Read.remaining g.R.Gives.gives (g.S.Solutions.opens c.args.solutions.now) c.args.index c.open.result c.new-reader.result c.find.new.reader found.0
-    c.open.ensures c.new-reader.ensures.inner c.new-reader.ensures.sound c.in_err-found.ensures.asked found.1 in
+    let opened = read_trace_at g.R.Read.remaining g.R.Gives.gives (g.S.Solutions.opens c.args.solutions.now) c.args.index c.in-Ok.reader c.new-reader.result c.find.new.reader found.0
+    c.in-Ok.ensures c.new-reader.ensures.inner c.new-reader.ensures.sound c.in_err-found.ensures.asked found.1 in
     rw same (one_refused (IsReadTraceAt g.R.Read.remaining g.R.Gives.gives (g.S.Solutions.opens c.args.solutions.now)) (g.S.Solutions.names c.args.solutions.now) c.args.common.now
     c.args.index (sink_of g.W.Takes.contents c.args.out.now c.args.out.now) read_trace _ opened found.2 (Keeps-refl _, refl))

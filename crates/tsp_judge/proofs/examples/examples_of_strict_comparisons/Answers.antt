@@ -1,5 +1,6 @@
 -- The goals of `examples_of_strict_comparisons` in src/examples.rt: what it ensures.
 use Rattle.tsp_judge.proofs.Prelude.{◌≡◌, List, [], ◌∷◌, ◌++◌, ℕ, None, Some, Ok, Err, Bool, true, false, refl, sym, ap, subst, ◌∙◌, codes, Result, HasWritten, Fields, StopsAt, ReadFault, head_of, is_clear, strict_reason, strict_known_bound}
+use Rattle.std.specs.Prelude.{IfSome}
 use Rattle.tsp_format.specs.declared.kinds.Kind.TheVariants as kinds
 use Rattle.tsp_read.specs.declared.ReadFault.TheVariants as read_faults
 use Rattle.tsp_report.specs.declared.verdict.KnownBound.{KnownBound}
@@ -32,7 +33,7 @@ returns-clause-reason c = λ common sink instance_is bound_is known written.
     let same = ap (λ b. strict_known_bound b unknown_yet) refused in
     let text = head common.instance (with_unknown kinds.Atsp 4) common.known_bound (record { least = None; found = Some (bounds.No reasons.NotJudged) }) instance_is bound_is in (
       (unknown_yet, known, bound_is ∙ sym same),
-      subst (λ b. ComparesBy b (λ place read_trace. StopsAt read_faults.TooLong read_trace) (codes "a.tour" ∷ []) common sink (Ok 1)) (sym (ap is_clear bound_is))
+      subst (λ b. ComparesBy b (λ place read_trace. IfSome read_trace (StopsAt read_faults.TooLong)) (codes "a.tour" ∷ []) common sink (Ok 1)) (sym (ap is_clear bound_is))
           (subst (HasWritten sink) (sym text) written, refl),
     )
 
@@ -44,7 +45,7 @@ returns-clause-judged c = λ common sink read_trace instance_is bound_is known s
     let found : List (Result Verdict ReadFault) = Err read_faults.TooLong ∷ [] in
     let text = head common.instance (with_unknown kinds.Atsp 4) common.known_bound unknown_yet instance_is bound_is in (
       (unknown_yet, known, bound_is),
-      subst (λ b. ComparesBy b (λ place read_trace. StopsAt read_faults.TooLong read_trace) (codes "a.tour" ∷ []) common sink (Ok 2)) (sym (ap is_clear bound_is)) (
+      subst (λ b. ComparesBy b (λ place read_trace. IfSome read_trace (StopsAt read_faults.TooLong)) (codes "a.tour" ∷ []) common sink (Ok 2)) (sym (ap is_clear bound_is)) (
         found,
         ((read_trace, stops, (stops, not_memory)), tt),
         refl,
