@@ -1,5 +1,5 @@
--- Definitions of a command line (Grammar, Tasks, Solutions, FormCheck, FormComparison) and of the run that it asks for (ProgramRun,
--- RunEnd). Only tsp_tool is above, and no circle of docs/trust.md contains one of them.
+-- Definitions of a command line (Grammar, Tasks, Solutions, FormCheck, FormComparison) and of the run that it asks for
+-- (ProgramRun, RunEnd). Only tsp_tool is above, and no circle of docs/trust.md contains one of them.
 pub mod Examples
 pub mod Grammar
 pub mod Tasks

@@ -1,4 +1,5 @@
--- A text in memory that is read in place of a solution's file. For src/held_text.rt.
+-- A text in memory that is read in place of a solution's file. `src/held_text.rt` promises how it is read, and
+-- `specs/FormComparison.antt` says which text stands for which file.
 use Rattle.std.specs.Prelude.{ℕ, Bool, List, Option, Some, drop}
 use Rattle.tsp_cli.specs.declared.held_text.HeldText.{HeldText}
 
