@@ -170,6 +170,25 @@ def memory_states():
     need(f"bound {judged('a.vrp')['bound']} as reckoned" in said, f"another bound was reckoned: {said}")
 
 
+def memory_full():
+    """A file too full for the memories of all leaves is built again with the root's memory, and the better one stays."""
+    write_uniform("a.vrp", 26, random.Random(2), capacity=40, side=1000)
+    words = ["a.vrp", *BOTH, "--memory", "--seconds", "0", "--threads", "1", "--log", "out.log"]
+    whole = ends_of(words)
+    need(len(whole) == 1, "a file with room for all memories is built twice")
+    states = whole[0]["states"]
+    bounds = [end["bound"] for end in ends_of([*words, "--states", str(states * 7 // 8)])]
+    need(len(bounds) == 2, f"a full file isn't built again: {bounds}")
+    need(int(judged("a.vrp")["bound"]) == max(bounds) > bounds[0], f"the better file doesn't stay: {bounds}")
+
+
+def ends_of(words):
+    """The last events of the trees that a run builds, of which its log tells."""
+    certify(*words)
+    events = map(json.loads, Path("out.log").read_text().splitlines())
+    return [event for event in events if event["event"] == "end"]
+
+
 def optimal():
     """A tree of points, and costs of each direction."""
     write_uniform("a.vrp", 25, random.Random(4))
@@ -342,7 +361,7 @@ def bad_input():
 
 
 CASES = [
-    small, memory, memory_limits, memory_states, optimal, large_numbers, plan, forms, threads, time_limit,
+    small, memory, memory_limits, memory_states, memory_full, optimal, large_numbers, plan, forms, threads, time_limit,
     interrupt, split, limits, log, bad_input,
 ]  # fmt: skip
 
