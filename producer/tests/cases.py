@@ -3,12 +3,13 @@
 
 import json
 import random
+import subprocess
 from itertools import permutations
 from math import dist
 from pathlib import Path
 
-from support import POINTS, SPACE, certify, judged, need, need_bounded, need_optimal, need_same_bytes, run
-from support import write, write_arcs, write_layouts, write_matrix, write_points, write_small
+from support import CERTIFY, PATIENCE, POINTS, SPACE, TSP, certify, judged, need, need_bounded, need_optimal, need_same_bytes, run
+from support import write, write_arcs, write_forms, write_layouts, write_matrix, write_points, write_small
 
 
 def weights():
@@ -115,6 +116,24 @@ def named_tour():
     need("optimal" in judged("a.tsp", "out.tour", "again.branches"), "the optimal tour isn't kept")
 
 
+def forms():
+    """A shortest tour is named in several forms: none that is read as another tour is the shortest."""
+    write_points("a.tsp", "EUC_2D", 40, random.Random(8))
+    need_optimal("a.tsp")
+    names = write_forms([int(line) for line in Path("out.tour").read_text().splitlines() if line.isdigit()])
+    for words in ([], ["--sparse"]):
+        for name in names:
+            said = certify("a.tsp", name, "-o", "named.branches", *words)
+            need("shorter tour" not in said, f"{name}, {words}: another tour is read: {said}")
+            need(f"tsp check a.tsp {name} --form auto --branches named.branches" in said, f"another command: {said}")
+    need("optimal" in judged("a.tsp", "named.json", "out.branches", "--form", "auto"), "named.json isn't the shortest tour")
+    text = Path("a.tsp").read_text()
+    for name, status in (("named.tour", 0), ("named.txt", 2)):  # an instance from a pipe is read once
+        words = [CERTIFY, "-", name, "-o", "piped.branches", "--tsp", TSP]
+        done = subprocess.run(words, input=text, capture_output=True, text=True, timeout=100 * PATIENCE)
+        need(done.returncode == status, f"{name} of an instance from a pipe: {done.returncode} {done.stderr}")
+
+
 def upper():
     """A bound that is asked for is reached."""
     write_points("a.tsp", "EUC_2D", 60, random.Random(9))
@@ -168,8 +187,8 @@ def rounding():
     need("rounded" not in certify("d.tsp", "-o", "out.branches", "--tour-out", "out.tour"), "a matrix isn't rounded")
 
 
-CASES = [weights, fixed, small, matrix, atsp_small, atsp, atsp_named_tour, random_points, named_tour, upper, sparse,
-         rounding]
+CASES = [weights, fixed, small, matrix, atsp_small, atsp, atsp_named_tour, random_points, named_tour, forms, upper,
+         sparse, rounding]
 
 if __name__ == "__main__":
     run(CASES)

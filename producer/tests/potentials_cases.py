@@ -12,7 +12,7 @@ from pathlib import Path
 
 from support import CERTIFY as PROGRAM
 from support import PATIENCE, POINTS, SPACE, TSP, certify, need, need_installed, need_refused, run
-from support import write_arcs, write_faulty, write_layouts, write_matrix, write_points, write_small
+from support import write_arcs, write_faulty, write_forms, write_layouts, write_matrix, write_points, write_small
 
 OUT = ["-o", "out.potentials"]
 BOTH = [*OUT, "--tour-out", "out.tour"]
@@ -107,6 +107,18 @@ def named_tour():
     Path("kept.tour").write_bytes(Path("out.tour").read_bytes())
     again = int(judged_after(["a.tsp", "kept.tour", *BOTH, "--kicks", "0"], "out.tour")["length"])
     need(again <= better, "a shorter tour isn't kept")
+
+
+def forms():
+    """The length of a tour is that of its nodes, in any form."""
+    write_points("a.tsp", "EUC_2D", 50, random.Random(9))
+    names = write_forms(random.Random(9).sample(range(1, 51), 50))
+    certify("a.tsp", *OUT)
+    length = judged("a.tsp", "named.tour")["length"]
+    for name in names:
+        said = certify("a.tsp", name, *OUT)
+        need(f"length {length}," in said and "as reckoned" not in said, f"{name}: not length {length}: {said}")
+        need(f"tsp check a.tsp {name} --form auto --potentials" in said, f"{name}: another command: {said}")
 
 
 def judged_after(words, tour):
@@ -217,17 +229,19 @@ def bad_input():
     Path("routes.vrp").write_text(text.replace(": TSP", ": CVRP").replace("EOF", "CAPACITY : 9\nDEMAND_SECTION\n")
         + "".join(f"{v} {min(v - 1, 1)}\n" for v in range(1, 13)) + "DEPOT_SECTION\n1\n-1\nEOF\n")
     Path("pair.tsp").write_text(text.replace("EOF", "FIXED_EDGES_SECTION\n1 2\n-1\nEOF"))
+    Path("no.form").write_text("hello world\n")
     Path("other.tour").write_text("TYPE : TOUR\nTOUR_SECTION\n1 3 2 4 5 6 7 8 9 10 11 12 -1\nEOF\n")
     faults = [
-        (["routes.vrp", *OUT], "TYPE CVRP"),
+        (["routes.vrp", *OUT], "wrong kind: routes.vrp is of TYPE CVRP; the instance has to be of TYPE TSP or ATSP"),
         (["odd.tsp", *OUT], "symmetric"),
         (["odd.atsp", *BOTH], "tsp-certify"),
-        (["none.tsp", *OUT], "none.tsp: No such file or directory"),
+        (["none.tsp", *OUT], "can't be opened: none.tsp: No such file or directory"),
         (["star.tsp", *OUT], "no tour uses all fixed edges"),
         (["ring.tsp", *OUT], "no tour uses all fixed edges"),
         (["two.tsp", *OUT], "three nodes"),
         (["a.tsp", "short.tour", *OUT], "no tour of the instance, since node 4 isn't in it"),
-        (["a.tsp", "a.tsp", *OUT], "TYPE TOUR"),
+        (["a.tsp", "a.tsp", *OUT], "wrong kind: a.tsp is of TYPE TSP, and a.tsp is of TYPE TSP; the solution has to be"),
+        (["a.tsp", "no.form", *OUT], "no.form: line 1 word 1: NoForm"),
         (["pair.tsp", "other.tour", *OUT], "doesn't use all fixed edges"),
         (["a.tsp"], "-o"),
         ([], "INSTANCE"),
@@ -247,7 +261,8 @@ def installing():
 
 
 CASES = [
-    weights, small, matrix, fixed, atsp, named_tour, newcomer, time_limits, same_bytes, interrupt, overwriting, log, bad_input, installing,
+    weights, small, matrix, fixed, atsp, named_tour, forms, newcomer, time_limits, same_bytes, interrupt, overwriting, log,
+    bad_input, installing,
 ]  # fmt: skip
 
 if __name__ == "__main__":

@@ -124,24 +124,32 @@ def bad_input():
     Path("one.atsp").write_text("TYPE:ATSP\nDIMENSION:1\n" + rows.partition("3\n")[2].replace("0 1 2 3 0 4 5 6 0", "0"))
     Path("cut.tsp").write_text(text[: len(text) // 2])
     Path("long.tour").write_text("TYPE : TOUR\nTOUR_SECTION\n1 2 3 4 5 6 7 8 9 10 11 12 13 -1\nEOF\n")
+    Path("no.form").write_text("hello world\n")
+    Path("cut.json").write_text('{"tour": [0, 1')
+    Path("one.txt").write_text("1\n")
     Path("geo.tsp").write_text(text.replace("EUC_2D", "GEO"))
     out = ["-o", "out.branches"]
     both = [*out, "--tour-out", "out.tour"]
     faults = [
-        (["short.tour", *both], "TYPE TOUR"),
+        (["short.tour", *both], "wrong kind: short.tour is of TYPE TOUR; the instance has to be of TYPE TSP, ATSP or CVRP"),
+        (["short.tour", "a.tsp", *out], "wrong kind: short.tour is of TYPE TOUR, and a.tsp is of TYPE TSP; the instance"),
+        (["short.tour", "no.form", *out], "wrong kind: short.tour is of TYPE TOUR, and no.form has no TYPE; the instance"),
         (["geo.tsp", *both], "the script examples/geo.py converts GEO"),
         (["back.atsp", *both], "no tour uses all fixed edges"),
         (["one.atsp", *both], "three nodes"),
         (["odd.tsp", *both], "symmetric"),
         (["cut.tsp", *both], "convert"),
-        (["none.tsp", *both], "none.tsp: No such file or directory"),
-        (["a.tsp", "none.tour", *out], "none.tour: No such file or directory"),
+        (["none.tsp", *both], "can't be opened: none.tsp: No such file or directory"),
+        (["a.tsp", "none.tour", *out], "can't be opened: none.tour: No such file or directory"),
         (["star.tsp", *both], "no tour uses all fixed edges"),
         (["ring.tsp", *both], "no tour uses all fixed edges"),
         (["two.tsp", *both], "three nodes"),
         (["a.tsp", "short.tour", *out], "no tour of the instance, since node 4 isn't in it"),
         (["a.tsp", "long.tour", *out], "no tour of the instance, since the instance has no node 13"),
-        (["a.tsp", "a.tsp", *out], "TYPE TOUR"),
+        (["a.tsp", "a.tsp", *out], "wrong kind: a.tsp is of TYPE TSP, and a.tsp is of TYPE TSP; the solution has to be"),
+        (["a.tsp", "no.form", *out], "no.form: line 1 word 1: NoForm: The text has none of the forms"),
+        (["a.tsp", "cut.json", *out], "BadJson: The text isn't JSON"),
+        (["a.tsp", "one.txt", *out], "no tour of the instance, since node 2 isn't in it"),
         (["a.tsp", *out], "--tour-out"),
         (["a.tsp"], "-o"),
         ([], "INSTANCE"),

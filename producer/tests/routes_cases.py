@@ -170,6 +170,25 @@ def memory_states():
     need(f"bound {judged('a.vrp')['bound']} as reckoned" in said, f"another bound was reckoned: {said}")
 
 
+def memory_full():
+    """A file too full for the memories of all leaves is built again with the root's memory, and the better one stays."""
+    write_uniform("a.vrp", 26, random.Random(2), capacity=40, side=1000)
+    words = ["a.vrp", *BOTH, "--memory", "--seconds", "0", "--threads", "1", "--log", "out.log"]
+    whole = ends_of(words)
+    need(len(whole) == 1, "a file with room for all memories is built twice")
+    states = whole[0]["states"]
+    bounds = [end["bound"] for end in ends_of([*words, "--states", str(states * 7 // 8)])]
+    need(len(bounds) == 2, f"a full file isn't built again: {bounds}")
+    need(int(judged("a.vrp")["bound"]) == max(bounds) > bounds[0], f"the better file doesn't stay: {bounds}")
+
+
+def ends_of(words):
+    """The last events of the trees that a run builds, of which its log tells."""
+    certify(*words)
+    events = map(json.loads, Path("out.log").read_text().splitlines())
+    return [event for event in events if event["event"] == "end"]
+
+
 def optimal():
     """A tree of points, and costs of each direction."""
     write_uniform("a.vrp", 25, random.Random(4))
@@ -206,6 +225,24 @@ def plan():
     length = need_optimal("a.vrp")
     certify("a.vrp", "out.routes", "-o", "out.branches", "--upper", str(length - 5))
     need(length - 5 <= int(judged("a.vrp")["bound"]) <= length, "the bound that was asked for isn't reached")
+
+
+def forms():
+    """Shortest routes are named as CVRPLIB and as LKH-3 write them: none that are read as others are the shortest."""
+    write_uniform("a.vrp", 16, random.Random(8))
+    need_optimal("a.vrp")
+    lines = Path("out.routes").read_text().splitlines()[2:-1]
+    routes = [[int(word) for word in line.split()[:-1]] for line in lines]
+    customers = [" ".join(str(v - 1) for v in route) for route in routes]
+    Path("named.sol").write_text("".join(f"Route #{k}: {line}\n" for k, line in enumerate(customers, 1)))
+    tour = [1, *routes[0]]
+    for copy, route in enumerate(routes[1:], 17):  # LKH-3 gives each further vehicle a depot of its own
+        tour += [copy, *route]
+    Path("copies.tour").write_text("TYPE : TOUR\nTOUR_SECTION\n" + "\n".join(map(str, tour)) + "\n-1\nEOF\n")
+    for name in ("named.sol", "copies.tour"):
+        said = certify("a.vrp", name, "-o", "out.branches")
+        need("shorter tour" not in said, f"{name}: other routes are read: {said}")
+        need(f"tsp check a.vrp {name} --form auto --branches out.branches" in said, f"{name}: another command: {said}")
 
 
 def threads():
@@ -300,6 +337,7 @@ def bad_input():
     Path("fixed.vrp").write_text(Path("a.vrp").read_text().replace("EOF", "FIXED_EDGES_SECTION\n1 2\n-1\nEOF"))
     write_routes("2 -1 3 -1", "few.routes")
     write_routes("2 3 4 -1", "heavy.routes")
+    Path("word.sol").write_text("Route #1: 1 x\n")
     write_certificate(5, "", "0 -1", name="other")
     write_certificate(4, "1 2 -1 -1 -1", "0 -1", name="depot")
     write_certificate(4, "", "2 3 0 -1 0 -1", name="pair")
@@ -312,7 +350,8 @@ def bad_input():
         (["fixed.vrp", *BOTH], "fixed edges"),
         (["a.vrp", "few.routes", "-o", "b"], "no routes of the instance"),
         (["a.vrp", "heavy.routes", "-o", "b"], "no routes of the instance"),
-        (["a.vrp", "a.vrp", "-o", "b"], "TYPE TOUR"),
+        (["a.vrp", "a.vrp", "-o", "b"], "wrong kind: a.vrp is of TYPE CVRP, and a.vrp is of TYPE CVRP; the solution has to be"),
+        (["a.vrp", "word.sol", "-o", "b"], "word.sol: line 1 word 4: NotANode"),
         (["a.vrp", *BOTH, "--tree", "other"], "another instance"),
         (["a.vrp", *BOTH, "--tree", "depot"], "one set of customers"),
         (["a.vrp", *BOTH, "--tree", "pair"], "on a pair"),
@@ -322,7 +361,8 @@ def bad_input():
 
 
 CASES = [
-    small, memory, memory_limits, memory_states, optimal, large_numbers, plan, threads, time_limit, interrupt, split, limits, log, bad_input,
+    small, memory, memory_limits, memory_states, memory_full, optimal, large_numbers, plan, forms, threads, time_limit,
+    interrupt, split, limits, log, bad_input,
 ]  # fmt: skip
 
 if __name__ == "__main__":

@@ -5,6 +5,7 @@ status 1. CMakeLists.txt lists the cases, each as a test of ctest: a new case ha
 runs them all, as the suite `producer` of ./check.
 """
 
+import json
 import os
 import random
 import re
@@ -39,9 +40,9 @@ def certify(*words, status=0):
     return done.stderr
 
 
-def judged(instance, tour="out.tour", certificate="out.branches"):
+def judged(instance, tour="out.tour", certificate="out.branches", *more):
     """The lines of the report as a dictionary."""
-    words = [TSP, "check", instance, tour, "--branches", certificate]
+    words = [TSP, "check", instance, tour, "--branches", certificate, *more]
     done = subprocess.run(words, capture_output=True, text=True, timeout=60 * PATIENCE)
     need(done.returncode == 0, f"tsp check {instance}: {done.stdout}{done.stderr}")
     return {line.partition(" ")[0]: line.partition(" ")[2] for line in done.stdout.splitlines()}
@@ -169,6 +170,20 @@ def write_faulty():
     Path("two.tsp").write_text("TYPE:TSP\nDIMENSION:2\nEDGE_WEIGHT_TYPE:EUC_2D\nNODE_COORD_SECTION\n1 0 0\n2 1 1\nEOF\n")
     Path("short.tour").write_text("TYPE : TOUR\nTOUR_SECTION\n1 2 3 -1\nEOF\n")
     return text
+
+
+def write_forms(order):
+    """Writes a tour in several forms of `tsp solution`, by its nodes from 1 on. The names of the files, that of TYPE TOUR first."""
+    from_zero = [v - 1 for v in order]
+    texts = {
+        "named.tour": "TYPE : TOUR\nTOUR_SECTION\n" + "\n".join(map(str, order)) + "\n-1\nEOF\n",
+        "named.txt": "".join(f"{v}\n" for v in order),
+        "named.json": json.dumps({"tour": from_zero}),
+        "named.sol": f"{len(order)}\n" + " ".join(map(str, from_zero)) + "\n",
+    }
+    for name, text in texts.items():
+        Path(name).write_text(text)
+    return list(texts)
 
 
 def write_arcs(nodes, cost, *more):

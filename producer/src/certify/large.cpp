@@ -37,7 +37,7 @@ int certify_large(const Options& options, const std::string& tsp, std::unique_pt
   file.reset();
   std::optional<Tour> given;
   if (options.tour) {
-    given = problem->inward(read_order(tsp, *options.tour, problem->nodes()));
+    given = problem->inward(read_order(tsp, options, problem->nodes()));
     if (!problem->allows(*given)) throw Refusal(*options.tour + ": the tour doesn't use all fixed edges");
   }
   Progress progress(options.log);

@@ -16,6 +16,7 @@
 #include "certify/options.h"
 #include "certify/report.h"
 #include "certify/routes.h"
+#include "reading/named_files.h"
 #include "reading/reading.h"
 #include "reading/tsp_program.h"
 #include "running/refusal.h"
@@ -40,10 +41,10 @@ int certify_instance(const Options& options) {
   const std::string tsp = find_tsp(options.tsp);
   auto file = std::make_unique<Canonical>(canonical_text(tsp, options.instance, {}));
   if (file->value("TYPE") == "CVRP") return routes::certify_routes(options, tsp, std::move(file));
-  refuse_other_kinds(*file, options.instance);
+  refuse_other_kinds(tsp, *file, options, "TSP, ATSP or CVRP");
   if (is_large(options, *file)) return certify_large(options, tsp, std::move(file));
   const Instance instance = read_instance(tsp, options.instance, *file);
-  const Tour given = options.tour ? read_tour(tsp, *options.tour, instance) : Tour{};
+  const Tour given = options.tour ? read_tour(tsp, options, instance) : Tour{};
   std::optional<Certificate> tree = read_tree(options, tsp, instance);
   warn_of_lost_tour(options);
   Progress progress(options.log);

@@ -39,7 +39,7 @@ void declare_trees(CLI::App& app, Options& options) {
 }
 
 void declare(CLI::App& app, Options& options) {
-  declare_files(app, options, "a tour or routes to begin with");
+  declare_files(app, options, "a tour or routes to begin with, in any form that tsp solution reads");
   app.get_option("INSTANCE")->description("a file of TYPE TSP, ATSP or CVRP");
   app.add_option("-o", options.certificate, "where the certificate is written")
       ->required()

@@ -75,8 +75,8 @@ void report(const Options& options, const Ending& ending) {
               << *options.tree << " --join PART.. -o CERTIFICATE puts parts together\n";
     return;
   }
-  const std::string tour =
-      ending.kept ? *ending.kept : options.tour_out.value_or(options.tour.value_or("TOUR"));
+  const std::string named = options.tour ? *options.tour + " --form auto" : "TOUR";
+  const std::string tour = ending.kept ? *ending.kept : options.tour_out.value_or(named);
   std::cerr << "tsp-certify: this decides: tsp check " << options.instance << " " << tour << " --branches "
             << options.certificate << "\n";
 }

@@ -61,7 +61,7 @@ int certify_routes(const Options& options, const std::string& tsp, std::unique_p
   const CvrpInstance instance = read_cvrp(tsp, options.instance, *file);
   file.reset();
   std::optional<Routes> given;
-  if (options.tour) given = read_routes(tsp, *options.tour, instance);
+  if (options.tour) given = read_routes(tsp, options, instance);
   RouteBegin begin{.routes = {}, .upper = options.upper, .seed = options.seed, .leaf = options.leaf};
   if (options.tree) {
     begin.tree = read_certificate(tsp, *options.tree);

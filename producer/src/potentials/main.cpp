@@ -14,6 +14,7 @@
 #include "potentials/node_potentials.h"
 #include "potentials/options.h"
 #include "reading/instance.h"
+#include "reading/named_files.h"
 #include "reading/reading.h"
 #include "reading/tsp_program.h"
 #include "running/clock.h"
@@ -142,12 +143,30 @@ std::optional<Weight> number_in(const std::string& report, const std::string& wo
   return std::nullopt;
 }
 
-std::vector<std::string> judging_words(const Options& options) {
-  const std::optional<std::string> tour = options.tour_out ? options.tour_out : options.tour;
-  std::vector<std::string> words{tour ? "check" : "bound", "--potentials", options.potentials, "--",
-                                 options.instance};
-  if (tour) words.push_back(*tour);
-  return words;
+// The words that judge the potentials: the verb, the files, and how the named tour is read.
+struct Judging {
+  std::string verb = "bound", tour{};
+  std::vector<std::string> form{};
+
+  std::vector<std::string> words(const Options& options) const {
+    std::vector<std::string> all{verb, "--potentials", options.potentials};
+    all.insert(all.end(), form.begin(), form.end());
+    all.insert(all.end(), {"--", options.instance});
+    if (!tour.empty()) all.push_back(tour);
+    return all;
+  }
+  std::string line(const Options& options) const {
+    std::string told = "tsp " + verb + " " + options.instance;
+    if (!tour.empty()) told += " " + tour;
+    for (const std::string& word : form) told += " " + word;
+    return told + " --potentials " + options.potentials;
+  }
+};
+
+Judging judging(const Options& options) {
+  if (options.tour_out) return {"check", *options.tour_out};
+  if (options.tour) return {"check", *options.tour, {"--form", "auto"}};
+  return {};
 }
 
 // Tells the length and the bound as the proved program prints them.
@@ -155,8 +174,8 @@ void report(const Options& options, const std::string& tsp, Found found, Progres
   std::error_code error;
   const bool readable = std::filesystem::is_regular_file(options.potentials, error) &&
                         (!options.tour_out || std::filesystem::is_regular_file(*options.tour_out, error));
-  const std::vector<std::string> words = judging_words(options);
-  const std::string said = readable ? certify::report_of(tsp, words) : "";
+  const Judging judge = judging(options);
+  const std::string said = readable ? certify::report_of(tsp, judge.words(options)) : "";
   const std::optional<Weight> bound = number_in(said, "bound");
   if (const std::optional<Weight> length = number_in(said, "length")) found.length = length;
   std::ostringstream line;
@@ -175,9 +194,7 @@ void report(const Options& options, const std::string& tsp, Found found, Progres
   progress.log("end", found.length, bound.value_or(found.bound),
                R"("steps": )" + std::to_string(found.steps));
   progress.end();
-  std::cerr << line.str() << "tsp-potentials: this decides: tsp " << words[0] << " " << options.instance
-            << " " << (words.size() > 5 ? words[5] + " " : "") << "--potentials " << options.potentials
-            << "\n";
+  std::cerr << line.str() << "tsp-potentials: this decides: " << judge.line(options) << "\n";
 }
 
 Found assign(const Options& options, const std::string& tsp, const Canonical& file) {
@@ -186,7 +203,7 @@ Found assign(const Options& options, const std::string& tsp, const Canonical& fi
   const certify::Instance instance = certify::read_instance(tsp, options.instance, file);
   Found found;
   if (options.tour) {
-    found.length = certify::length_of(instance.weights, certify::read_tour(tsp, *options.tour, instance));
+    found.length = certify::length_of(instance.weights, certify::read_tour(tsp, options, instance));
   }
   const certify::Assignment assignment = certify::cheapest_assignment(instance.weights);
   for (const Weight number : assignment.leaving) found.bound += number;
@@ -201,7 +218,7 @@ Found ascend(const Options& options, const std::string& tsp, std::unique_ptr<Can
   file.reset();  // the text of a matrix is large
   std::optional<Tour> given;
   if (options.tour) {
-    given = problem->inward(certify::read_order(tsp, *options.tour, problem->nodes()));
+    given = problem->inward(certify::read_order(tsp, options, problem->nodes()));
     if (!problem->allows(*given)) throw Refusal(*options.tour + ": the tour doesn't use all fixed edges");
   }
   Clock::catch_signals();
@@ -211,7 +228,7 @@ Found ascend(const Options& options, const std::string& tsp, std::unique_ptr<Can
 int run(const Options& options) {
   const std::string tsp = certify::find_tsp(options.tsp);
   auto file = std::make_unique<Canonical>(certify::canonical_text(tsp, options.instance, {}));
-  certify::refuse_other_kinds(*file, options.instance);
+  certify::refuse_other_kinds(tsp, *file, options, "TSP or ATSP");
   Progress progress(options.log);
   const bool directed = file->value("TYPE") == "ATSP";
   const Found found =

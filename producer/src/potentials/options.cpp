@@ -14,7 +14,9 @@ constexpr const char* kFooter =
     "Exit status: 0 files written, 2 something was wrong, 130 files written after SIGINT, 143 after SIGTERM";
 
 void declare(CLI::App& app, Options& options) {
-  certify::declare_files(app, options, "a tour, whose gap is printed, and with which --tour-out begins");
+  certify::declare_files(
+      app, options,
+      "a tour in any form that tsp solution reads; its gap is printed, and --tour-out begins with it");
   app.add_option("-o", options.potentials, "where the potentials are written")
       ->required()
       ->type_name("POTENTIALS");

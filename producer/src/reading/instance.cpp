@@ -5,6 +5,7 @@
 
 #include "reading/canonical.h"
 #include "reading/distances.h"
+#include "reading/named_files.h"
 #include "reading/tsp_program.h"
 #include "running/refusal.h"
 
@@ -49,14 +50,6 @@ bool Instance::allows(const Tour& tour) const {
   return std::all_of(fixed.begin(), fixed.end(), [&](const Pair& pair) { return used.contains(pair); });
 }
 
-void refuse_other_kinds(const Canonical& file, const std::string& path) {
-  const std::string kind(file.value("TYPE"));
-  if (kind != "TSP" && kind != "ATSP") {
-    throw Refusal(path + ": the file is of TYPE " + kind + ", of which no such certificate is made");
-  }
-  if (file.nodes() < 3) throw Refusal(path + ": there are no tours of fewer than three nodes");
-}
-
 Matrix read_matrix(const std::string& tsp, const std::string& path, const Canonical& file) {
   const bool full = file.value("EDGE_WEIGHT_FORMAT") == "FULL_MATRIX";
   Matrix weights = full ? full_matrix(file)
@@ -67,12 +60,7 @@ Matrix read_matrix(const std::string& tsp, const std::string& path, const Canoni
   return weights;
 }
 
-Instance read_instance(const std::string& tsp, const std::string& path) {
-  return read_instance(tsp, path, Canonical(canonical_text(tsp, path, {})));
-}
-
 Instance read_instance(const std::string& tsp, const std::string& path, const Canonical& file) {
-  refuse_other_kinds(file, path);
   const int nodes = file.nodes();
   if (nodes > kMostNodes) {
     throw Refusal(path + ": more than " + std::to_string(kMostNodes) + " nodes aren't taken");
@@ -87,17 +75,15 @@ Instance read_instance(const std::string& tsp, const std::string& path, const Ca
   return instance;
 }
 
-Tour read_tour(const std::string& tsp, const std::string& path, const Instance& instance) {
-  Tour tour = read_order(tsp, path, instance.nodes());
-  if (!instance.allows(tour)) throw Refusal(path + ": the tour doesn't use all fixed edges");
+Tour read_tour(const std::string& tsp, const CommonOptions& files, const Instance& instance) {
+  Tour tour = read_order(tsp, files, instance.nodes());
+  if (!instance.allows(tour)) throw Refusal(*files.tour + ": the tour doesn't use all fixed edges");
   return tour;
 }
 
-Tour read_order(const std::string& tsp, const std::string& path, int nodes) {
-  const Canonical file(canonical_text(tsp, path, {}));
-  if (file.value("TYPE") != "TOUR") throw Refusal(path + ": this is no file of TYPE TOUR");
-  Tour tour = tour_of(file);
-  refuse_other_tours(tour, nodes, path);
+Tour read_order(const std::string& tsp, const CommonOptions& files, int nodes) {
+  Tour tour = tour_of(read_solution(tsp, files));
+  refuse_other_tours(tour, nodes, *files.tour);
   return tour;
 }
 }  // namespace certify

@@ -6,6 +6,7 @@
 
 #include "graphs/tour.h"
 #include "reading/canonical.h"
+#include "running/command_line.h"
 
 namespace certify {
 constexpr int kMostNodes = 5000;  // of a matrix
@@ -26,15 +27,13 @@ struct Instance {
   bool allows(const Tour& tour) const;
 };
 
-Instance read_instance(const std::string& tsp, const std::string& path);
-// The same, where the canonical text is at hand.
+// From the canonical text of a file of TYPE TSP or ATSP.
 Instance read_instance(const std::string& tsp, const std::string& path, const Canonical& file);
-// Throws Refusal unless the file is of TYPE TSP or ATSP, with three nodes or more.
-void refuse_other_kinds(const Canonical& file, const std::string& path);
 // The matrix of a file whose EDGE_WEIGHT_TYPE is EXPLICIT. Throws Refusal where that of a TSP isn't
 // symmetric.
 Matrix read_matrix(const std::string& tsp, const std::string& path, const Canonical& file);
-Tour read_tour(const std::string& tsp, const std::string& path, const Instance& instance);
-// A tour of this many nodes, whatever the instance says of them.
-Tour read_order(const std::string& tsp, const std::string& path, int nodes);
+// The tour that is named, in any form that `tsp solution` reads.
+Tour read_tour(const std::string& tsp, const CommonOptions& files, const Instance& instance);
+// The same, of this many nodes, whether or not it uses all fixed edges.
+Tour read_order(const std::string& tsp, const CommonOptions& files, int nodes);
 }  // namespace certify

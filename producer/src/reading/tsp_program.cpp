@@ -72,12 +72,17 @@ std::string place_of_tsp(const std::optional<std::string>& named) {
   throw Refusal("the program tsp is needed: name it by --tsp, or put it on PATH");
 }
 
-struct Output {
-  std::string text;
-  bool well = false;  // its status was 0
-};
+// Whether a file has EDGE_WEIGHT_TYPE GEO, which the program tsp doesn't read.
+bool is_geographic(const std::string& path) {
+  std::ifstream file(path);
+  for (std::string line; std::getline(file, line);) {
+    if (line.find("EDGE_WEIGHT_TYPE") != std::string::npos) return line.find("GEO") != std::string::npos;
+    if (line.find("_SECTION") != std::string::npos) return false;
+  }
+  return false;
+}
+}  // namespace
 
-// What a program prints on standard output, and where that is asked for on standard error.
 Output output_of(const std::vector<std::string>& words, bool with_errors) {
   int ends[2];
   if (pipe(ends) != 0) throw Refusal("no pipe to the program tsp");
@@ -99,24 +104,13 @@ Output output_of(const std::vector<std::string>& words, bool with_errors) {
   return {text, WIFEXITED(status) && WEXITSTATUS(status) == 0};
 }
 
-// Whether a file has EDGE_WEIGHT_TYPE GEO, which the program tsp doesn't read.
-bool is_geographic(const std::string& path) {
-  std::ifstream file(path);
-  for (std::string line; std::getline(file, line);) {
-    if (line.find("EDGE_WEIGHT_TYPE") != std::string::npos) return line.find("GEO") != std::string::npos;
-    if (line.find("_SECTION") != std::string::npos) return false;
-  }
-  return false;
-}
-// Throws Refusal where a file can't be opened, with the system's reason. A pipe isn't opened twice.
 void refuse_unreadable(const std::string& path) {
   std::error_code error;
   if (path == "-" || (fs::exists(path, error) && !fs::is_regular_file(path, error))) return;
   const int file = open(path.c_str(), O_RDONLY | O_CLOEXEC);
-  if (file < 0) throw Refusal(path + ": " + std::strerror(errno));
+  if (file < 0) throw Refusal("can't be opened: " + path + ": " + std::strerror(errno));
   close(file);
 }
-}  // namespace
 
 // Debian's task-spooler is called tsp too.
 std::string find_tsp(const std::optional<std::string>& named) {

@@ -1,4 +1,4 @@
-// Finding the proved program `tsp`, and running its verb `convert`.
+// Finding the proved program `tsp`, and running it.
 #pragma once
 #include <optional>
 #include <string>
@@ -12,6 +12,15 @@ std::string find_tsp(const std::optional<std::string>& named);
 // The canonical text of a file, which `tsp convert` prints. Other words may follow the path.
 std::string canonical_text(const std::string& tsp, const std::string& path,
                            const std::vector<std::string>& words);
+struct Output {
+  std::string text;
+  bool well = false;  // its status was 0
+};
+
+// What a program prints on standard output, and where that is asked for on standard error.
+Output output_of(const std::vector<std::string>& words, bool with_errors);
+// Throws Refusal where a file can't be opened, with the system's reason. A pipe isn't opened twice.
+void refuse_unreadable(const std::string& path);
 // What the program prints on standard output, whatever its status is.
 std::string report_of(const std::string& tsp, const std::vector<std::string>& words);
 }  // namespace certify

@@ -6,7 +6,7 @@
 
 #include "reading/distances.h"
 #include "reading/instance.h"
-#include "reading/tsp_program.h"
+#include "reading/named_files.h"
 #include "running/refusal.h"
 #include "running/writing.h"
 
@@ -133,11 +133,9 @@ bool is_plan(const CvrpInstance& instance, const Routes& routes) {
   return served == instance.customers();
 }
 
-Routes read_routes(const std::string& tsp, const std::string& path, const CvrpInstance& instance) {
-  const Canonical file(canonical_text(tsp, path, {}));
-  if (file.value("TYPE") != "TOUR") throw Refusal(path + ": this is no file of TYPE TOUR");
-  Routes routes = routes_of(file, instance);
-  if (!is_plan(instance, routes)) throw Refusal(path + ": these are no routes of the instance");
+Routes read_routes(const std::string& tsp, const CommonOptions& files, const CvrpInstance& instance) {
+  Routes routes = routes_of(read_solution(tsp, files), instance);
+  if (!is_plan(instance, routes)) throw Refusal(*files.tour + ": these are no routes of the instance");
   return routes;
 }
 

@@ -8,6 +8,7 @@
 
 #include "graphs/tour.h"
 #include "reading/canonical.h"
+#include "running/command_line.h"
 
 namespace certify::routes {
 using Route = std::vector<int>;     // customers in their order, without the depot
@@ -33,7 +34,8 @@ Weight length_of(const CvrpInstance& instance, const Route& route);
 Weight length_of(const CvrpInstance& instance, const Routes& routes);
 // Whether each customer is in one route, and no route is empty or carries more than the capacity.
 bool is_plan(const CvrpInstance& instance, const Routes& routes);
-// Throws Refusal where the file has no plan of the instance.
-Routes read_routes(const std::string& tsp, const std::string& path, const CvrpInstance& instance);
+// The routes that are named, in any form that `tsp solution` reads. Throws Refusal where they are no plan of
+// the instance.
+Routes read_routes(const std::string& tsp, const CommonOptions& files, const CvrpInstance& instance);
 void write_routes(const std::string& path, const CvrpInstance& instance, const Routes& routes);
 }  // namespace certify::routes
