@@ -1,5 +1,5 @@
 //! The multipliers of fixed edges, listed at both nodes of each edge, so that `weights.rt` can
-//! lower a row without a search. `lowered_by` in `specs/states/ByNode.antt` pins what a list takes
+//! lower a row without a search. `bound.rt` makes the lists. `lowered_by` in `specs/states/ByNode.antt` pins what a list takes
 //! off a weight.
 
 ghost use Rattle.tsp_bound.specs.Prelude.{[], pos, IfOk, All, AllPairs, most_multiplier, IsFromTo, IsMultiplier, AreMultipliers, AreOnPairs};

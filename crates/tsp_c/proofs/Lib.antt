@@ -1,5 +1,5 @@
 -- Lemmas on calls on texts (NamedTexts, PickedRuns), on calls on a handle (HandleCalls), and on results in numbers
--- (InNumbers). No crate is above this one.
+-- (InNumbers). No other crate uses tsp_c.
 mod Prelude
 pub mod HandleCalls
 mod NamedTexts

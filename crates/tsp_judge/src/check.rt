@@ -1,6 +1,6 @@
 //! The run of `tsp check`: reads the files, judges the solution, and writes the report.
 //! `task_run.rt`, tsp_c and `api.rt` call `run`, whose contract says what `yes` means
-//! (`specs/CheckRun.antt`).
+//! (`specs/CheckRun.antt`). The other runs call the functions that read a file or a certificate.
 
 ghost use Rattle.tsp_judge.specs.Prelude.{option_map, ReadTrace, TakesAtMost, FailsByWrite, sink_of, read_trace_of, IsReadOn, IsFile, most_taken, is_judged, report_of, IsSized};
 ghost use Rattle.std.specs.Prelude.{◌≡◌};

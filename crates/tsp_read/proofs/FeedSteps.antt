@@ -1,4 +1,4 @@
--- One piece more of a text, and its last line and word, for src/feed.rt.
+-- One piece more of a text, and its last line and word, for src/feed.rt and `take_last` in src/items.rt.
 use Rattle.tsp_read.proofs.Prelude.{◌≡◌, ℕ, ◌+◌, ◌-◌, ◌≤◌, ◌<◌, Bool, true, false, List, [], ◌∷◌, ◌++◌, length, take, reverse, refl, sym, ap, subst, ◌∙◌, arith, Option, Some, None, Result, Ok, Err, append-nil, append_assoc, length-append, drop, take-append-drop, true≢false, false≢true, lt-ltb, le-ltb, and_parts, take_all, reverse-append, list_all-append, none-some, list_all, not, ◌&&◌, ◌==◌, ◌||◌, is_some, nil_from_test, most_file_bytes, Fields, settled_kept, ended_stays, part_long, part_short, part_kept, fault_kept, open_section, when, first_row, is_not_empty, Item, settled_items, has_end_line, AreCut, Line, NumberWord, LineEnd, items_of, is_end_line, to_end_line, fault_in, IsClean, is_too_long, settled_part, settled_fault, part, fault, ReadFault}
 use Rattle.std.proofs.Math.Bool.{and-false}
 use Rattle.std.proofs.Math.Logic.{∥∥₁_map}

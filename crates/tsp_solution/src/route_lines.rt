@@ -1,6 +1,6 @@
 //! Reads the routes in CVRPLIB's .sol files and in LKH-3's MTSP_SOLUTION_FILE, a line for each
-//! route, and the routes of a tour with copies of the depot. `by_form.rt` calls it; its answers are
-//! tested, not proved.
+//! route, and the routes of a tour with copies of the depot. `by_form.rt` calls it, and so does
+//! `tour_file.rt` for files of TYPE TOUR; its answers are tested, not proved.
 
 use crate::fault::{FormFault, SolutionFault};
 use crate::number_groups::NumberGroups;

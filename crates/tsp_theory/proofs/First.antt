@@ -1,4 +1,4 @@
--- The law on the first of several things: all first ones have the same rank. tsp_verdict imports it, too.
+-- The law on the first of several things: all first ones have the same rank. Only tsp_verdict imports it.
 use Rattle.tsp_theory.proofs.Prelude.{◌≡◌, ℕ, inl, inr}
 use Rattle.std.proofs.lemmas.Bool.{cases_order}
 use Rattle.tsp_theory.specs.First.{IsFirst}

@@ -1,7 +1,7 @@
 //! The bound that a certificate gives for tours, and which TYPEs it can bound (`is_bounded`, which
 //! tsp_judge calls). Judges branches files for tours here, and sends potentials to
-//! `potentials_certificate.rt`; `routes.rt` judges branches files for routes. `IsBoundBy` in
-//! `specs/Certified.antt` pins the bound.
+//! `potentials_certificate.rt`; `routes.rt` judges branches files for routes. `solution_verdict.rt`
+//! and `known_bound.rt` call `bound_by`. `IsBoundBy` in `specs/Certified.antt` pins the bound.
 
 ghost use Rattle.tsp_verdict.specs.Prelude.{All, Some, IfOk, IsOk, IsErr, true, length, map, MatchResult, nodes_of, is_branches_file, HoldsCases, HoldsMemory, take_pairs};
 ghost use Rattle.std.specs.Prelude.{◌≡◌, ◌⊎◌, ◌≤◌};
