@@ -1,8 +1,6 @@
 -- For src/picked_runs.rt: the numbers that C gets of a run on texts. Each fits, and they say the verdict or the fault
 -- on these texts.
-use Rattle.tsp_c.proofs.Prelude.{◌≡◌, ◌≢◌, ℕ, ◌≤◌, List, Bool, Result, Ok, Err, inl, inr, sym, subst, ◌∙◌, arith, Option, Some, None, ℤ, IfOk, ReadTrace, Sink, Fields, CertificateKind, Verdict, is_yes, is_bound_yes, RunFault, status_of_fault, Given, EndsWithout, IsRun, acceptance, EndsUnbounded, IsBoundRun}
-use Rattle.tsp_report.specs.declared.verdict.BoundVerdict.{BoundVerdict}
-use Rattle.tsp_report.specs.declared.verdict.BoundVerdict.TheVariants as bounds
+use Rattle.tsp_c.proofs.Prelude.{◌≡◌, ◌≢◌, ℕ, ◌≤◌, List, Bool, Result, Ok, Err, inl, inr, sym, subst, ◌∙◌, arith, Option, Some, None, ℤ, IfOk, ReadTrace, Sink, Fields, CertificateKind, Verdict, is_yes, RunFault, status_of_fault, Given, EndsWithout, IsRun, acceptance, EndsUnbounded, IsBoundRun, is_ok, BoundVerdict}
 use Rattle.tsp_report.specs.Report.{IsSized}
 use Rattle.tsp_report.specs.declared.verdict.Reason.{Reason}
 use Rattle.tsp_verdict.specs.Certified.{IsBoundVerdict}
@@ -24,15 +22,14 @@ use Rattle.tsp_report.specs.declared.verdict.Verdict.TheVariants as verdicts
 
 pub sized_bound : (by : CertificateKind) (instance certificate : Fields) (found : BoundVerdict) → IsBoundVerdict by instance certificate found
     → IsSizedBound found
-sized_bound by instance certificate (bounds.Bound bound) is = few bound is.1.2
-sized_bound by instance certificate bounds.NoSolution is = tt
-sized_bound by instance certificate (bounds.No reason) is = tt
+sized_bound by instance certificate (Ok (Some bound)) is = few bound is.1.2
+sized_bound by instance certificate (Ok None) is = tt
+sized_bound by instance certificate (Err reason) is = tt
 
 sized_bound_kept : (strict : Option Reason) (plain : BoundVerdict) → IsSizedBound plain → IsSizedBound (strict_bound strict plain)
 sized_bound_kept None plain is = is
-sized_bound_kept (Some reason) (bounds.Bound bound) is = tt
-sized_bound_kept (Some reason) bounds.NoSolution is = tt
-sized_bound_kept (Some reason) (bounds.No other) is = tt
+sized_bound_kept (Some reason) (Ok bound) is = tt
+sized_bound_kept (Some reason) (Err other) is = tt
 
 pub sized_bound_run : (by : CertificateKind) (strict : Bool) (first second : ReadTrace) (sink : Sink) (ended : Result Bounded RunFault)
     → IsBoundRun by strict first second sink ended → IfOk ended (λ bounded. IsSizedBound bounded.found)
@@ -129,7 +126,7 @@ tells_bound by strict first second sink (Ok bounded) one two written status text
     numbers = kept (λ three. absurd (omega (arith, three, low))) ∙ is;
     status_is = e.0;
   };
-  faulty = λ two_is. absurd (not_two (is_bound_yes bounded.found) status e.0 two_is);
+  faulty = λ two_is. absurd (not_two (is_ok bounded.found) status e.0 two_is);
   refused = none;
 }
 tells_bound by strict first second sink (Err fault) one two written status text made numbers reads run is kept none e = record {

@@ -1,6 +1,6 @@
 -- For src/picked_runs.rt: runs on readers over texts in memory, as statements on these texts, and the status that C
 -- gets.
-use Rattle.tsp_c.proofs.Prelude.{◌≡◌, ℕ, ◌≤◌, List, [], Bool, true, false, Result, Ok, Err, inl, inr, refl, sym, subst, arith, IsErr, Option, None, Some, IfSome, ℤ, ReadTrace, Sink, HasWritten, Fields, is_yes, is_bound_yes, CertificateKind, Verdict, status_of_fault, IsSomeFile, IsFileIn, AreRead, JudgesFiles, IsFaultOfRun, EndsWithout, BoundsFiles, EndsUnbounded, SaysBound, IsBoundRunOf, IsTextFault, RunFault, File, WrongKind, Write, OutOfMemory, Relayout}
+use Rattle.tsp_c.proofs.Prelude.{◌≡◌, ℕ, ◌≤◌, List, [], Bool, true, false, Result, Ok, Err, inl, inr, refl, sym, subst, arith, IsErr, Option, None, Some, IfSome, ℤ, ReadTrace, Sink, HasWritten, Fields, is_yes, CertificateKind, Verdict, status_of_fault, IsSomeFile, IsFileIn, AreRead, JudgesFiles, IsFaultOfRun, EndsWithout, BoundsFiles, EndsUnbounded, SaysBound, IsBoundRunOf, IsTextFault, RunFault, File, WrongKind, Write, OutOfMemory, Relayout, is_ok, BoundVerdict}
 use Rattle.std.proofs.lemmas.Bool.{false≢true}
 use Rattle.std.specs.Io.KnownBytes.{Appends}
 use Rattle.tsp_io.specs.declared.piece.WriteFault.TheVariants as write_faults
@@ -11,8 +11,6 @@ use Rattle.tsp_text.specs.ParsesTo.{fault, ParsesTo}
 use Rattle.tsp_text.specs.declared.fault.ReadFault.{ReadFault}
 use Rattle.tsp_text.specs.declared.fault.ReadFault.TheVariants as read_faults
 use Rattle.tsp_read.specs.Reads.{IsFile, HasFault, StopsAt}
-use Rattle.tsp_report.specs.declared.verdict.BoundVerdict.{BoundVerdict}
-use Rattle.tsp_report.specs.declared.verdict.BoundVerdict.TheVariants as bounds
 use Rattle.tsp_report.specs.declared.verdict.Verdict.TheVariants.{Tour, Routes, No}
 use Rattle.tsp_judge.specs.Accepted.{IsAccepted, IsAcceptedAlone}
 use Rattle.tsp_judge.specs.CheckRun.{SaysYes, IsCheckOf}
@@ -356,13 +354,11 @@ bound_says by strict first second sink one two written found reads collects says
 bound_found : (by : CertificateKind) (strict : Bool) (first second : ReadTrace) (sink : Sink) (one two written : List ℕ) (status : ℕ) (text : List ℕ)
     (instance certificate : Fields) (found : BoundVerdict) → Reads2 first second one two → Collects sink written
     → IsFile first instance → IsFile second certificate → BoundsFiles by strict instance certificate sink (Ok found)
-    → (is_bound_yes found ≡ true → SaysBound by strict first second sink found)
-    → EndsOnTexts (Ok (is_bound_yes found)) written status text → BoundsTexts by strict one two status text
-bound_found by strict first second sink one two written status text instance certificate (bounds.Bound bound) reads collects first_file second_file judged says e =
-    yes_ends written status text (bound_says by strict first second sink one two written (bounds.Bound bound) reads collects (says refl)) e
-bound_found by strict first second sink one two written status text instance certificate bounds.NoSolution reads collects first_file second_file judged says e =
-    yes_ends written status text (bound_says by strict first second sink one two written bounds.NoSolution reads collects (says refl)) e
-bound_found by strict first second sink one two written status text instance certificate (bounds.No reason) reads collects first_file second_file judged says e =
+    → (is_ok found ≡ true → SaysBound by strict first second sink found)
+    → EndsOnTexts (Ok (is_ok found)) written status text → BoundsTexts by strict one two status text
+bound_found by strict first second sink one two written status text instance certificate (Ok bound) reads collects first_file second_file judged says e =
+    yes_ends written status text (bound_says by strict first second sink one two written (Ok bound) reads collects (says refl)) e
+bound_found by strict first second sink one two written status text instance certificate (Err reason) reads collects first_file second_file judged says e =
     no_ends written status text (record {
       instance = instance;
       certificate = certificate;

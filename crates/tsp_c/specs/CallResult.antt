@@ -1,7 +1,7 @@
 -- The result of a C call in numbers: the struct of bindings/c/tsp.h. Numbers that don't apply are 0. src/call_result.rt
 -- promises them. In no circle of docs/trust.md, but callers in other languages rely on the numbers, so they never
 -- change.
-use Rattle.tsp_c.specs.Prelude.{ℕ, Bool, List, Option, None, Some, Result, Ok, Err, IsTrue, unwrap_or, ℤ, pos, unsigned_abs, Fields, nodes_of, ParsesTo, CertificateKind, number_of_reason, row_of_reason, is_yes, is_bound_yes, IsGapSized, RunFault, File, WrongKind, status_of}
+use Rattle.tsp_c.specs.Prelude.{ℕ, Bool, List, Option, None, Some, Result, Ok, Err, IsTrue, unwrap_or, ℤ, pos, unsigned_abs, Fields, nodes_of, ParsesTo, CertificateKind, number_of_reason, row_of_reason, is_yes, IsGapSized, RunFault, File, WrongKind, status_of, is_ok, BoundVerdict}
 use Rattle.std.specs.Prelude.{◌≡◌, ◌≤◌, ◌<◌, ◌^◌}
 use Rattle.std.specs.Int.{int_div_euclid, int_rem_euclid}
 use Rattle.tsp_format.specs.declared.kinds.Kind.{Kind}
@@ -15,8 +15,6 @@ use Rattle.tsp_text.specs.declared.fault.LineFault.{LineFault}
 use Rattle.tsp_text.specs.declared.fault.LineFault.TheVariants as line_faults
 use Rattle.tsp_text.specs.declared.fault.ReadFault.{ReadFault}
 use Rattle.tsp_text.specs.declared.fault.ReadFault.TheVariants as read_faults
-use Rattle.tsp_report.specs.declared.verdict.BoundVerdict.{BoundVerdict}
-use Rattle.tsp_report.specs.declared.verdict.BoundVerdict.TheVariants as bounds
 use Rattle.tsp_report.specs.declared.verdict.Reason.{Reason}
 use Rattle.tsp_report.specs.declared.verdict.Reason.TheVariants.{NotUsed}
 use Rattle.tsp_report.specs.declared.verdict.Verdict.{Verdict}
@@ -155,15 +153,14 @@ result_of_verdict instance (verdicts.No reason) = with_reason (result_of_instanc
 
 -- the numbers of a bound without a solution
 abbrev pub result_of_bound : Fields → BoundVerdict → CallResult
-result_of_bound instance (bounds.Bound bound) = record (with_bound (result_of_instance instance) bound) { verdict = 4 }
-result_of_bound instance bounds.NoSolution = record (result_of_instance instance) { verdict = 5 }
-result_of_bound instance (bounds.No reason) = with_reason (result_of_instance instance) reason
+result_of_bound instance (Ok (Some bound)) = record (with_bound (result_of_instance instance) bound) { verdict = 4 }
+result_of_bound instance (Ok None) = record (result_of_instance instance) { verdict = 5 }
+result_of_bound instance (Err reason) = with_reason (result_of_instance instance) reason
 
 -- both halves of the bound fit 64 bits
 abbrev pub IsSizedBound : BoundVerdict → Type 0
-IsSizedBound (bounds.Bound bound) = IsGapSized (Some bound)
-IsSizedBound bounds.NoSolution = Unit {0}
-IsSizedBound (bounds.No reason) = Unit {0}
+IsSizedBound (Ok bound) = IsGapSized bound
+IsSizedBound (Err reason) = Unit {0}
 
 -- ---- a fault: the numbers of it, the text, the line and the word; what is wrong with a number; the incomplete field
 
@@ -285,7 +282,7 @@ pub record IsTextBound (by : CertificateKind) (strict : Bool) (one two : List �
   pub of_type : IsTrue (is_bounded by instance.kind)
   pub judged : IsBoundAsked strict by instance certificate found
   pub numbers : call_result ≡ result_of_bound instance found
-  pub status_is : status ≡ status_of (Ok (is_bound_yes found))
+  pub status_is : status ≡ status_of (Ok (is_ok found))
 
 -- the numbers of a bound without a solution, by its status
 pub record TellsBound (by : CertificateKind) (strict : Bool) (one two : List ℕ) (status : ℕ) (call_result : CallResult) : Type 0 where

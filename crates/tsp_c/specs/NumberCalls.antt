@@ -1,7 +1,7 @@
 -- How a call for C ends, and the results of the calls that fill in numbers: nodes, costs, lengths, coordinates,
 -- distances. Most calls in src/lib.rt are stated in these words. In no circle of docs/trust.md, because no `yes` rests
 -- on them.
-use Rattle.tsp_c.specs.Prelude.{ℕ, zero, suc, Bool, true, false, List, [], length, drop, Option, None, Some, Result, Ok, Err, min, cond, slice_index_or, IsTrue, ℤ, pos, negsuc, Point, cost, distance, point_of, Fields, nodes_of, ParsesTo, is_bound_yes, run_fault_text, status_of, status_of_fault, IsTextFault, IsUnopened, RunFault, File, Write}
+use Rattle.tsp_c.specs.Prelude.{ℕ, zero, suc, Bool, true, false, List, [], length, drop, Option, None, Some, Result, Ok, Err, min, cond, slice_index_or, IsTrue, ℤ, pos, negsuc, Point, cost, distance, point_of, Fields, nodes_of, ParsesTo, run_fault_text, status_of, status_of_fault, IsTextFault, IsUnopened, RunFault, File, Write, is_ok}
 use Rattle.std.specs.List.{All}
 use Rattle.std.specs.Prelude.{◌≡◌, ◌⊎◌, ◌≤◌, ◌<◌, ◌∷◌, ◌++◌, ◌+◌, ◌-◌, ◌*◌, ◌/◌, ◌%◌, ◌==◌}
 use Rattle.tsp_number.specs.Distances.{IsInSpace}
@@ -47,7 +47,7 @@ done (Err fault) = Err fault
 
 -- the answer of a bound: whether no reason applies
 abbrev pub bound_answer : Result Bounded RunFault → Result Bool RunFault
-bound_answer (Ok bounded) = Ok (is_bound_yes bounded.found)
+bound_answer (Ok bounded) = Ok (is_ok bounded.found)
 bound_answer (Err fault) = Err fault
 
 -- The fault of a call on texts. They are in memory and have no device, so a read or write that fails is out of memory.

@@ -1,13 +1,12 @@
 -- The results of the C calls on a handle: an open instance, a certificate that may be bound to it, and who owns the
 -- box. src/handle.rt and src/handle_calls.rt promise them. In no circle of docs/trust.md: by lemmas, an open instance
 -- is judged as its text would be.
-use Rattle.tsp_c.specs.Prelude.{ℕ, Bool, List, Option, None, Some, Ok, ℤ, Fields, blank_fields, ParsesTo, is_yes, is_bound_yes, CertificateKind, status_of, status_of_fault, Open, IsOpened, IsUnopened, IsBoundTo, IsUnbound, IsHeldVerdict, IsNotJudged, RunFault, OutOfMemory}
+use Rattle.tsp_c.specs.Prelude.{ℕ, Bool, List, Option, None, Some, Ok, ℤ, Fields, blank_fields, ParsesTo, is_yes, CertificateKind, status_of, status_of_fault, Open, IsOpened, IsUnopened, IsBoundTo, IsUnbound, IsHeldVerdict, IsNotJudged, RunFault, OutOfMemory, is_ok, BoundVerdict}
 use Rattle.std.specs.Coded.{coded_option}
 use Rattle.std.specs.Prelude.{◌≡◌, ◌⊎◌, ◌≤◌, ◌<◌}
 use base.Fml.{Fml, ftrue}
 use base.Stored.{Coded}
 use denote.RawPtr.{Ptr}
-use Rattle.tsp_report.specs.declared.verdict.BoundVerdict.{BoundVerdict}
 use Rattle.tsp_report.specs.declared.verdict.Verdict.{Verdict}
 use Rattle.tsp_verdict.specs.Strict.{strict_reason, strict_verdict}
 use Rattle.tsp_judge.specs.contracts.opened.Opened.{the_row}
@@ -43,7 +42,7 @@ OpensText text held call_result status =
 abbrev pub BindsOpen : CertificateKind → List ℕ → Open → Held → CallResult → ℕ → Type 0
 BindsOpen by text opened held call_result status =
     ((new : Open) × (found : BoundVerdict) × (held ≡ Some new) × IsBoundTo by text opened new found
-    × (call_result ≡ result_of_bound opened.instance found) × (status ≡ status_of (Ok (is_bound_yes found))))
+    × (call_result ≡ result_of_bound opened.instance found) × (status ≡ status_of (Ok (is_ok found))))
     ⊎ ((fault : RunFault) × (held ≡ Some opened) × IsUnbound by text opened fault × (call_result ≡ result_of_fault fault)
     × (status ≡ status_of_fault fault))
 

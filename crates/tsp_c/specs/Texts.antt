@@ -2,7 +2,7 @@
 -- The results of the calls on texts, over the bytes of these texts alone: `show`, conversions, checks, bounds and
 -- explanations. src/picked_runs.rt and src/explain.rt promise them. `IsAcceptedText` and `IsBoundText` are the meanings
 -- of the status 0.
-use Rattle.tsp_c.specs.Prelude.{ℕ, Bool, true, false, List, [], Option, None, Some, Ok, Err, IsTrue, ℤ, Fields, fault, ParsesTo, CertificateKind, report_of, bound_report_of, RunFault, File, WrongKind, Write, OutOfMemory, Relayout, IsTextFault}
+use Rattle.tsp_c.specs.Prelude.{ℕ, Bool, true, false, List, [], Option, None, Some, Ok, Err, IsTrue, ℤ, Fields, fault, ParsesTo, CertificateKind, report_of, bound_report_of, RunFault, File, WrongKind, Write, OutOfMemory, Relayout, IsTextFault, BoundVerdict}
 use Rattle.std.specs.Prelude.{◌≡◌, ◌⊎◌, ◌==◌, ◌||◌, if◌then◌else◌, ◌≤◌, ◌<◌, ◌∷◌}
 use Rattle.tsp_format.specs.declared.layout.Layout.{Layout}
 use Rattle.tsp_format.specs.Words.{layouts}
@@ -11,8 +11,6 @@ use Rattle.tsp_file.specs.CanonicalText.{text_of}
 use Rattle.tsp_io.specs.declared.piece.WriteFault.TheVariants as write_faults
 use Rattle.tsp_text.specs.declared.fault.ReadFault.TheVariants as read_faults
 use Rattle.tsp_report.specs.declared.task.CertificateKind.TheVariants.{Potentials, Branches}
-use Rattle.tsp_report.specs.declared.verdict.BoundVerdict.{BoundVerdict}
-use Rattle.tsp_report.specs.declared.verdict.BoundVerdict.TheVariants as bounds
 use Rattle.tsp_report.specs.declared.verdict.Reason.{Reason}
 use Rattle.tsp_report.specs.declared.verdict.Verdict.{Verdict}
 use Rattle.tsp_report.specs.declared.verdict.Verdict.TheVariants.{No}
@@ -216,8 +214,8 @@ pub record IsBoundRejected (by : CertificateKind) (strict : Bool) (one two text 
   pub second_file : ParsesTo two certificate
   pub bounded : IsTrue (is_bounded by instance.kind)
   pub reason : Reason
-  pub judged : IsBoundAsked strict by instance certificate (bounds.No reason)
-  pub printed : text ≡ bound_report_of instance (bounds.No reason)
+  pub judged : IsBoundAsked strict by instance certificate (Err reason)
+  pub printed : text ≡ bound_report_of instance (Err reason)
 
 -- the first text, in order, that isn't valid, has this fault; or both are valid, and such a certificate bounds no
 -- solutions of the instance's TYPE

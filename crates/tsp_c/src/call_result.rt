@@ -167,15 +167,15 @@ impl CallResult {
     {
         let call_result = CallResult::of_instance(instance);
         match found {
-            BoundVerdict::Bound(bound) => CallResult {
+            Ok(Some(bound)) => CallResult {
                 verdict: BOUND,
                 ..call_result.with_bound(bound)
             },
-            BoundVerdict::NoSolution => CallResult {
+            Ok(None) => CallResult {
                 verdict: NO_TOUR,
                 ..call_result
             },
-            BoundVerdict::No(reason) => call_result.with_reason(reason),
+            Err(reason) => call_result.with_reason(reason),
         }
     }
 

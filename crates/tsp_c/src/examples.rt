@@ -3,7 +3,7 @@
 //! and which file of a call a fault is of. No code calls them. If someone makes the same mistake in
 //! a definition and in the code, every contract still holds, but one of these laws fails.
 
-ghost use Rattle.tsp_c.specs.Prelude.{ℕ, ℤ, pos, List, [], Err, true, false, negsuc, None, Some, codes, map, Point, cost, Fields, nodes_of, CertificateKind, IsNotJudged, IsUnbound, IsUnopened, Open, status_of_fault, RunFault};
+ghost use Rattle.tsp_c.specs.Prelude.{ℕ, ℤ, pos, List, [], Err, true, false, negsuc, None, Some, codes, map, Point, cost, Fields, nodes_of, CertificateKind, IsNotJudged, IsUnbound, IsUnopened, Open, status_of_fault, RunFault, Ok};
 ghost use Rattle.std.specs.Prelude.{◌∷◌, ◌≡◌, ◌++◌, ◌+◌, ◌-◌, ◌^◌};
 ghost use Rattle.tsp_number.specs.declared.word.NumberFault.TheVariants as number_faults;
 ghost use Rattle.tsp_format.specs.Words.{layouts};
@@ -18,7 +18,6 @@ ghost use Rattle.tsp_text.specs.declared.fault.ReadFault.{ReadFault};
 ghost use Rattle.tsp_text.specs.declared.fault.ReadFault.TheVariants as read_faults;
 ghost use Rattle.tsp_read.specs.Reads.{Reads};
 ghost use Rattle.tsp_report.specs.declared.task.CertificateKind.TheVariants as certificate;
-ghost use Rattle.tsp_report.specs.declared.verdict.BoundVerdict.TheVariants as bounds;
 ghost use Rattle.tsp_report.specs.declared.verdict.Reason.TheVariants as reasons;
 ghost use Rattle.tsp_report.specs.declared.verdict.Verdict.TheVariants as verdicts;
 ghost use Rattle.tsp_judge.specs.declared.run_status.RunFault.TheVariants as run_faults;
@@ -169,9 +168,9 @@ pub fn examples_of_verdicts_in_numbers()
         (call_result.verdict ≡ 2) × (call_result.routes ≡ 3) × (call_result.has_bound ≡ 1) × (call_result.bound_high ≡ pos 0) × (call_result.bound_low ≡ 10) }
     ensures rejected { (instance : Fields) → let call_result : CallResult = result_of_verdict instance (verdicts.No (reasons.NotSymmetric 1 2)) in
         (call_result.verdict ≡ 3) × (call_result.reason ≡ 3) × (call_result.first ≡ pos 1) × (call_result.second ≡ pos 2) × (call_result.length ≡ pos 0) }
-    ensures bound { (instance : Fields) → let call_result : CallResult = result_of_bound instance (bounds.Bound (pos 10)) in
+    ensures bound { (instance : Fields) → let call_result : CallResult = result_of_bound instance (Ok (Some (pos 10))) in
         (call_result.verdict ≡ 4) × (call_result.has_bound ≡ 1) × (call_result.bound_low ≡ 10) }
-    ensures no_tour { (instance : Fields) → let call_result : CallResult = result_of_bound instance bounds.NoSolution in
+    ensures no_tour { (instance : Fields) → let call_result : CallResult = result_of_bound instance (Ok None) in
         (call_result.verdict ≡ 5) × (call_result.has_bound ≡ 0) }
 {}
 

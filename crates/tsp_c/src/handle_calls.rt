@@ -129,7 +129,7 @@ fn bind_opened(
         Err(error) => tell_fault(error, call_result),
         Ok(found) => {
             *call_result = CallResult::of_bound(opened.instance(), found);
-            CallEnd::of_answer(found.is_yes())
+            CallEnd::of_answer(found.is_ok())
         }
     }
 }

@@ -256,7 +256,7 @@ fn bound_answer(ended: Result<Bounded, RunError>) -> Result<bool, RunError>
     ensures { result ≡ bound_answer ended }
 {
     let bounded = ended?;
-    let answer = bounded.found.is_yes();
+    let answer = bounded.found.is_ok();
     drop(bounded);
     Ok(answer)
 }

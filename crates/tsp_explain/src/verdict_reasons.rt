@@ -117,9 +117,9 @@ pub fn explain_bound(
 {
     let mut explanation = Vec::new(alloc);
     let answer = match found {
-        BoundVerdict::Bound(_) => Ok(()),
-        BoundVerdict::NoSolution => push_lines(&mut explanation, none_of(files.instance.kind())),
-        BoundVerdict::No(reason) => push_no(alloc, &mut explanation, files, reason),
+        Ok(Some(_)) => Ok(()),
+        Ok(None) => push_lines(&mut explanation, none_of(files.instance.kind())),
+        Err(reason) => push_no(alloc, &mut explanation, files, reason),
     };
     append(text, explanation, answer)
 }

@@ -1,6 +1,6 @@
 -- For src/bound_run.rt, src/convert_run.rt and src/opened.rt: runs of `tsp bound`, `show` and `convert`, and instances
 -- that are open. tsp_c imports it, too.
-use Rattle.tsp_judge.proofs.Prelude.{◌≡◌, ◌∙◌, length, Some, sym, Bool, true, false, Result, Ok, Err, refl, subst, inl, inr, Option, None, ℕ, List, IsTrue, ℤ, ReadTrace, IsUnread, Sink, IsUnwritten, Writes, Fields, IsFile, IsProblem, problem_of, routing_of, depots_of, bound_report_of, is_bound_yes, CertificateKind, AppliesToInstanceBy, AppliesToBounded, IsBoundVerdict, is_bounded, BoundsSolutionsBy, BoundsSolutions, HasNoSolutionBy, HasNoSolution, strict_reason}
+use Rattle.tsp_judge.proofs.Prelude.{◌≡◌, ◌∙◌, length, Some, sym, Bool, true, false, Result, Ok, Err, refl, subst, inl, inr, Option, None, ℕ, List, IsTrue, ℤ, ReadTrace, IsUnread, Sink, IsUnwritten, Writes, Fields, IsFile, IsProblem, problem_of, routing_of, depots_of, bound_report_of, CertificateKind, AppliesToInstanceBy, AppliesToBounded, IsBoundVerdict, is_bounded, BoundsSolutionsBy, BoundsSolutions, HasNoSolutionBy, HasNoSolution, strict_reason, is_ok, BoundVerdict}
 use Rattle.std.proofs.lemmas.Bool.{false≢true}
 use Rattle.tsp_io.specs.declared.piece.WriteFault.{WriteFault}
 use Rattle.tsp_io.specs.declared.piece.WriteFault.TheVariants as faults
@@ -9,8 +9,6 @@ use Rattle.tsp_format.specs.declared.layout.Layout.{Layout}
 use Rattle.tsp_file.specs.CanonicalText.{text_of}
 use Rattle.tsp_file.specs.Rules.{fault_of}
 use Rattle.tsp_report.specs.Show.{shown}
-use Rattle.tsp_report.specs.declared.verdict.BoundVerdict.{BoundVerdict}
-use Rattle.tsp_report.specs.declared.verdict.BoundVerdict.TheVariants as bounds
 use Rattle.tsp_report.specs.declared.verdict.Reason.{Reason}
 use Rattle.tsp_report.specs.declared.verdict.Reason.TheVariants.{DepotCount}
 use Rattle.tsp_judge.proofs.Yeses.{one_value, IsBoundedType, of_type, types_bounded, one_depot}
@@ -76,26 +74,26 @@ none_at_all by instance certificate problem (inr cvrp) none without =
     inr (routing_of instance, problem.of_routes cvrp (depot_known by instance certificate cvrp none), subst (λ k. HasNoSolutionBy k instance) cvrp without)
 
 bound_accepted : (by : CertificateKind) (instance certificate : Fields) (found : BoundVerdict) → IsProblem instance → IsTrue (is_bounded by instance.kind)
-    → IsBoundVerdict by instance certificate found → is_bound_yes found ≡ true → IsAcceptedAlone by instance certificate found (bound_report_of instance found)
-bound_accepted by instance certificate (bounds.Bound bound) problem type v is = record {
+    → IsBoundVerdict by instance certificate found → is_ok found ≡ true → IsAcceptedAlone by instance certificate found (bound_report_of instance found)
+bound_accepted by instance certificate (Ok (Some bound)) problem type v is = record {
   certificate_type = of_type by instance certificate (λ reason applies. v.0 reason (inr applies));
   of_certificate = v.1.0;
   printed = refl;
   below = below_all by instance certificate bound problem (types_bounded by instance.kind type) v.0 v.1.1;
 }
-bound_accepted by instance certificate bounds.NoSolution problem type v is = record {
+bound_accepted by instance certificate (Ok None) problem type v is = record {
   certificate_type = of_type by instance certificate (λ reason applies. v.0 reason (inr applies));
   printed = refl;
   none = none_at_all by instance certificate problem (types_bounded by instance.kind type) v.0 v.2;
 }
-bound_accepted by instance certificate (bounds.No reason) problem type v is = absurd (false≢true is)
+bound_accepted by instance certificate (Err reason) problem type v is = absurd (false≢true is)
 
 says_bound : (by : CertificateKind) (strict : Bool) (first second : ReadTrace) (sink : Sink) (bounded : Bounded) → IsProblem bounded.instance
-    → IsBoundRun by strict first second sink (Ok bounded) → is_bound_yes bounded.found ≡ true → SaysBound by strict first second sink bounded.found
+    → IsBoundRun by strict first second sink (Ok bounded) → is_ok bounded.found ≡ true → SaysBound by strict first second sink bounded.found
 says_bound by strict first second sink bounded problem run is =
     let b = run.2 in
     let asked = b.1 in
-    let same = bounded_before (strict_reason strict bounded.instance) asked.0 (subst (λ v. is_bound_yes v ≡ true) asked.2 is) in
+    let same = bounded_before (strict_reason strict bounded.instance) asked.0 (subst (λ v. is_ok v ≡ true) asked.2 is) in
     record {
       instance = bounded.instance;
       certificate = bounded.certificate;
@@ -115,7 +113,7 @@ bound_run_of strict by first second sink bounded problem run = (
   run,
   λ other ended is.
       let same : bounded ≡ other = one_value {T = Bounded} {E = RunFault} (Ok bounded) bounded other refl ended in
-      subst (λ (b : Bounded). is_bound_yes b.found ≡ true → SaysBound by strict first second sink b.found) same (says_bound by strict first second sink bounded problem run) is,
+      subst (λ (b : Bounded). is_ok b.found ≡ true → SaysBound by strict first second sink b.found) same (says_bound by strict first second sink bounded problem run) is,
 )
 
 pub bound_fault_of : (strict : Bool) (by : CertificateKind) (first second : ReadTrace) (sink : Sink) (fault : RunFault) → EndsUnbounded by strict first second sink fault

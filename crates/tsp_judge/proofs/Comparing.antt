@@ -13,7 +13,6 @@ use Rattle.tsp_format.specs.declared.kinds.Kind.TheVariants as kinds
 use Rattle.tsp_theory.specs.Tour.{BoundsTours, HasNoTour}
 use Rattle.tsp_routing.specs.PlanLinks.{BoundsPlans, HasNoPlan}
 use Rattle.tsp_report.specs.declared.verdict.KnownBound.{KnownBound}
-use Rattle.tsp_report.specs.declared.verdict.BoundVerdict.TheVariants as bounds
 use Rattle.tsp_report.specs.declared.verdict.Reason.{Reason}
 use Rattle.tsp_report.specs.declared.verdict.Verdict.{Verdict}
 use Rattle.tsp_report.specs.declared.verdict.Verdict.TheVariants as verdicts
@@ -489,13 +488,13 @@ none_certified (Some kinds.Branches) by instance solution certificate reason ver
 none_certified None by instance solution certificate reason verdict applies v = of_tours None by instance solution certificate reason verdict (λ s. s) applies v
 
 against_all : (given : Option (CertificateKind × Fields)) (instance solution : Fields) (reason : Reason) (verdict : Verdict)
-    → IsFoundWith given instance (Some (bounds.No reason)) → IsVerdictWith given None instance solution verdict → is_yes verdict ≡ false
+    → IsFoundWith given instance (Some (Err reason)) → IsVerdictWith given None instance solution verdict → is_yes verdict ≡ false
 against_all None instance solution reason verdict b v = none_alone instance.kind instance solution reason verdict b.applies v
 against_all (Some given) instance solution reason verdict b v =
     none_certified instance.kind given.0 instance solution given.1 reason verdict b.applies v
 
 pub none_accepted : (given : Option (CertificateKind × Fields)) (instance solution : Fields) (known_bound : KnownBound) (reason : Reason)
-    (verdict : Verdict) → IsKnownBound given instance known_bound → known_bound.found ≡ Some (bounds.No reason)
+    (verdict : Verdict) → IsKnownBound given instance known_bound → known_bound.found ≡ Some (Err reason)
     → IsVerdictWith given None instance solution verdict → is_yes verdict ≡ false
 none_accepted given instance solution known_bound reason verdict b is v =
     against_all given instance solution reason verdict (subst (IsFoundWith given instance) is b.1.1) v
@@ -526,13 +525,13 @@ without_by (Some kinds.Branches) by instance solution certificate verdict none v
 without_by None by instance solution certificate verdict none v = tours_without by instance solution certificate verdict none v
 
 without_all : (given : Option (CertificateKind × Fields)) (instance solution : Fields) (verdict : Verdict)
-    → IsFoundWith given instance (Some bounds.NoSolution) → IsVerdictWith given None instance solution verdict → is_yes verdict ≡ false
+    → IsFoundWith given instance (Some (Ok None)) → IsVerdictWith given None instance solution verdict → is_yes verdict ≡ false
 without_all None instance solution verdict b v = absurd b
 without_all (Some given) instance solution verdict b v =
     without_by instance.kind given.0 instance solution given.1 verdict b.2 v
 
 pub none_without_tours : (given : Option (CertificateKind × Fields)) (instance solution : Fields) (known_bound : KnownBound) (verdict : Verdict)
-    → IsKnownBound given instance known_bound → known_bound.found ≡ Some bounds.NoSolution
+    → IsKnownBound given instance known_bound → known_bound.found ≡ Some (Ok None)
     → IsVerdictWith given None instance solution verdict → is_yes verdict ≡ false
 none_without_tours given instance solution known_bound verdict b is v =
     without_all given instance solution verdict (subst (IsFoundWith given instance) is b.1.1) v

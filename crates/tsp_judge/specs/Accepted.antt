@@ -2,15 +2,14 @@
 -- The six meanings of the line `yes`, over the files that were read and the report that was printed, and the meaning of
 -- `optimal` in a comparison. The runs in CheckRun.antt and BoundRun.antt promise them, and so do the calls for C. A
 -- change here changes what users are told, so have someone review it. example_check and tsp_c import it, too.
-use Rattle.tsp_judge.specs.Prelude.{ℕ, List, [], length, Option, None, Some, ℤ, Fields, IsProblemOf, IsRoutingOf, report_of, bound_report_of, CertificateKind, kind_of, IsBoundOf}
+use Rattle.tsp_judge.specs.Prelude.{ℕ, List, [], length, Option, None, Some, ℤ, Fields, IsProblemOf, IsRoutingOf, report_of, bound_report_of, CertificateKind, kind_of, IsBoundOf, Result, Ok, Err}
 use Rattle.std.specs.Prelude.{◌≡◌, ◌⊎◌, ◌≤◌, ◌∷◌, ◌≤ℤ◌}
 use Rattle.tsp_format.specs.Nodes.{nodes_to}
 use Rattle.tsp_format.specs.declared.kinds.Kind.{Kind}
 use Rattle.tsp_format.specs.declared.kinds.Kind.TheVariants as kinds
 use Rattle.tsp_theory.specs.Tour.{sum_int_by, length_of, RoutingProblem, IsPlan, plan_length, IsLeastRoutes, Problem, IsTour, BoundsTours, HasNoTour}
 use Rattle.tsp_routing.specs.PlanLinks.{IsFilledPlan, BoundsPlans, HasNoPlan}
-use Rattle.tsp_report.specs.declared.verdict.BoundVerdict.{BoundVerdict}
-use Rattle.tsp_report.specs.declared.verdict.BoundVerdict.TheVariants.{Bound, NoSolution, No}
+use Rattle.tsp_report.specs.declared.verdict.Reason.{Reason}
 use Rattle.tsp_report.specs.declared.verdict.Verdict.TheVariants.{Tour, Routes}
 
 -- The solution's only tour visits every node of the instance once and uses every fixed edge. If a length is claimed, it
@@ -96,13 +95,13 @@ HasNone instance = ((problem : Problem) × IsProblemOf instance problem × HasNo
 pub record IsAcceptedBound (by : CertificateKind) (instance certificate : Fields) (bound : ℤ) (report : List ℕ) : Type 0 where
   pub certificate_type : certificate.kind ≡ Some (kind_of by)
   pub of_certificate : IsBoundOf by instance certificate bound
-  pub printed : report ≡ bound_report_of instance (Bound bound)
+  pub printed : report ≡ bound_report_of instance (Ok (Some bound))
   pub below : BoundsAll instance bound
 
 -- With the line `bound none`: the instance has no solution.
 pub record IsShownUnsolvable (by : CertificateKind) (instance certificate : Fields) (report : List ℕ) : Type 0 where
   pub certificate_type : certificate.kind ≡ Some (kind_of by)
-  pub printed : report ≡ bound_report_of instance NoSolution
+  pub printed : report ≡ bound_report_of instance (Ok None)
   pub none : HasNone instance
 
 -- The meaning of `yes` in a check: without a certificate, or with one.
@@ -114,10 +113,10 @@ IsAccepted (Some given) claimed instance solution report =
     ⊎ AreRoutesWithBound given.0 claimed instance solution given.1 report
 
 -- The meaning of `yes` in a bound without a solution.
-abbrev pub IsAcceptedAlone : CertificateKind → Fields → Fields → BoundVerdict → List ℕ → Type 0
-IsAcceptedAlone by instance certificate (Bound bound) report = IsAcceptedBound by instance certificate bound report
-IsAcceptedAlone by instance certificate NoSolution report = IsShownUnsolvable by instance certificate report
-IsAcceptedAlone by instance certificate (No reason) report = ⊥
+abbrev pub IsAcceptedAlone : CertificateKind → Fields → Fields → Result (Option ℤ) Reason → List ℕ → Type 0
+IsAcceptedAlone by instance certificate (Ok (Some bound)) report = IsAcceptedBound by instance certificate bound report
+IsAcceptedAlone by instance certificate (Ok None) report = IsShownUnsolvable by instance certificate report
+IsAcceptedAlone by instance certificate (Err reason) report = ⊥
 
 -- ---- the meaning of the length and the bound on a line of `tsp compare`
 

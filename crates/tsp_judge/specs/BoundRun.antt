@@ -1,10 +1,9 @@
 -- Circle 2 of docs/trust.md.
 -- A run of `tsp bound`: the files that are read, the bound, the report, and what its line `yes` means (`SaysBound`).
 -- `run_bound` in src/bound_run.rt promises `IsBoundRunOf`. tsp_c imports it, too.
-use Rattle.tsp_judge.specs.Prelude.{ℕ, List, Bool, true, false, Result, Ok, Err, IsTrue, ReadTrace, IsUnread, Sink, IsUnwritten, HasWritten, HasStopped, Fields, IsFile, StopsAt, bound_report_of, is_bound_yes, CertificateKind, NoneAgainstInstance, is_bounded, NoneWithoutMemory, IsBoundAsked, IsJudgedWhole}
+use Rattle.tsp_judge.specs.Prelude.{ℕ, List, Bool, true, false, Result, Ok, Err, IsTrue, ReadTrace, IsUnread, Sink, IsUnwritten, HasWritten, HasStopped, Fields, IsFile, StopsAt, bound_report_of, CertificateKind, NoneAgainstInstance, is_bounded, NoneWithoutMemory, IsBoundAsked, IsJudgedWhole, is_ok, BoundVerdict}
 use Rattle.std.specs.Prelude.{◌≡◌, ◌⊎◌}
 use Rattle.tsp_io.specs.declared.piece.WriteFault.TheVariants as write_faults
-use Rattle.tsp_report.specs.declared.verdict.BoundVerdict.{BoundVerdict}
 use Rattle.tsp_judge.specs.Accepted.{IsAcceptedAlone}
 use Rattle.tsp_judge.specs.declared.bound_run.Bounded.{Bounded}
 use Rattle.tsp_judge.specs.declared.run_status.RunFault.{RunFault}
@@ -57,5 +56,5 @@ pub record SaysBound (by : CertificateKind) (strict : Bool) (first second : Read
 -- the result of the run, and what its line `yes` means
 abbrev pub IsBoundRunOf : CertificateKind → Bool → ReadTrace → ReadTrace → Sink → Result Bounded RunFault → Type 0
 IsBoundRunOf by strict first second sink result = IsBoundRun by strict first second sink result
-    × ((bounded : Bounded) → result ≡ Ok bounded → is_bound_yes bounded.found ≡ true
+    × ((bounded : Bounded) → result ≡ Ok bounded → is_ok bounded.found ≡ true
     → SaysBound by strict first second sink bounded.found)

@@ -1,10 +1,9 @@
 -- An instance that stays open between calls: the results of opening it, binding a certificate to it, and judging a
 -- solution, all given as texts. src/opened.rt promises them, for the handles of tsp_c. In no circle of docs/trust.md.
-use Rattle.tsp_judge.specs.Prelude.{ℕ, false, List, Option, None, Some, Result, Ok, Err, IsTrue, ℤ, Fields, Reads, IsProblem, CertificateKind, Verdict, IsBoundVerdict, NoneAgainstInstance, is_bounded, NoneWithoutMemory, is_judged, NoneBeforeRepeatsOn, IsVerdictWith}
+use Rattle.tsp_judge.specs.Prelude.{ℕ, false, List, Option, None, Some, Result, Ok, Err, IsTrue, ℤ, Fields, Reads, IsProblem, CertificateKind, Verdict, IsBoundVerdict, NoneAgainstInstance, is_bounded, NoneWithoutMemory, is_judged, NoneBeforeRepeatsOn, IsVerdictWith, BoundVerdict}
 use Rattle.std.specs.Prelude.{◌≡◌}
 use Rattle.tsp_file.specs.Rules.{is_instance}
 use Rattle.tsp_text.specs.ParsesTo.{ParsesTo}
-use Rattle.tsp_report.specs.declared.verdict.BoundVerdict.{BoundVerdict}
 use Rattle.tsp_judge.specs.declared.run_status.RunFault.{RunFault}
 use Rattle.tsp_judge.specs.declared.run_status.RunFault.TheVariants.{File, WrongKind, OutOfMemory}
 

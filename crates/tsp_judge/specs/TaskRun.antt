@@ -1,6 +1,6 @@
 -- A task that is run on its readers, and a comparison, as src/task_run.rt promises them. It only combines what the
 -- other files here say about each run; tsp_cli states its contracts by it. In no circle of docs/trust.md.
-use Rattle.tsp_judge.specs.Prelude.{ℕ, List, Bool, true, Result, Ok, Err, Option, Sink, is_yes, is_bound_yes, TakesAtMost, read_trace_of, most_taken, IsReadOn}
+use Rattle.tsp_judge.specs.Prelude.{ℕ, List, Bool, true, Result, Ok, Err, Option, Sink, is_yes, TakesAtMost, read_trace_of, most_taken, IsReadOn, is_ok}
 use Rattle.std.specs.Prelude.{◌≡◌}
 use Rattle.tsp_judge.specs.declared.bound_run.Bounded.{Bounded}
 use Rattle.tsp_judge.specs.declared.check.Judged.{Judged}
@@ -23,7 +23,7 @@ use Rattle.tsp_judge.specs.ConvertRun.{IsShowRun, IsConvertRun}
 abbrev pub is_yes_outcome : Outcome → Bool
 is_yes_outcome outcomes.Done = true
 is_yes_outcome (outcomes.Judged judged) = is_yes judged.verdict
-is_yes_outcome (outcomes.Bounded bounded) = is_bound_yes bounded.found
+is_yes_outcome (outcomes.Bounded bounded) = is_ok bounded.found
 
 -- the outcome of `show` or `convert`
 abbrev pub outcome_of_writing : Result (Unit {0}) RunFault → Result Outcome RunFault

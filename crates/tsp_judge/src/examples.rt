@@ -3,7 +3,7 @@
 //! them. If someone makes the same mistake in a definition and in the code, every contract still
 //! holds, but one of these laws fails.
 
-ghost use Rattle.tsp_judge.specs.Prelude.{ℕ, List, [], true, false, None, Some, Ok, Err, pos, codes, Bool, Option, ℤ, decimal, Result, Sink, HasStopped, HasWritten, IsUnwritten, ReadTrace, IsUnread, TakesAtMost, Fields, IsReadOn, StopsAt, most_taken, kind_of, is_bounded, IsKnownBound, head_of, is_bound_yes, is_clear, is_yes, CertificateKind, read_trace_of};
+ghost use Rattle.tsp_judge.specs.Prelude.{ℕ, List, [], true, false, None, Some, Ok, Err, pos, codes, Bool, Option, ℤ, decimal, Result, Sink, HasStopped, HasWritten, IsUnwritten, ReadTrace, IsUnread, TakesAtMost, Fields, IsReadOn, StopsAt, most_taken, kind_of, is_bounded, IsKnownBound, head_of, BoundVerdict, is_clear, is_yes, CertificateKind, read_trace_of, is_ok};
 ghost use Rattle.std.specs.Prelude.{◌≡◌, ◌∷◌, ◌++◌, ◌+◌, IfSome};
 ghost use Rattle.tsp_format.specs.declared.kinds.Kind.TheVariants as kinds;
 ghost use Rattle.tsp_format.specs.declared.layout.Layout.{Layout};
@@ -17,7 +17,6 @@ ghost use Rattle.tsp_verdict.specs.Examples.{instance_with, with_unknown};
 ghost use Rattle.tsp_report.specs.declared.task.CertificateKind.TheVariants as certificates;
 ghost use Rattle.tsp_report.specs.declared.task.Comparison.{Comparison};
 ghost use Rattle.tsp_report.specs.declared.task.FileTask.TheVariants as file_tasks;
-ghost use Rattle.tsp_report.specs.declared.verdict.BoundVerdict.TheVariants as bounds;
 ghost use Rattle.tsp_report.specs.declared.verdict.Reason.{Reason};
 ghost use Rattle.tsp_report.specs.declared.verdict.Reason.TheVariants as reasons;
 ghost use Rattle.tsp_report.specs.declared.verdict.Verdict.TheVariants as verdicts;
@@ -55,14 +54,14 @@ pub fn examples_of_known_bounds()
     ensures tour { is_yes (verdicts.Tour (pos 14) None) ≡ true }
     ensures routes { is_yes (verdicts.Routes (pos 20) 3 2 None) ≡ true }
     ensures rejected { is_yes (verdicts.No reasons.TourCount) ≡ false }
-    ensures bounded { is_bound_yes (bounds.Bound (pos 12)) ≡ true }
-    ensures without_tours { is_bound_yes bounds.NoSolution ≡ true }
-    ensures unbounded { is_bound_yes (bounds.No reasons.TooFewNodes) ≡ false }
+    ensures bounded { let found : BoundVerdict = Ok (Some (pos 12)) in is_ok found ≡ true }
+    ensures without_tours { let found : BoundVerdict = Ok None in is_ok found ≡ true }
+    ensures unbounded { let found : BoundVerdict = Err reasons.TooFewNodes in is_ok found ≡ false }
     ensures clear { is_clear (record { least = None; found = None }) ≡ true }
-    ensures clear_by_a_bound { is_clear (record { least = None; found = Some (bounds.Bound (pos 12)) }) ≡ true }
-    ensures clear_without_tours { is_clear (record { least = None; found = Some bounds.NoSolution }) ≡ true }
+    ensures clear_by_a_bound { is_clear (record { least = None; found = Some (Ok (Some (pos 12))) }) ≡ true }
+    ensures clear_without_tours { is_clear (record { least = None; found = Some (Ok None) }) ≡ true }
     ensures clear_for_routes { is_clear (record { least = Some 2; found = None }) ≡ true }
-    ensures reason { is_clear (record { least = None; found = Some (bounds.No reasons.TooFewNodes) }) ≡ false }
+    ensures reason { is_clear (record { least = None; found = Some (Err reasons.TooFewNodes) }) ≡ false }
     ensures status { (head : List ℕ) (sink : Sink) → HasWritten sink head → ComparesNone head sink (Ok 1) }
     ensures no_other_status { (head : List ℕ) (sink : Sink) → ¬ ComparesNone head sink (Ok 2) }
 {}
@@ -84,9 +83,9 @@ pub fn examples_of_strict_comparisons()
         → common.instance ≡ with_unknown kinds.Atsp 4 → common.known_bound ≡ record { least = None; found = None }
         → ¬ ComparesOn true (λ place read_trace. IfSome read_trace (StopsAt read_faults.TooLong)) (codes "a.tour" ∷ []) common sink (Ok status) }
     ensures reason { (common : ComparisonContext) (sink : Sink)
-        → common.instance ≡ with_unknown kinds.Atsp 4 → common.known_bound ≡ record { least = None; found = Some (bounds.No reasons.NotJudged) }
+        → common.instance ≡ with_unknown kinds.Atsp 4 → common.known_bound ≡ record { least = None; found = Some (Err reasons.NotJudged) }
         → IsKnownBound common.certificate common.instance (record { least = None; found = None })
-        → HasWritten sink (head_of (with_unknown kinds.Atsp 4) (record { least = None; found = Some (bounds.No reasons.NotJudged) }))
+        → HasWritten sink (head_of (with_unknown kinds.Atsp 4) (record { least = None; found = Some (Err reasons.NotJudged) }))
         → ComparesOn true (λ place read_trace. IfSome read_trace (StopsAt read_faults.TooLong)) (codes "a.tour" ∷ []) common sink (Ok 1) }
     ensures judged { (common : ComparisonContext) (sink : Sink) (read_trace : ReadTrace)
         → common.instance ≡ with_unknown kinds.Atsp 4 → common.known_bound ≡ record { least = None; found = None }
@@ -243,7 +242,7 @@ pub fn examples_of_wrong_kinds()
     ensures bound_of_routes { (strict : Bool) (certificate : Fields) (sink : Sink) → IsUnwritten sink
         → BoundsFiles certificates.Potentials strict (instance_with kinds.Cvrp 4 []) certificate sink (Err run_faults.WrongKind) }
     ensures bound_is_no_no { (strict : Bool) (certificate : Fields) (sink : Sink) (reason : Reason)
-        → ¬ BoundsFiles certificates.Potentials strict (instance_with kinds.Cvrp 4 []) certificate sink (Ok (bounds.No reason)) }
+        → ¬ BoundsFiles certificates.Potentials strict (instance_with kinds.Cvrp 4 []) certificate sink (Ok (Err reason)) }
 {}
 
 /// A rejected solution isn't accepted, and neither is an instance or a certificate without a bound.
@@ -253,9 +252,9 @@ pub fn examples_of_outcomes()
         → is_yes_outcome (outcomes.Judged judged) ≡ true }
     ensures rejected { (judged : Judged) (reason : Reason) → judged.verdict ≡ verdicts.No reason
         → is_yes_outcome (outcomes.Judged judged) ≡ false }
-    ensures bounded { (bounded : Bounded) (bound : ℤ) → bounded.found ≡ bounds.Bound bound
+    ensures bounded { (bounded : Bounded) (bound : ℤ) → bounded.found ≡ Ok (Some bound)
         → is_yes_outcome (outcomes.Bounded bounded) ≡ true }
-    ensures refused { (bounded : Bounded) (reason : Reason) → bounded.found ≡ bounds.No reason
+    ensures refused { (bounded : Bounded) (reason : Reason) → bounded.found ≡ Err reason
         → is_yes_outcome (outcomes.Bounded bounded) ≡ false }
 {}
 

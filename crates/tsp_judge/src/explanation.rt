@@ -15,7 +15,7 @@ use tsp_explain::{
 use tsp_file::File;
 use tsp_io::WriteFault;
 use tsp_report::{CertificateKind, FileTask, Role, Task};
-use tsp_verdict::{BoundVerdict, Verdict};
+use tsp_verdict::Verdict;
 
 /// Explains a line `no` by the files that were judged. After `yes`, says whether a comment in the
 /// solution claims another length.
@@ -67,7 +67,7 @@ pub fn explain_known_bound<'a>(
 ) -> Result<(), AllocError>
     ensures { StartsWith text.new.items text.old.items }
 {
-    let Some(BoundVerdict::No(reason)) = common.known_bound.found else {
+    let Some(Err(reason)) = common.known_bound.found else {
         return Ok(());
     };
     let files = Files {
@@ -76,7 +76,7 @@ pub fn explain_known_bound<'a>(
         solution: None,
         certificate: file_of(&common.certificate),
     };
-    explain_bound(alloc, text, files, BoundVerdict::No(reason))
+    explain_bound(alloc, text, files, Err(reason))
 }
 
 /// A solution in a comparison.

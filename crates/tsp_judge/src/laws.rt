@@ -2,11 +2,10 @@
 //! the same answer, and what an accepted verdict means (`verdicts_mean_reports`). tsp_c calls the
 //! last one for the verdicts that it returns; the others are only read by people.
 
-ghost use Rattle.tsp_judge.specs.Prelude.{ℕ, List, true, false, Option, None, Some, Ok, IsTrue, ℤ, codes, decimal, ReadTrace, Sink, HasWritten, Fields, IsFile, IsProblem, IsKnownBound, IsVerdictWith, is_judged, head_of, solution_line, report_of, IsSized, is_clear, is_yes, CertificateKind, Verdict, IsJudgedWhole};
+ghost use Rattle.tsp_judge.specs.Prelude.{ℕ, List, true, false, Option, None, Some, Ok, IsTrue, ℤ, codes, decimal, ReadTrace, Sink, HasWritten, Fields, IsFile, IsProblem, IsKnownBound, IsVerdictWith, is_judged, head_of, solution_line, report_of, IsSized, is_clear, is_yes, CertificateKind, Verdict, IsJudgedWhole, Err};
 ghost use Rattle.std.specs.Fmt.{signed_decimal};
 ghost use Rattle.std.specs.Prelude.{◌≡◌, ◌++◌};
 ghost use Rattle.tsp_report.specs.declared.verdict.KnownBound.{KnownBound};
-ghost use Rattle.tsp_report.specs.declared.verdict.BoundVerdict.TheVariants as bounds;
 ghost use Rattle.tsp_report.specs.declared.verdict.Reason.{Reason};
 ghost use Rattle.tsp_report.specs.declared.verdict.Verdict.TheVariants as verdicts;
 ghost use Rattle.tsp_judge.specs.Accepted.{IsAccepted, IsBoundedTour, AreBoundedRoutes};
@@ -77,11 +76,11 @@ pub fn lines_of_checks()
 pub fn solutions_without_a_known_bound()
     ensures reason { (given : Option (CertificateKind × Fields)) (instance solution : Fields) (known_bound : KnownBound)
         (reason : Reason) (verdict : Verdict) → IsKnownBound given instance known_bound
-        → known_bound.found ≡ Some (bounds.No reason) → IsVerdictWith given None instance solution verdict
+        → known_bound.found ≡ Some (Err reason) → IsVerdictWith given None instance solution verdict
         → is_yes verdict ≡ false }
     ensures no_tour { (given : Option (CertificateKind × Fields)) (instance solution : Fields) (known_bound : KnownBound)
         (verdict : Verdict) → IsKnownBound given instance known_bound
-        → known_bound.found ≡ Some bounds.NoSolution → IsVerdictWith given None instance solution verdict
+        → known_bound.found ≡ Some (Ok None) → IsVerdictWith given None instance solution verdict
         → is_yes verdict ≡ false }
 {}
 

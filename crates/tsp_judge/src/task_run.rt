@@ -33,7 +33,7 @@ pub fn is_yes_outcome(outcome: &Outcome) -> bool
     match outcome {
         Outcome::Done => true,
         Outcome::Judged(judged) => judged.verdict.is_yes(),
-        Outcome::Bounded(bounded) => bounded.found.is_yes(),
+        Outcome::Bounded(bounded) => bounded.found.is_ok(),
     }
 }
 

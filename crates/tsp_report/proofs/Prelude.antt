@@ -1,6 +1,6 @@
 -- Names of other crates, passed on to the files of this crate alone. It defines nothing: add or remove names freely;
 -- `tests/repository/names` sees that each is imported from here.
-pub use Rattle.std.proofs.Common.{List, None, Option, Some, ap, append-nil, append_assoc, arith, false, get_or, length, map, refl, rules, subst, sym, take, true, ℕ, [], ◌++◌, ◌+◌, ◌<◌, ◌∙◌, ◌∷◌, ◌≡◌}
+pub use Rattle.std.proofs.Common.{List, None, Ok, Option, Some, ap, append-nil, append_assoc, arith, false, get_or, length, map, refl, rules, subst, sym, take, true, ℕ, [], ◌++◌, ◌+◌, ◌<◌, ◌∙◌, ◌∷◌, ◌≡◌}
 pub use Rattle.std.proofs.lemmas.Int.{ints, to_z-of_z}
 pub use Rattle.std.proofs.lemmas.List.{get_or-map, length-map}
 pub use Rattle.std.specs.Fmt.{decimal, signed_decimal}

@@ -12,10 +12,8 @@ use Rattle.tsp_format.specs.declared.kinds.Kind.{Kind}
 use Rattle.tsp_file.specs.Fields.{Fields, nodes_of}
 use Rattle.tsp_text.specs.ParsesTo.{read_fault_text}
 use Rattle.tsp_text.specs.declared.fault.ReadFault.{ReadFault}
-use Rattle.tsp_report.specs.Verdicts.{ReasonRow, row_of_reason}
+use Rattle.tsp_report.specs.Verdicts.{BoundVerdict, ReasonRow, row_of_reason}
 use Rattle.tsp_report.specs.declared.verdict.KnownBound.{KnownBound}
-use Rattle.tsp_report.specs.declared.verdict.BoundVerdict.{BoundVerdict}
-use Rattle.tsp_report.specs.declared.verdict.BoundVerdict.TheVariants as bounds
 use Rattle.tsp_report.specs.declared.verdict.Reason.{Reason}
 use Rattle.tsp_report.specs.declared.verdict.Reason.TheVariants.{NotJudged, NotUsed}
 use Rattle.tsp_report.specs.declared.verdict.Verdict.{Verdict}
@@ -108,9 +106,9 @@ report_of instance verdict = instance_lines instance ++ verdict_lines instance v
 
 -- the bound, or `none` if the instance has no solution; or the first reason against the instance or the certificate
 abbrev pub bound_found_lines : Fields → BoundVerdict → List ℕ
-bound_found_lines instance (bounds.Bound bound) = codes "bound " ++ signed_decimal bound ++ codes "\nyes\n"
-bound_found_lines instance bounds.NoSolution = codes "bound none\nyes\n"
-bound_found_lines instance (bounds.No reason) = no_line instance reason
+bound_found_lines instance (Ok (Some bound)) = codes "bound " ++ signed_decimal bound ++ codes "\nyes\n"
+bound_found_lines instance (Ok None) = codes "bound none\nyes\n"
+bound_found_lines instance (Err reason) = no_line instance reason
 
 -- the report of a bound without a solution
 abbrev pub bound_report_of : Fields → BoundVerdict → List ℕ
@@ -133,9 +131,9 @@ line_of_bound bound = codes "bound " ++ signed_decimal bound ++ codes "\n"
 -- reason against the instance or the certificate
 abbrev pub known_lines : Fields → Option ℕ → Option BoundVerdict → List ℕ
 known_lines instance least None = least_line least
-known_lines instance least (Some (bounds.Bound bound)) = least_line least ++ line_of_bound bound
-known_lines instance least (Some bounds.NoSolution) = codes "bound none\n"
-known_lines instance least (Some (bounds.No reason)) = no_line instance reason
+known_lines instance least (Some (Ok (Some bound))) = least_line least ++ line_of_bound bound
+known_lines instance least (Some (Ok None)) = codes "bound none\n"
+known_lines instance least (Some (Err reason)) = no_line instance reason
 
 -- the head: the lines of the instance, then those of what is known about all solutions
 abbrev pub head_of : Fields → KnownBound → List ℕ

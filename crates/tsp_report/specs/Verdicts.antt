@@ -1,13 +1,11 @@
 -- Circle 2 of docs/trust.md.
 -- The table of reasons, one row each, and which verdicts end with the line `yes`. src/verdict.rt is proved to have the
 -- same table. Crates above import it, too.
-use Rattle.std.specs.Prelude.{Bool, true, false, ℕ, List, Option, None, Some, codes, ℤ, pos}
+use Rattle.std.specs.Prelude.{Bool, true, false, ℕ, List, Option, None, Some, Result, codes, is_ok, ℤ, pos}
 use Rattle.std.specs.Option.{option_map_or}
 use Rattle.tsp_report.specs.declared.task.Role.{Role}
 use Rattle.tsp_report.specs.declared.task.Role.TheVariants.{Instance, Solution, Potentials, Branches}
 use Rattle.tsp_report.specs.declared.verdict.KnownBound.{KnownBound}
-use Rattle.tsp_report.specs.declared.verdict.BoundVerdict.{BoundVerdict}
-use Rattle.tsp_report.specs.declared.verdict.BoundVerdict.TheVariants as bounds
 use Rattle.tsp_report.specs.declared.verdict.Reason.{Reason}
 use Rattle.tsp_report.specs.declared.verdict.Reason.TheVariants.{NotASolution, TooFewNodes, NotSymmetric, Dimension, TourCount, TourLength, DepotCount, DepotDemand, FixedEdgesInRoutes, DepotInRoute, NodeOutOfRange, RepeatedNode, FixedEdgeUnused, Unserved, Overload, LengthClaimed, NotPotentials, PotentialsDimension, PotentialsKind, MultiplierNotFixed, MultiplierRepeated, DualInfeasible, NotBranches, BranchesDimension, BadFamily, BadMemory, BadRow, BadBranch, BranchTwice, BadLeaf, TooManyLoads, TooManyStates, NotJudged, NotUsed}
 use Rattle.tsp_report.specs.declared.verdict.Verdict.{Verdict}
@@ -19,15 +17,13 @@ is_yes (Tour length bound) = true
 is_yes (Routes length routes least bound) = true
 is_yes (No reason) = false
 
--- a bound without a solution: the certificate gives one, or shows that there is no solution
-abbrev pub is_bound_yes : BoundVerdict → Bool
-is_bound_yes (bounds.Bound bound) = true
-is_bound_yes bounds.NoSolution = true
-is_bound_yes (bounds.No reason) = false
+-- the verdict on an instance with a certificate: the bound, none if there is no solution, or the first reason
+abbrev pub BoundVerdict : Type 0
+BoundVerdict = Result (Option ℤ) Reason
 
 -- no reason applies whatever the solution, so solutions are judged one by one
 abbrev pub is_clear : KnownBound → Bool
-is_clear known_bound = option_map_or is_bound_yes known_bound.found true
+is_clear known_bound = option_map_or is_ok known_bound.found true
 
 -- ---- the table of reasons, one row each
 

@@ -10,7 +10,7 @@ ghost use Rattle.tsp_text.specs.ParsesTo.{line_fault_text, read_fault_text};
 ghost use Rattle.tsp_report.specs.Report.{head_of, known_lines, least_line, line_of_bound, gap_words, bound_words, verdict_words, found_words, solution_line, IsGapSized, IsSized};
 
 use crate::report::{gap_of, put_instance, put_named, put_no, put_reason};
-use crate::verdict::{BoundVerdict, KnownBound, Verdict};
+use crate::verdict::{KnownBound, Verdict};
 use tsp_file::{EndFault, File};
 use tsp_format::Word;
 use tsp_io::{Output, Piece, Takes, WriteFault, hand_over, put, put_number};
@@ -90,12 +90,12 @@ fn put_known_bound<W: Takes>(
 {
     match known_bound.found {
         None => put_least(piece, out, known_bound.least),
-        Some(BoundVerdict::Bound(bound)) => {
+        Some(Ok(Some(bound))) => {
             put_least(piece, out, known_bound.least);
             put_bound_line(piece, out, bound);
         }
-        Some(BoundVerdict::NoSolution) => put(piece, out, b"bound none\n"),
-        Some(BoundVerdict::No(reason)) => put_no(piece, out, instance, reason),
+        Some(Ok(None)) => put(piece, out, b"bound none\n"),
+        Some(Err(reason)) => put_no(piece, out, instance, reason),
     }
 }
 

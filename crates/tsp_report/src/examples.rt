@@ -30,7 +30,6 @@ ghost use Rattle.tsp_report.specs.declared.task.FileTask.TheVariants as file_tas
 ghost use Rattle.tsp_report.specs.declared.task.Role.TheVariants.{Instance, Solution, Potentials, Branches};
 ghost use Rattle.tsp_report.specs.declared.task.Role.TheVariants as roles;
 ghost use Rattle.tsp_report.specs.declared.task.Task.TheVariants as tasks;
-ghost use Rattle.tsp_report.specs.declared.verdict.BoundVerdict.TheVariants as bounds;
 ghost use Rattle.tsp_report.specs.declared.verdict.Reason.TheVariants as reasons;
 ghost use Rattle.tsp_report.specs.declared.verdict.Verdict.TheVariants as verdicts;
 
@@ -38,16 +37,16 @@ ghost use Rattle.tsp_report.specs.declared.verdict.Verdict.TheVariants as verdic
 pub fn examples_of_heads()
     ensures alone { head_of matrix (record { least = None; found = None })
         ≡ codes "type TSP\nnodes 2\nnot judged FOO\nnot judged BAR\n" }
-    ensures bounded { head_of matrix (record { least = None; found = Some (bounds.Bound (pos 12)) })
+    ensures bounded { head_of matrix (record { least = None; found = Some (Ok (Some (pos 12))) })
         ≡ codes "type TSP\nnodes 2\nnot judged FOO\nnot judged BAR\nbound 12\n" }
-    ensures no_tour { head_of matrix (record { least = None; found = Some bounds.NoSolution })
+    ensures no_tour { head_of matrix (record { least = None; found = Some (Ok None) })
         ≡ codes "type TSP\nnodes 2\nnot judged FOO\nnot judged BAR\nbound none\n" }
     ensures routes { head_of shown_routes (record { least = Some 3; found = None }) ≡ codes "type CVRP\nnodes 2\nleast 3\n" }
-    ensures bounded_routes { head_of shown_routes (record { least = Some 3; found = Some (bounds.Bound (pos 12)) })
+    ensures bounded_routes { head_of shown_routes (record { least = Some 3; found = Some (Ok (Some (pos 12))) })
         ≡ codes "type CVRP\nnodes 2\nleast 3\nbound 12\n" }
-    ensures no { head_of matrix (record { least = None; found = Some (bounds.No reasons.TooFewNodes) })
+    ensures no { head_of matrix (record { least = None; found = Some (Err reasons.TooFewNodes) })
         ≡ codes "type TSP\nnodes 2\nnot judged FOO\nnot judged BAR\nno TooFewNodes\n" }
-    ensures unjudged { head_of matrix (record { least = None; found = Some (bounds.No reasons.NotJudged) })
+    ensures unjudged { head_of matrix (record { least = None; found = Some (Err reasons.NotJudged) })
         ≡ codes "type TSP\nnodes 2\nnot judged FOO\nnot judged BAR\nno NotJudged FOO\n" }
 {}
 
@@ -102,10 +101,10 @@ pub fn examples_of_reports()
         ≡ codes "routes " ++ decimal 3 ++ codes "\nleast "
         ++ decimal 2 ++ codes "\n" ++ (codes "length " ++ signed_decimal (pos 20) ++ codes "\nyes\n") }
     ensures no { verdict_lines matrix (verdicts.No reasons.TourCount) ≡ codes "no TourCount\n" }
-    ensures bound_alone { bound_found_lines matrix (bounds.Bound (pos 14))
+    ensures bound_alone { bound_found_lines matrix (Ok (Some (pos 14)))
         ≡ codes "bound " ++ signed_decimal (pos 14) ++ codes "\nyes\n" }
-    ensures no_tour { bound_found_lines matrix bounds.NoSolution ≡ codes "bound none\nyes\n" }
-    ensures no_bound_alone { bound_found_lines matrix (bounds.No reasons.TooFewNodes)
+    ensures no_tour { bound_found_lines matrix (Ok None) ≡ codes "bound none\nyes\n" }
+    ensures no_bound_alone { bound_found_lines matrix (Err reasons.TooFewNodes)
         ≡ codes "no TooFewNodes\n" }
 {}
 
@@ -177,15 +176,15 @@ pub fn examples_of_whole_reports()
 
 /// Whole reports on the same instance, if its tours are bounded.
 pub fn examples_of_bound_reports()
-    ensures bound { bound_report_of matrix (bounds.Bound (pos 12))
+    ensures bound { bound_report_of matrix (Ok (Some (pos 12)))
         ≡ codes "type TSP\nnodes 2\nnot judged FOO\nnot judged BAR\nbound 12\nyes\n" }
-    ensures no_tour { bound_report_of matrix bounds.NoSolution
+    ensures no_tour { bound_report_of matrix (Ok None)
         ≡ codes "type TSP\nnodes 2\nnot judged FOO\nnot judged BAR\nbound none\nyes\n" }
-    ensures no { bound_report_of matrix (bounds.No reasons.TooFewNodes)
+    ensures no { bound_report_of matrix (Err reasons.TooFewNodes)
         ≡ codes "type TSP\nnodes 2\nnot judged FOO\nnot judged BAR\nno TooFewNodes\n" }
-    ensures unused { bound_report_of shown_routes (bounds.No (reasons.NotUsed fields.ScaleKey))
+    ensures unused { bound_report_of shown_routes (Err (reasons.NotUsed fields.ScaleKey))
         ≡ codes "type CVRP\nnodes 2\nno NotUsed SCALE\n" }
-    ensures unjudged { bound_report_of matrix (bounds.No reasons.NotJudged)
+    ensures unjudged { bound_report_of matrix (Err reasons.NotJudged)
         ≡ codes "type TSP\nnodes 2\nnot judged FOO\nnot judged BAR\nno NotJudged FOO\n" }
 {}
 

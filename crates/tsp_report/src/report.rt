@@ -279,11 +279,11 @@ fn put_found<W: Takes>(piece: &mut Piece, out: &mut Output<W>, instance: &File, 
     ensures { Puts W.contents out.old piece.old out.new piece.new (bound_found_lines instance.now found) }
 {
     match found {
-        BoundVerdict::Bound(bound) => {
+        Ok(Some(bound)) => {
             put_named(piece, out, b"bound ", bound);
             put(piece, out, b"\nyes\n");
         }
-        BoundVerdict::NoSolution => put(piece, out, b"bound none\nyes\n"),
-        BoundVerdict::No(reason) => put_no(piece, out, instance, reason),
+        Ok(None) => put(piece, out, b"bound none\nyes\n"),
+        Err(reason) => put_no(piece, out, instance, reason),
     }
 }

@@ -151,32 +151,10 @@ impl Verdict {
     }
 }
 
-/// The verdict on an instance with a certificate, without a solution.
-#[derive(Clone, Copy, Debug, PartialEq, Eq)]
-pub enum BoundVerdict {
-    /// Accepted: no tour of the instance is shorter than this bound or, for a CVRP, no plan without
-    /// empty routes.
-    Bound(i128),
-    /// Accepted: the instance has no tour or, for a CVRP, no such plan.
-    NoSolution,
-    /// Rejected, with the first reason that applies to the instance or the certificate.
-    No(Reason),
-}
-
-impl BoundVerdict {
-    ghost use Rattle.std.specs.Prelude.{◌≡◌};
-    ghost use Rattle.tsp_report.specs.Verdicts.{is_bound_yes};
-
-    /// Whether there is no reason against the instance and the certificate.
-    pub fn is_yes(self) -> bool
-        ensures { result ≡ is_bound_yes self }
-    {
-        match self {
-            BoundVerdict::Bound(_) | BoundVerdict::NoSolution => true,
-            BoundVerdict::No(_) => false,
-        }
-    }
-}
+/// The verdict on an instance with a certificate, without a solution: the bound, below which there
+/// is no tour or, for a CVRP, no plan without empty routes; `None` if the instance has no such
+/// solution; or the first reason that applies to the instance or the certificate.
+pub type BoundVerdict = Result<Option<i128>, Reason>;
 
 // ---- what is known about all solutions of an instance, before any is read
 
@@ -201,7 +179,7 @@ impl KnownBound {
     {
         match self.found {
             None => true,
-            Some(found) => found.is_yes(),
+            Some(found) => found.is_ok(),
         }
     }
 }

@@ -1,11 +1,9 @@
 -- For src/solution_verdict.rt: the verdict on a solution by what was found of all solutions of its instance, with a
 -- certificate or without. Proofs in tsp_judge use it, too.
-use Rattle.tsp_verdict.proofs.Prelude.{◌≡◌, Some, inl, inr, Option, None, ℕ, refl, sym, subst, ◌∙◌, ◌<◌, ◌≤◌, true, false, ap, arith, false≢true, ◌⊎◌, ℤ, IsTrue, MatchOption, option_map, Kind, Fields, is_tour_file, BoundsTours, HasNoTour, IsLeastRoutes, problem_of, routing_of, capacity_of, rank_of, CertificateKind, Reason, TooFewNodes, NotSymmetric, DepotCount, DepotDemand, FixedEdgesInRoutes, LengthClaimed, NotASolution, Dimension, NotPotentials, Verdict}
+use Rattle.tsp_verdict.proofs.Prelude.{◌≡◌, Some, inl, inr, Option, None, ℕ, refl, sym, subst, ◌∙◌, ◌<◌, ◌≤◌, true, false, ap, arith, false≢true, ◌⊎◌, ℤ, IsTrue, MatchOption, option_map, Kind, Fields, is_tour_file, BoundsTours, HasNoTour, IsLeastRoutes, problem_of, routing_of, capacity_of, rank_of, CertificateKind, Reason, TooFewNodes, NotSymmetric, DepotCount, DepotDemand, FixedEdgesInRoutes, LengthClaimed, NotASolution, Dimension, NotPotentials, Verdict, Ok, Err, BoundVerdict}
 use Rattle.tsp_format.specs.declared.kinds.Kind.TheVariants as kinds
 use Rattle.tsp_routing.specs.PlanLinks.{HasNoPlan}
 use Rattle.tsp_report.specs.Verdicts.{is_yes}
-use Rattle.tsp_report.specs.declared.verdict.BoundVerdict.{BoundVerdict}
-use Rattle.tsp_report.specs.declared.verdict.BoundVerdict.TheVariants as bounds
 use Rattle.tsp_report.specs.declared.verdict.Verdict.TheVariants as verdicts
 use Rattle.tsp_verdict.proofs.FirstReasons.{HasTours, of_tours, of_routing, tour_rank, routes_rank, own_first, certificate_first, none_at_all, certified_tour, certified_routes, certificate_rank, for_tours}
 use Rattle.tsp_verdict.specs.Certified.{AppliesToTouring, AppliesToRouting, AppliesToInstance, NoneAgainstInstance, AppliesToBounded, IsBoundVerdict, AppliesToCertificate, FindsBound, BoundsSolutionsBy, BoundsSolutions, IsCertifiedVerdict, IsCertifiedVerdictBy, NoneAgainstTouring, is_bounded, HasNoSolutionBy}
@@ -51,9 +49,9 @@ first_of_certificate by inst cert reason none first = record {
 -- if no reason applies to the instance, what was found is what the certificate gives
 pub found_by_certificate : (by : CertificateKind) (inst cert : Fields) (found : BoundVerdict) → NoneAgainstInstance inst
     → IsBoundVerdict by inst cert found → FindsBound by inst cert found
-found_by_certificate by inst cert (bounds.Bound bound) none is = (λ reason applies. is.0 reason (inr applies), is.1)
-found_by_certificate by inst cert bounds.NoSolution none is = (λ reason applies. is.0 reason (inr applies), is.1, is.2)
-found_by_certificate by inst cert (bounds.No reason) none is = first_of_certificate by inst cert reason none is
+found_by_certificate by inst cert (Ok (Some bound)) none is = (λ reason applies. is.0 reason (inr applies), is.1)
+found_by_certificate by inst cert (Ok None) none is = (λ reason applies. is.0 reason (inr applies), is.1, is.2)
+found_by_certificate by inst cert (Err reason) none is = first_of_certificate by inst cert reason none is
 
 -- ---- what was found says whether a reason applies to an instance of tours
 
@@ -89,14 +87,14 @@ no_solution by inst cert kind (inl applies) = of_tours inst NotASolution kind ap
 no_solution by inst cert kind (inr applies) = omega (arith, certificate_rank by inst cert NotASolution applies)
 
 reason_alone : (inst : Fields) (reason : Reason) → IsFirstReason (AppliesToTouring inst) reason
-    → KnowsInstance inst (Some (bounds.No reason))
+    → KnowsInstance inst (Some (Err reason))
 reason_alone inst TooFewNodes first = first
 reason_alone inst (NotSymmetric i j) first = first
 reason_alone inst reason first = absurd first.applies
 
 reason_by : (by : CertificateKind) (inst cert : Fields) (reason : Reason) → HasTours inst
     → IsFirstReason (AppliesToBounded by inst cert) reason
-    → KnowsInstance inst (Some (bounds.No reason))
+    → KnowsInstance inst (Some (Err reason))
 reason_by by inst cert TooFewNodes kind first = of_instance by inst cert TooFewNodes kind (omega arith) first
 reason_by by inst cert (NotSymmetric i j) kind first = of_instance by inst cert (NotSymmetric i j) kind (omega arith) first
 reason_by by inst cert NotASolution kind first = absurd (no_solution by inst cert kind first.applies)
@@ -113,13 +111,12 @@ first_of_tours inst reason kind first = record {
 pub knows_instance : (given : Option (CertificateKind × Fields)) (inst : Fields) (found : Option BoundVerdict) → HasTours inst
     → IsFoundWith given inst found → KnowsInstance inst found
 knows_instance None inst None kind b = λ reason applies. b reason (for_tours inst reason kind applies)
-knows_instance None inst (Some (bounds.Bound bound)) kind b = absurd b
-knows_instance None inst (Some bounds.NoSolution) kind b = absurd b
-knows_instance None inst (Some (bounds.No reason)) kind b = reason_alone inst reason (first_of_tours inst reason kind b)
+knows_instance None inst (Some (Ok bound)) kind b = absurd b
+knows_instance None inst (Some (Err reason)) kind b = reason_alone inst reason (first_of_tours inst reason kind b)
 knows_instance (Some given) inst None kind b = absurd b
-knows_instance (Some given) inst (Some (bounds.Bound bound)) kind b = λ reason applies. b.0 reason (inl (for_tours inst reason kind applies))
-knows_instance (Some given) inst (Some bounds.NoSolution) kind b = λ reason applies. b.0 reason (inl (for_tours inst reason kind applies))
-knows_instance (Some given) inst (Some (bounds.No reason)) kind b = reason_by given.0 inst given.1 reason kind b
+knows_instance (Some given) inst (Some (Ok (Some bound))) kind b = λ reason applies. b.0 reason (inl (for_tours inst reason kind applies))
+knows_instance (Some given) inst (Some (Ok None)) kind b = λ reason applies. b.0 reason (inl (for_tours inst reason kind applies))
+knows_instance (Some given) inst (Some (Err reason)) kind b = reason_by given.0 inst given.1 reason kind b
 
 -- if it has none, none applies to the instance
 pub none_known : (inst : Fields) (found : Option BoundVerdict) (reason : Option Reason) → reason ≡ against_instance found → reason ≡ None
@@ -227,7 +224,7 @@ still_refused by inst sol cert (Some claim) reason (inr (inr none)) = absurd non
 
 pub certificate_refused : (by : CertificateKind) (inst sol cert : Fields) (claimed : Option ℤ) (found : ℤ) (reason : Reason)
     → HasTours inst
-    → IsTourVerdict inst sol (verdicts.Tour found None) → IsAsClaimed claimed found → FindsBound by inst cert (bounds.No reason)
+    → IsTourVerdict inst sol (verdicts.Tour found None) → IsAsClaimed claimed found → FindsBound by inst cert (Err reason)
     → IsVerdictWith (Some (by, cert)) claimed inst sol (verdicts.No reason)
 certificate_refused by inst sol cert None found reason kind v claims first = certified_tour by inst sol cert (verdicts.No reason)
     kind (certificate_first (AppliesToTour inst sol) by inst cert reason v.0 first)
@@ -240,7 +237,7 @@ below_tours inst bound (inr atsp) below = subst (λ kind. BoundsSolutionsBy kind
 
 certified : (by : CertificateKind) (inst sol cert : Fields) (found bound : ℤ) → HasTours inst
     → IsTourVerdict inst sol (verdicts.Tour found None)
-    → FindsBound by inst cert (bounds.Bound bound)
+    → FindsBound by inst cert (Ok (Some bound))
     → IsCertifiedVerdict by inst sol cert (verdicts.Tour found (Some bound))
 certified by inst sol cert found bound kind v b = certified_tour by inst sol cert (verdicts.Tour found (Some bound)) kind (
   none_at_all (AppliesToTour inst sol) by inst cert v.0 b.0,
@@ -259,7 +256,7 @@ certified by inst sol cert found bound kind v b = certified_tour by inst sol cer
 
 pub tour_bounded : (by : CertificateKind) (inst sol cert : Fields) (claimed : Option ℤ) (found bound : ℤ) → HasTours inst
     → IsTourVerdict inst sol (verdicts.Tour found None) → IsAsClaimed claimed found
-    → FindsBound by inst cert (bounds.Bound bound)
+    → FindsBound by inst cert (Ok (Some bound))
     → IsVerdictWith (Some (by, cert)) claimed inst sol (verdicts.Tour found (Some bound))
 tour_bounded by inst sol cert None found bound kind v claims b = certified by inst sol cert found bound kind v b
 tour_bounded by inst sol cert (Some claim) found bound kind v claims b = (certified by inst sol cert found bound kind v b, claims)
@@ -271,10 +268,10 @@ without_tour inst (inr atsp) none = subst (λ kind. HasNoSolutionBy kind inst) a
 tour_with : (by : CertificateKind) (inst sol cert : Fields) (claimed : Option ℤ) (length : ℤ) (found : BoundVerdict) → HasTours inst
     → IsTourVerdict inst sol (verdicts.Tour length None) → IsAsClaimed claimed length → FindsBound by inst cert found
     → IsVerdictWith (Some (by, cert)) claimed inst sol (with_found (verdicts.Tour length None) (Some found))
-tour_with by inst sol cert claimed length (bounds.Bound bound) kind v claims b =
+tour_with by inst sol cert claimed length (Ok (Some bound)) kind v claims b =
     tour_bounded by inst sol cert claimed length bound kind v claims b
-tour_with by inst sol cert claimed length bounds.NoSolution kind v claims b = absurd (without_tour inst kind b.2 v.1.0 v.1.2)
-tour_with by inst sol cert claimed length (bounds.No reason) kind v claims b =
+tour_with by inst sol cert claimed length (Ok None) kind v claims b = absurd (without_tour inst kind b.2 v.1.0 v.1.2)
+tour_with by inst sol cert claimed length (Err reason) kind v claims b =
     certificate_refused by inst sol cert claimed length reason kind v claims b
 
 -- ---- routes
@@ -282,7 +279,7 @@ tour_with by inst sol cert claimed length (bounds.No reason) kind v claims b =
 pub routes_uncertified : (by : CertificateKind) (inst sol cert : Fields) (claimed : Option ℤ) (found : ℤ) (count fewest : ℕ)
     (reason : Reason) → inst.kind ≡ Some kinds.Cvrp
     → IsRoutesVerdict inst sol (verdicts.Routes found count fewest None) → IsAsClaimed claimed found
-    → FindsBound by inst cert (bounds.No reason)
+    → FindsBound by inst cert (Err reason)
     → IsVerdictWith (Some (by, cert)) claimed inst sol (verdicts.No reason)
 routes_uncertified by inst sol cert None found count fewest reason cvrp v claims first =
     certified_routes by inst sol cert (verdicts.No reason) cvrp
@@ -294,7 +291,7 @@ routes_uncertified by inst sol cert (Some claim) found count fewest reason cvrp 
 certified_plan : (by : CertificateKind) (inst sol cert : Fields) (found : ℤ) (count fewest : ℕ) (bound : ℤ)
     → inst.kind ≡ Some kinds.Cvrp
     → IsRoutesVerdict inst sol (verdicts.Routes found count fewest None)
-    → FindsBound by inst cert (bounds.Bound bound)
+    → FindsBound by inst cert (Ok (Some bound))
     → IsCertifiedVerdict by inst sol cert (verdicts.Routes found count fewest (Some bound))
 certified_plan by inst sol cert found count fewest bound cvrp v b =
     certified_routes by inst sol cert (verdicts.Routes found count fewest (Some bound)) cvrp (
@@ -312,7 +309,7 @@ certified_plan by inst sol cert found count fewest bound cvrp v b =
 pub routes_bounded : (by : CertificateKind) (inst sol cert : Fields) (claimed : Option ℤ) (found : ℤ) (count fewest : ℕ) (bound : ℤ)
     → inst.kind ≡ Some kinds.Cvrp
     → IsRoutesVerdict inst sol (verdicts.Routes found count fewest None) → IsAsClaimed claimed found
-    → FindsBound by inst cert (bounds.Bound bound)
+    → FindsBound by inst cert (Ok (Some bound))
     → IsVerdictWith (Some (by, cert)) claimed inst sol (verdicts.Routes found count fewest (Some bound))
 routes_bounded by inst sol cert None found count fewest bound cvrp v claims b =
     certified_plan by inst sol cert found count fewest bound cvrp v b
@@ -323,12 +320,12 @@ plan_with : (by : CertificateKind) (inst sol cert : Fields) (claimed : Option �
     → inst.kind ≡ Some kinds.Cvrp → IsRoutesVerdict inst sol (verdicts.Routes length count fewest None) → IsAsClaimed claimed length
     → FindsBound by inst cert found
     → IsVerdictWith (Some (by, cert)) claimed inst sol (with_found (verdicts.Routes length count fewest None) (Some found))
-plan_with by inst sol cert claimed length count fewest (bounds.Bound bound) cvrp v claims b =
+plan_with by inst sol cert claimed length count fewest (Ok (Some bound)) cvrp v claims b =
     routes_bounded by inst sol cert claimed length count fewest bound cvrp v claims b
-plan_with by inst sol cert claimed length count fewest bounds.NoSolution cvrp v claims b =
+plan_with by inst sol cert claimed length count fewest (Ok None) cvrp v claims b =
     let none : HasNoPlan (routing_of inst) = subst (λ kind. HasNoSolutionBy kind inst) cvrp b.2 in
     absurd (none (tours_of sol) (record { plan = v.1.plan_of; each = v.1.filled }))
-plan_with by inst sol cert claimed length count fewest (bounds.No reason) cvrp v claims b =
+plan_with by inst sol cert claimed length count fewest (Err reason) cvrp v claims b =
     routes_uncertified by inst sol cert claimed length count fewest reason cvrp v claims b
 
 -- ---- either
@@ -393,9 +390,8 @@ tour_found : (given : Option (CertificateKind × Fields)) (claimed : Option ℤ)
     → IsVerdictWith given claimed inst sol (with_found (verdicts.Tour length None) found)
 tour_found None claimed inst sol length None own b =
     accepted_alone claimed inst sol (verdicts.Tour length None) length refl own.claims (on_a_tour inst sol (verdicts.Tour length None) own.kind own.own)
-tour_found None claimed inst sol length (Some (bounds.Bound bound)) own b = absurd b
-tour_found None claimed inst sol length (Some bounds.NoSolution) own b = absurd b
-tour_found None claimed inst sol length (Some (bounds.No reason)) own b = absurd (none_of_tour inst sol own.kind own.own.0 reason b.applies)
+tour_found None claimed inst sol length (Some (Ok bound)) own b = absurd b
+tour_found None claimed inst sol length (Some (Err reason)) own b = absurd (none_of_tour inst sol own.kind own.own.0 reason b.applies)
 tour_found (Some given) claimed inst sol length None own b = absurd b
 tour_found (Some given) claimed inst sol length (Some found) own b =
     tour_with given.0 inst sol given.1 claimed length found own.kind own.own own.claims
@@ -407,9 +403,8 @@ plan_found : (given : Option (CertificateKind × Fields)) (claimed : Option ℤ)
 plan_found None claimed inst sol length count fewest None own b =
     accepted_alone claimed inst sol (verdicts.Routes length count fewest None) length refl own.claims
     (on_routes inst sol (verdicts.Routes length count fewest None) own.kind own.own)
-plan_found None claimed inst sol length count fewest (Some (bounds.Bound bound)) own b = absurd b
-plan_found None claimed inst sol length count fewest (Some bounds.NoSolution) own b = absurd b
-plan_found None claimed inst sol length count fewest (Some (bounds.No reason)) own b =
+plan_found None claimed inst sol length count fewest (Some (Ok bound)) own b = absurd b
+plan_found None claimed inst sol length count fewest (Some (Err reason)) own b =
     absurd (none_of_routes inst sol own.kind own.own.0 reason b.applies)
 plan_found (Some given) claimed inst sol length count fewest None own b = absurd b
 plan_found (Some given) claimed inst sol length count fewest (Some found) own b =
@@ -493,27 +488,27 @@ pub as_found : (given : Option (CertificateKind × Fields)) (claimed : Option �
     → IsLeastKnownBy inst.kind inst least → IsFoundWith given inst found → IsAsFound (with_found verdict found) least found
 as_found given claimed inst sol (verdicts.Tour length bound) least None v is b =
     let own = own_tour claimed inst sol length bound v in
-    (least_of_tours inst least own.kind is, sym (ap (option_map bounds.Bound) own.alone))
-as_found given claimed inst sol (verdicts.Tour length bound) least (Some (bounds.Bound found)) v is b =
+    (least_of_tours inst least own.kind is, sym (ap (option_map (λ b. Ok (Some b))) own.alone))
+as_found given claimed inst sol (verdicts.Tour length bound) least (Some (Ok (Some found))) v is b =
     (least_of_tours inst least (own_tour claimed inst sol length bound v).kind is, refl)
-as_found (Some given) claimed inst sol (verdicts.Tour length bound) least (Some bounds.NoSolution) v is b =
+as_found (Some given) claimed inst sol (verdicts.Tour length bound) least (Some (Ok None)) v is b =
     let own = own_tour claimed inst sol length bound v in absurd (without_tour inst own.kind b.2 own.own.1.0 own.own.1.2)
-as_found None claimed inst sol (verdicts.Tour length bound) least (Some bounds.NoSolution) v is b = absurd b
-as_found given claimed inst sol (verdicts.Tour length bound) least (Some (bounds.No reason)) v is b = tt
+as_found None claimed inst sol (verdicts.Tour length bound) least (Some (Ok None)) v is b = absurd b
+as_found given claimed inst sol (verdicts.Tour length bound) least (Some (Err reason)) v is b = tt
 as_found given claimed inst sol (verdicts.Routes length count fewest bound) least None v is b =
     let own = own_routes claimed inst sol length count fewest bound v in (
       least_of_routes inst least fewest own.own.1.least_is (subst (λ kind. IsLeastKnownBy kind inst least) own.kind is),
-      sym (ap (option_map bounds.Bound) own.alone),
+      sym (ap (option_map (λ b. Ok (Some b))) own.alone),
     )
-as_found given claimed inst sol (verdicts.Routes length count fewest bound) least (Some (bounds.Bound found)) v is b =
+as_found given claimed inst sol (verdicts.Routes length count fewest bound) least (Some (Ok (Some found))) v is b =
     let own = own_routes claimed inst sol length count fewest bound v in
     (least_of_routes inst least fewest own.own.1.least_is (subst (λ kind. IsLeastKnownBy kind inst least) own.kind is), refl)
-as_found (Some given) claimed inst sol (verdicts.Routes length count fewest bound) least (Some bounds.NoSolution) v is b =
+as_found (Some given) claimed inst sol (verdicts.Routes length count fewest bound) least (Some (Ok None)) v is b =
     let own = own_routes claimed inst sol length count fewest bound v in
     let none : HasNoPlan (routing_of inst) = subst (λ kind. HasNoSolutionBy kind inst) own.kind b.2 in
     absurd (none (tours_of sol) (record { plan = own.own.1.plan_of; each = own.own.1.filled }))
-as_found None claimed inst sol (verdicts.Routes length count fewest bound) least (Some bounds.NoSolution) v is b = absurd b
-as_found given claimed inst sol (verdicts.Routes length count fewest bound) least (Some (bounds.No reason)) v is b = tt
+as_found None claimed inst sol (verdicts.Routes length count fewest bound) least (Some (Ok None)) v is b = absurd b
+as_found given claimed inst sol (verdicts.Routes length count fewest bound) least (Some (Err reason)) v is b = tt
 as_found given claimed inst sol (verdicts.No reason) least found v is b = tt
 
 -- tours have a bound by each certificate

@@ -1,5 +1,5 @@
 -- For OneVerdict.antt: two reasons of one rank that apply to the same files have the same numbers.
-use Rattle.tsp_verdict.proofs.Prelude.{◌<◌, ◌⊎◌, inl, inr, arith, ◌≡◌, ◌∙◌, ℕ, List, [], length, refl, sym, ap, ap₂, subst, cases_order, false≢true, ints, pos, Option, None, Some, Bool, true, false, slice_index_or, ℤ, IsFirstAsymmetric, cost, scale_in, families_listed, Fields, nodes_of, IsFirstBroken, is_directed, IsFamily, NumbersAreUnique, IsFirstBadLeaf, IsFirstTwice, Crossings, IsFirstBadPlanBranch, RoutingProblem, routing_of, families_with, recursion_from_All, memories_listed, rows_listed, rank_of, CertificateKind, Potentials, Branches, Reason, TooFewNodes, NotSymmetric, DepotCount, DepotDemand, FixedEdgesInRoutes, LengthClaimed, NotASolution, Dimension, TourCount, TourLength, DepotInRoute, NodeOutOfRange, RepeatedNode, FixedEdgeUnused, Unserved, Overload, NotPotentials, PotentialsDimension, PotentialsKind, MultiplierNotFixed, MultiplierRepeated, DualInfeasible, NotBranches, BranchesDimension, BadFamily, BadMemory, BadRow, BadBranch, BranchTwice, BadLeaf, TooManyLoads, TooManyStates}
+use Rattle.tsp_verdict.proofs.Prelude.{◌<◌, ◌⊎◌, inl, inr, arith, ◌≡◌, ◌∙◌, ℕ, List, [], length, refl, sym, ap, ap₂, subst, cases_order, false≢true, ints, pos, Option, None, Some, Bool, true, false, slice_index_or, ℤ, IsFirstAsymmetric, cost, scale_in, families_listed, Fields, nodes_of, IsFirstBroken, is_directed, IsFamily, NumbersAreUnique, IsFirstBadLeaf, IsFirstTwice, Crossings, IsFirstBadPlanBranch, RoutingProblem, routing_of, families_with, recursion_from_All, memories_listed, rows_listed, rank_of, CertificateKind, Potentials, Branches, Reason, TooFewNodes, NotSymmetric, DepotCount, DepotDemand, FixedEdgesInRoutes, LengthClaimed, NotASolution, Dimension, TourCount, TourLength, DepotInRoute, NodeOutOfRange, RepeatedNode, FixedEdgeUnused, Unserved, Overload, NotPotentials, PotentialsDimension, PotentialsKind, MultiplierNotFixed, MultiplierRepeated, DualInfeasible, NotBranches, BranchesDimension, BadFamily, BadMemory, BadRow, BadBranch, BranchTwice, BadLeaf, TooManyLoads, TooManyStates, Ok, Err, BoundVerdict}
 use Rattle.tsp_format.specs.Steps as listed
 use Rattle.tsp_format.specs.Steps.{SubsetRow}
 use Rattle.tsp_theory.proofs.First.{one_rank}
@@ -9,8 +9,6 @@ use Rattle.tsp_routing.specs.RunTrees.{owner_of, IsFirstBadList, IsFirstFull, Is
 use Rattle.tsp_routing.specs.RunVerdicts.{IsFirstBadLeafOf, tree_with, IsFirstFullLeaf, HasFullLeaf}
 use Rattle.tsp_routing.proofs.PlanBounds.{all_crossed, one_light}
 use Rattle.tsp_cases.specs.ListedCases as pairs
-use Rattle.tsp_report.specs.declared.verdict.BoundVerdict.{BoundVerdict}
-use Rattle.tsp_report.specs.declared.verdict.BoundVerdict.TheVariants as bounds
 use Rattle.tsp_verdict.proofs.FirstReasons.{certificate_rank, HasTours, instance_either, first_for_tours, tour_rank, routes_rank, AreOwn, Both, Carried, reason_of, IsOneByRank, one_pair, tree_either}
 use Rattle.tsp_verdict.proofs.TreeReasons.{one_numbers}
 use Rattle.tsp_verdict.specs.Certificates.{given_in, AreNumbersOf, AppliesToBranches, families_with_numbers, BreaksDuals, AppliesToPotentials, AppliesToQRoutes, unit_in, by_runs_in}
@@ -39,7 +37,7 @@ instance_rank inst reason applies =
 
 -- the first reason against the instance is the first of all
 pub instance_refused : (by : CertificateKind) (inst cert : Fields) (reason : Reason)
-    → IsFirstReason (AppliesToInstance inst) reason → IsBoundVerdict by inst cert (bounds.No reason)
+    → IsFirstReason (AppliesToInstance inst) reason → IsBoundVerdict by inst cert (Err reason)
 instance_refused by inst cert reason first = record {
   applies = inl first.applies;
   none_before = λ other low applies. by_side other low applies;
@@ -61,9 +59,9 @@ none_of_both by inst cert none certificate reason (inr applies) = certificate re
 pub certificate_decides : (by : CertificateKind) (inst cert : Fields) (found : BoundVerdict) → NoneAgainstInstance inst
     → FindsBound by inst cert found
     → IsBoundVerdict by inst cert found
-certificate_decides by inst cert (bounds.Bound bound) none b = (none_of_both by inst cert none b.0, b.1)
-certificate_decides by inst cert bounds.NoSolution none b = (none_of_both by inst cert none b.0, b.1, b.2)
-certificate_decides by inst cert (bounds.No reason) none first = record {
+certificate_decides by inst cert (Ok (Some bound)) none b = (none_of_both by inst cert none b.0, b.1)
+certificate_decides by inst cert (Ok None) none b = (none_of_both by inst cert none b.0, b.1, b.2)
+certificate_decides by inst cert (Err reason) none first = record {
   applies = inr first.applies;
   none_before = λ other low applies. by_side other low applies;
 }
@@ -75,7 +73,7 @@ certificate_decides by inst cert (bounds.No reason) none first = record {
 
 -- the same of an instance of tours, by the reasons against its tours
 pub tours_refused : (by : CertificateKind) (inst cert : Fields) (reason : Reason) → HasTours inst
-    → IsFirstReason (AppliesToTouring inst) reason → IsBoundVerdict by inst cert (bounds.No reason)
+    → IsFirstReason (AppliesToTouring inst) reason → IsBoundVerdict by inst cert (Err reason)
 tours_refused by inst cert reason kind first = instance_refused by inst cert reason (first_for_tours inst reason kind first)
 
 -- ---- two reasons of one rank that apply to a solution, to an instance or to a certificate

@@ -1,13 +1,11 @@
 -- For the law in src/one_verdict.rt: files have one verdict. Its reason has one rank and numbers, its length is that of
 -- the tour or plan, its bound one number.
-use Rattle.tsp_verdict.proofs.Prelude.{◌≡◌, ◌∙◌, ℕ, false, List, [], ◌∷◌, get_or, inl, inr, refl, sym, ap, ap₂, subst, arith, Option, None, Some, ℤ, false≢true, ints, Kind, Fields, nodes_of, cost, scale_in, multipliers_in, families_listed, length_of, IsAdjustedBound, IsDualBound, is_directed, routing_of, capacity_of, Crossings, NumbersAreUnique, decided_number, CertificateKind, Potentials, Branches, Reason, LengthClaimed, Verdict, IsPlanBoundFound, PlanBoundsFoundAreUnique, memories_listed, rows_listed}
+use Rattle.tsp_verdict.proofs.Prelude.{◌≡◌, ◌∙◌, ℕ, false, List, [], ◌∷◌, get_or, inl, inr, refl, sym, ap, ap₂, subst, arith, Option, None, Some, ℤ, false≢true, ints, Kind, Fields, nodes_of, cost, scale_in, multipliers_in, families_listed, length_of, IsAdjustedBound, IsDualBound, is_directed, routing_of, capacity_of, Crossings, NumbersAreUnique, decided_number, CertificateKind, Potentials, Branches, Reason, LengthClaimed, Verdict, IsPlanBoundFound, PlanBoundsFoundAreUnique, memories_listed, rows_listed, Ok, Err, BoundVerdict}
 use Rattle.tsp_format.specs.declared.kinds.Kind.TheVariants as kinds
 use Rattle.tsp_format.specs.Steps as listed
 use Rattle.tsp_theory.proofs.Cycles.{one_bound as one_sum_bound}
 use Rattle.tsp_cases.specs.CaseTrees.{IsCaseTreeBound, CaseTreeBoundsAreUnique}
 use Rattle.tsp_report.specs.declared.verdict.KnownBound.{KnownBound}
-use Rattle.tsp_report.specs.declared.verdict.BoundVerdict.{BoundVerdict}
-use Rattle.tsp_report.specs.declared.verdict.BoundVerdict.TheVariants as bounds
 use Rattle.tsp_report.specs.declared.verdict.Verdict.TheVariants.{Tour, Routes, No}
 use Rattle.tsp_verdict.proofs.KnownBounds.{same_least, least_of_routes}
 use Rattle.tsp_verdict.specs.SolutionVerdict.{IsFoundWith, IsLeastKnownBy, IsKnownBoundWith, IsVerdictBy, IsVerdictOn, IsUnclaimedVerdict, IsFirstAgainstGiven, HasLength, IsOfLength, IsClaimedVerdict, FilesHaveOneVerdict, FilesHaveOneBound, FilesHaveOneKnownBound, SolutionsHaveOneVerdict}
@@ -175,25 +173,25 @@ bound_or_none laws Potentials (Some kinds.Potentials) inst cert a one none = non
 bound_or_none laws Potentials (Some kinds.Branches) inst cert a one none = none
 bound_or_none laws Potentials None inst cert a one none = none
 
-never_none : Laws → (by : CertificateKind) (inst cert : Fields) (a : ℤ) → IsBoundVerdict by inst cert (bounds.Bound a)
-    → IsBoundVerdict by inst cert bounds.NoSolution → ⊥
+never_none : Laws → (by : CertificateKind) (inst cert : Fields) (a : ℤ) → IsBoundVerdict by inst cert (Ok (Some a))
+    → IsBoundVerdict by inst cert (Ok None) → ⊥
 never_none laws by inst cert a one other =
     let certified : IsCertified by inst cert a = one.1 in bound_or_none laws by inst.kind inst cert a certified.0 other.1
 
 pub one_bound : Laws → FilesHaveOneBound
-one_bound laws by inst cert (bounds.Bound a) (bounds.Bound b) one other =
+one_bound laws by inst cert (Ok (Some a)) (Ok (Some b)) one other =
     let first : IsCertified by inst cert a = one.1 in
     let second : IsCertified by inst cert b = other.1 in
-    ap bounds.Bound (one_bound_by laws by inst.kind inst cert a b first.0 second.0)
-one_bound laws by inst cert (bounds.Bound a) bounds.NoSolution one other = absurd (never_none laws by inst cert a one other)
-one_bound laws by inst cert (bounds.Bound a) (bounds.No reason) one other = absurd (one.0 reason other.applies)
-one_bound laws by inst cert bounds.NoSolution (bounds.Bound b) one other = absurd (never_none laws by inst cert b other one)
-one_bound laws by inst cert bounds.NoSolution bounds.NoSolution one other = refl
-one_bound laws by inst cert bounds.NoSolution (bounds.No reason) one other = absurd (one.0 reason other.applies)
-one_bound laws by inst cert (bounds.No reason) (bounds.Bound b) one other = absurd (other.0 reason one.applies)
-one_bound laws by inst cert (bounds.No reason) bounds.NoSolution one other = absurd (other.0 reason one.applies)
-one_bound laws by inst cert (bounds.No a) (bounds.No b) one other =
-    ap bounds.No (one_first (AppliesToBounded by inst cert) (bounded_by_rank laws.numbers by inst cert) a b one other)
+    ap (λ b. Ok (Some b)) (one_bound_by laws by inst.kind inst cert a b first.0 second.0)
+one_bound laws by inst cert (Ok (Some a)) (Ok None) one other = absurd (never_none laws by inst cert a one other)
+one_bound laws by inst cert (Ok (Some a)) (Err reason) one other = absurd (one.0 reason other.applies)
+one_bound laws by inst cert (Ok None) (Ok (Some b)) one other = absurd (never_none laws by inst cert b other one)
+one_bound laws by inst cert (Ok None) (Ok None) one other = refl
+one_bound laws by inst cert (Ok None) (Err reason) one other = absurd (one.0 reason other.applies)
+one_bound laws by inst cert (Err reason) (Ok (Some b)) one other = absurd (other.0 reason one.applies)
+one_bound laws by inst cert (Err reason) (Ok None) one other = absurd (other.0 reason one.applies)
+one_bound laws by inst cert (Err a) (Err b) one other =
+    ap Err (one_first (AppliesToBounded by inst cert) (bounded_by_rank laws.numbers by inst cert) a b one other)
 
 -- ---- with a certificate
 
@@ -469,16 +467,13 @@ one_verdict laws given (Some claim) inst sol one other first second = one_claime
 one_found : Laws → (given : Option (CertificateKind × Fields)) (inst : Fields) (one other : Option BoundVerdict)
     → IsFoundWith given inst one → IsFoundWith given inst other → one ≡ other
 one_found laws None inst None None one other = refl
-one_found laws None inst None (Some (bounds.Bound bound)) one other = absurd other
-one_found laws None inst None (Some bounds.NoSolution) one other = absurd other
-one_found laws None inst None (Some (bounds.No reason)) one other = absurd (one reason other.applies)
-one_found laws None inst (Some (bounds.Bound bound)) other one second = absurd one
-one_found laws None inst (Some bounds.NoSolution) other one second = absurd one
-one_found laws None inst (Some (bounds.No reason)) None one other = absurd (other reason one.applies)
-one_found laws None inst (Some (bounds.No reason)) (Some (bounds.Bound bound)) one other = absurd other
-one_found laws None inst (Some (bounds.No reason)) (Some bounds.NoSolution) one other = absurd other
-one_found laws None inst (Some (bounds.No a)) (Some (bounds.No b)) one other =
-    ap (λ reason. Some (bounds.No reason)) (one_first (AppliesToInstance inst) (instance_by_rank inst) a b one other)
+one_found laws None inst None (Some (Ok bound)) one other = absurd other
+one_found laws None inst None (Some (Err reason)) one other = absurd (one reason other.applies)
+one_found laws None inst (Some (Ok bound)) other one second = absurd one
+one_found laws None inst (Some (Err reason)) None one other = absurd (other reason one.applies)
+one_found laws None inst (Some (Err reason)) (Some (Ok bound)) one other = absurd other
+one_found laws None inst (Some (Err a)) (Some (Err b)) one other =
+    ap (λ reason. Some (Err reason)) (one_first (AppliesToInstance inst) (instance_by_rank inst) a b one other)
 one_found laws (Some given) inst None other one second = absurd one
 one_found laws (Some given) inst (Some found) None one other = absurd other
 one_found laws (Some given) inst (Some a) (Some b) one other = ap Some (one_bound laws given.0 inst given.1 a b one other)

@@ -9,7 +9,7 @@ pub use Rattle.std.specs.BTreeSet.{BTreeSet, Updates, contains}
 pub use Rattle.std.specs.Global.{Vec}
 pub use Rattle.std.specs.Int.{w128, w64}
 pub use Rattle.std.specs.List.{All, AllByRecursion, AllPairs, Contains, concat, list_any, range_with_len, remove, sum_by}
-pub use Rattle.std.specs.Prelude.{FitsSigned, IsTrue, MatchBool, MatchOption, Some, filter, if◌then◌else◌, int_lt, nat_abs, neg_ℤ, option_map, pos, slice_index_or, unwrap_or, vec_len, ℤ, ◌*ℤ◌, ◌+ℤ◌, ◌-ℤ◌, ◌<ℤ◌, ◌^◌, ◌≤ℤ◌, ◌⊎◌}
+pub use Rattle.std.specs.Prelude.{Err, FitsSigned, IsTrue, MatchBool, MatchOption, Ok, Some, filter, if◌then◌else◌, int_lt, is_ok, nat_abs, neg_ℤ, option_map, pos, slice_index_or, unwrap_or, vec_len, ℤ, ◌*ℤ◌, ◌+ℤ◌, ◌-ℤ◌, ◌<ℤ◌, ◌^◌, ◌≤ℤ◌, ◌⊎◌}
 pub use Rattle.tsp_cases.specs.Cases.{DecideOnce, KeepsAll, KeepsDecision, decide, decided_number, is_same, take_pairs}
 pub use Rattle.tsp_cases.specs.Families.{AreFamilies, Family, IsFamily, IsFirstBadFamily, IsGoodFamily, NumbersAreUnique, families_with, family_with}
 pub use Rattle.tsp_cases.specs.ListedCases.{AreGoodLeaves, IsFirstBadBranch, IsFirstBadLeaf, IsFirstTwice, IsListedStep, branch_pairs, branches_of_cases, leaf_changes, listed_steps}
@@ -26,7 +26,7 @@ pub use Rattle.tsp_format.specs.Nodes.{IsNode}
 unfoldable pub use Rattle.tsp_format.specs.Nodes.{nodes_to}
 pub use Rattle.tsp_format.specs.Words.{IsBefore, IsFirstAsymmetric, IsSymmetric}
 pub use Rattle.tsp_format.specs.declared.kinds.Kind.{Kind}
-pub use Rattle.tsp_report.specs.Verdicts.{rank_of}
+pub use Rattle.tsp_report.specs.Verdicts.{BoundVerdict, rank_of}
 pub use Rattle.tsp_report.specs.declared.task.CertificateKind.{CertificateKind}
 pub use Rattle.tsp_report.specs.declared.task.CertificateKind.TheVariants.{Branches, Potentials}
 pub use Rattle.tsp_report.specs.declared.verdict.Reason.{Reason}

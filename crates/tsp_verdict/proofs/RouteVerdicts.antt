@@ -1,5 +1,5 @@
 -- For src/routes.rt: reasons against routes and their certificate, ruled out one by one, and the verdict.
-use Rattle.tsp_verdict.proofs.Prelude.{ℕ, ◌≤◌, arith, ◌≡◌, ◌≢◌, ◌+◌, ◌-◌, ◌<◌, Bool, true, false, List, [], length, None, refl, sym, ap, subst, ◌∙◌, ◌*◌, ◌∷◌, to_z, of_z, false≢true, ints, to_z-of_z, length-map, All-from_recursion, recursion_from_All, Vec, w64, All, Contains, AllByRecursion, slice_index_or, ℤ, pos, ◌≤ℤ◌, FitsSigned, ◌^◌, unwrap_or, nat_abs, Option, Some, most_changes, IsNode, nodes_to, cost, HoldsCases, scale_in, families_listed, Fields, nodes_of, is_branches_file, IsDemand, IsStep, AreTreeSteps, families_of, IsBoundSized, demand_of, load_of, IsCustomer, plan_length, IsLeastRoutes, RoutingProblem, depot_of, demands_of, capacity_of, routing_of, memories_listed, rows_listed, HoldsMemory, sum_by, map, inl, inr, families_with, leaf_changes, Crossings, of_customers, AreCapacityCuts, AreGoodBranches, IsFirstBadPlanBranch, routing_with, most_entries, HasTooManyLoads, IsPlanBoundFound, IsPlanVerdict, VerdictBoundsPlans, rank_of, Branches, Reason, DepotCount, DepotDemand, FixedEdgesInRoutes, NodeOutOfRange, RepeatedNode, FixedEdgeUnused, DepotInRoute, Unserved, Overload, NotBranches, BranchesDimension, BadFamily, BadMemory, BadRow, BadBranch, BadLeaf, TooManyLoads, TooManyStates}
+use Rattle.tsp_verdict.proofs.Prelude.{ℕ, ◌≤◌, arith, ◌≡◌, ◌≢◌, ◌+◌, ◌-◌, ◌<◌, Bool, true, false, List, [], length, None, refl, sym, ap, subst, ◌∙◌, ◌*◌, ◌∷◌, to_z, of_z, false≢true, ints, to_z-of_z, length-map, All-from_recursion, recursion_from_All, Vec, w64, All, Contains, AllByRecursion, slice_index_or, ℤ, pos, ◌≤ℤ◌, FitsSigned, ◌^◌, unwrap_or, nat_abs, Option, Some, most_changes, IsNode, nodes_to, cost, HoldsCases, scale_in, families_listed, Fields, nodes_of, is_branches_file, IsDemand, IsStep, AreTreeSteps, families_of, IsBoundSized, demand_of, load_of, IsCustomer, plan_length, IsLeastRoutes, RoutingProblem, depot_of, demands_of, capacity_of, routing_of, memories_listed, rows_listed, HoldsMemory, sum_by, map, inl, inr, families_with, leaf_changes, Crossings, of_customers, AreCapacityCuts, AreGoodBranches, IsFirstBadPlanBranch, routing_with, most_entries, HasTooManyLoads, IsPlanBoundFound, IsPlanVerdict, VerdictBoundsPlans, rank_of, Branches, Reason, DepotCount, DepotDemand, FixedEdgesInRoutes, NodeOutOfRange, RepeatedNode, FixedEdgeUnused, DepotInRoute, Unserved, Overload, NotBranches, BranchesDimension, BadFamily, BadMemory, BadRow, BadBranch, BadLeaf, TooManyLoads, TooManyStates, Ok, Err}
 use Rattle.std.proofs.lemmas.List.Sums.{sum_by-cons}
 use Rattle.tsp_file.specs.Cost.{AreSomeLists, AreSomeRows}
 use Rattle.tsp_file.specs.Valid.{IsSetOf, IsRowOf}
@@ -17,7 +17,6 @@ use Rattle.tsp_cases.specs.JudgedLeaves.{IsSizedVerdict}
 use Rattle.tsp_cases.specs.declared.judged.TreeVerdict.{TreeVerdict}
 use Rattle.tsp_cases.specs.declared.judged.TreeVerdict.TheVariants as found
 use Rattle.tsp_routing.specs.states.LeafWeights.{IsPlanStep}
-use Rattle.tsp_report.specs.declared.verdict.BoundVerdict.TheVariants as bounds
 use Rattle.tsp_report.specs.declared.verdict.Verdict.TheVariants.{Routes}
 use Rattle.tsp_verdict.proofs.CarriedBounds.{fitting}
 use Rattle.tsp_verdict.proofs.FirstReasons.{routes_rank}
@@ -458,7 +457,7 @@ run_leaves inst tree steps index full =
 
 pub set_first : (inst tree : Fields) (index : ℕ) → inst.kind ≡ Some kinds.Cvrp → is_branches_file tree.kind ≡ true
     → nodes_of tree ≡ nodes_of inst → IsReportedOfRoutes inst tree (found.BadFamily index)
-    → FindsBound Branches inst tree (bounds.No (BadFamily index))
+    → FindsBound Branches inst tree (Err (BadFamily index))
 set_first inst tree index cvrp sort size is = for_q_routes (λ Applies. IsFirstReason Applies (BadFamily index)) inst tree cvrp (record {
   applies = is.by_steps;
   none_before = none_before inst tree (rank_of (BadFamily 1)) sort size (omega arith)
@@ -469,7 +468,7 @@ set_first inst tree index cvrp sort size is = for_q_routes (λ Applies. IsFirstR
 
 pub memory_first : (inst tree : Fields) (node : ℕ) → inst.kind ≡ Some kinds.Cvrp → is_branches_file tree.kind ≡ true
     → nodes_of tree ≡ nodes_of inst → IsReportedOfRoutes inst tree (found.BadMemory node)
-    → FindsBound Branches inst tree (bounds.No (BadMemory node))
+    → FindsBound Branches inst tree (Err (BadMemory node))
 memory_first inst tree node cvrp sort size is = for_q_routes (λ Applies. IsFirstReason Applies (BadMemory node)) inst tree cvrp (record {
   applies = is.by_steps.1;
   none_before = none_before inst tree (rank_of (BadMemory 1)) sort size (omega arith)
@@ -481,7 +480,7 @@ memory_first inst tree node cvrp sort size is = for_q_routes (λ Applies. IsFirs
 
 pub row_first : (inst tree : Fields) (index : ℕ) → inst.kind ≡ Some kinds.Cvrp → is_branches_file tree.kind ≡ true
     → nodes_of tree ≡ nodes_of inst → IsReportedOfRoutes inst tree (found.BadRow index)
-    → FindsBound Branches inst tree (bounds.No (BadRow index))
+    → FindsBound Branches inst tree (Err (BadRow index))
 row_first inst tree index cvrp sort size is = for_q_routes (λ Applies. IsFirstReason Applies (BadRow index)) inst tree cvrp (record {
   applies = is.by_steps.2;
   none_before = none_before inst tree (rank_of (BadRow 1)) sort size (omega arith)
@@ -493,7 +492,7 @@ row_first inst tree index cvrp sort size is = for_q_routes (λ Applies. IsFirstR
 
 pub branch_first : (inst tree : Fields) (index : ℕ) → inst.kind ≡ Some kinds.Cvrp → is_branches_file tree.kind ≡ true
     → nodes_of tree ≡ nodes_of inst → IsReportedOfRoutes inst tree (found.BadBranch index)
-    → FindsBound Branches inst tree (bounds.No (BadBranch index))
+    → FindsBound Branches inst tree (Err (BadBranch index))
 branch_first inst tree index cvrp sort size is = for_q_routes (λ Applies. IsFirstReason Applies (BadBranch index)) inst tree cvrp (record {
   applies = (is.steps, is.steps_are, is.by_steps.2);
   none_before = none_before inst tree (rank_of (BadBranch 1)) sort size (omega arith)
@@ -506,7 +505,7 @@ branch_first inst tree index cvrp sort size is = for_q_routes (λ Applies. IsFir
 
 pub plan_leaf_first : (inst tree : Fields) (index : ℕ) → inst.kind ≡ Some kinds.Cvrp → is_branches_file tree.kind ≡ true
     → nodes_of tree ≡ nodes_of inst → IsReportedOfRoutes inst tree (found.BadLeaf index)
-    → FindsBound Branches inst tree (bounds.No (BadLeaf index))
+    → FindsBound Branches inst tree (Err (BadLeaf index))
 plan_leaf_first inst tree index cvrp sort size is = for_q_routes (λ Applies. IsFirstReason Applies (BadLeaf index)) inst tree cvrp (record {
   applies = (is.steps, is.steps_are, is.by_steps.2);
   none_before = none_before inst tree (rank_of (BadLeaf 1)) sort size (omega arith)
@@ -519,7 +518,7 @@ plan_leaf_first inst tree index cvrp sort size is = for_q_routes (λ Applies. Is
 
 pub loads_first : (inst tree : Fields) → inst.kind ≡ Some kinds.Cvrp → is_branches_file tree.kind ≡ true
     → nodes_of tree ≡ nodes_of inst → IsReportedOfRoutes inst tree (found.TooManyLoads)
-    → FindsBound Branches inst tree (bounds.No (TooManyLoads))
+    → FindsBound Branches inst tree (Err (TooManyLoads))
 loads_first inst tree cvrp sort size is = for_q_routes (λ Applies. IsFirstReason Applies (TooManyLoads)) inst tree cvrp (record {
   applies = is.by_steps.3;
   none_before = none_before inst tree (rank_of (TooManyLoads)) sort size (omega arith)
@@ -532,7 +531,7 @@ loads_first inst tree cvrp sort size is = for_q_routes (λ Applies. IsFirstReaso
 
 pub states_first : (inst tree : Fields) (index : ℕ) → inst.kind ≡ Some kinds.Cvrp → is_branches_file tree.kind ≡ true
     → nodes_of tree ≡ nodes_of inst → IsReportedOfRoutes inst tree (found.TooManyStates index)
-    → FindsBound Branches inst tree (bounds.No (TooManyStates index))
+    → FindsBound Branches inst tree (Err (TooManyStates index))
 states_first inst tree index cvrp sort size is = for_q_routes (λ Applies. IsFirstReason Applies (TooManyStates index)) inst tree cvrp (record {
   applies = (is.steps, is.steps_are, is.by_steps.3);
   none_before = none_before inst tree (rank_of (TooManyStates 1)) sort size (omega arith)
@@ -610,7 +609,7 @@ has_bound inst tree bound is = record { steps = is.steps; steps_are = is.steps_a
 pub plans_bounded : (inst tree : Fields) (bound : ℤ) → inst.kind ≡ Some kinds.Cvrp → is_branches_file tree.kind ≡ true
     → nodes_of tree ≡ nodes_of inst → IsReportedOfRoutes inst tree (found.Bound (Some bound))
     → VerdictBoundsPlans (routing_of inst) (found.Bound (Some bound)) → IsBoundSized bound
-    → FindsBound Branches inst tree (bounds.Bound bound)
+    → FindsBound Branches inst tree (Ok (Some bound))
 plans_bounded inst tree bound cvrp sort size is below sized = (
   for_q_routes (λ Applies. (reason : Reason) → Applies reason → ⊥) inst tree cvrp (none_of_q_routes inst tree (Some bound) sort size is),
   (
@@ -622,7 +621,7 @@ plans_bounded inst tree bound cvrp sort size is below sized = (
 
 pub plans_missing : (inst tree : Fields) → inst.kind ≡ Some kinds.Cvrp → is_branches_file tree.kind ≡ true
     → nodes_of tree ≡ nodes_of inst → IsReportedOfRoutes inst tree (found.Bound None)
-    → VerdictBoundsPlans (routing_of inst) (found.Bound None) → FindsBound Branches inst tree bounds.NoSolution
+    → VerdictBoundsPlans (routing_of inst) (found.Bound None) → FindsBound Branches inst tree (Ok None)
 plans_missing inst tree cvrp sort size is none = (
   for_q_routes (λ Applies. (reason : Reason) → Applies reason → ⊥) inst tree cvrp (none_of_q_routes inst tree None sort size is),
   subst (λ k. HasNoBoundBy Branches k inst tree) (sym cvrp) (has_bound inst tree None is),

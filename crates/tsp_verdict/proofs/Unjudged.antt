@@ -1,6 +1,6 @@
 -- For src/strict.rt: what is accepted with `strict` was accepted without, and every line of the instance is judged.
 -- Proofs in tsp_judge and tsp_c use it, too.
-use Rattle.tsp_verdict.proofs.Prelude.{Bool, true, false, List, [], ◌∷◌, Option, None, Some, ap, ◌≡◌, ◌&&◌, refl, sym, subst, cond, ℕ, IsTrue, false≢true, Fields, Reason, Verdict}
+use Rattle.tsp_verdict.proofs.Prelude.{Bool, true, false, List, [], ◌∷◌, Option, None, Some, ap, ◌≡◌, ◌&&◌, refl, sym, subst, cond, ℕ, IsTrue, false≢true, Fields, Reason, Verdict, Ok, Err, is_ok, BoundVerdict}
 use Rattle.std.proofs.lemmas.Option.{none-some, same_Some}
 use Rattle.std.specs.List.{find}
 use Rattle.std.specs.Option.{option_map_or}
@@ -8,9 +8,7 @@ use Rattle.std.specs.Str.{bytes_eq}
 use Rattle.tsp_format.specs.Words.{field_found, field_word, fields_in_order}
 use Rattle.tsp_format.specs.declared.keyword.Field.{Field}
 use Rattle.tsp_file.specs.Fields.{stands_in}
-use Rattle.tsp_report.specs.Verdicts.{is_bound_yes, is_clear, is_yes}
-use Rattle.tsp_report.specs.declared.verdict.BoundVerdict.{BoundVerdict}
-use Rattle.tsp_report.specs.declared.verdict.BoundVerdict.TheVariants as bounds
+use Rattle.tsp_report.specs.Verdicts.{is_clear, is_yes}
 use Rattle.tsp_report.specs.declared.verdict.KnownBound.{KnownBound}
 use Rattle.tsp_report.specs.declared.verdict.Verdict.TheVariants as verdicts
 use Rattle.tsp_verdict.specs.Strict.{IsJudgedWhole, UsesItsFields, first_unused, leaves_unused, reason_by, stands_unused, strict_bound, strict_found, strict_known_bound, strict_reason, strict_verdict}
@@ -65,20 +63,18 @@ accepted_before (Some reason) (verdicts.Tour length bound) is = absurd (false≢
 accepted_before (Some reason) (verdicts.Routes length routes least bound) is = absurd (false≢true is)
 accepted_before (Some reason) (verdicts.No other) is = absurd (false≢true is)
 
-pub bounded_before : (strict : Option Reason) (plain : BoundVerdict) → is_bound_yes (strict_bound strict plain) ≡ true
+pub bounded_before : (strict : Option Reason) (plain : BoundVerdict) → is_ok (strict_bound strict plain) ≡ true
     → (strict_bound strict plain ≡ plain) × (strict ≡ None)
 bounded_before None plain is = (refl, refl)
-bounded_before (Some reason) (bounds.Bound bound) is = absurd (false≢true is)
-bounded_before (Some reason) bounds.NoSolution is = absurd (false≢true is)
-bounded_before (Some reason) (bounds.No other) is = absurd (false≢true is)
+bounded_before (Some reason) (Ok bound) is = absurd (false≢true is)
+bounded_before (Some reason) (Err other) is = absurd (false≢true is)
 
-clear_found : (strict : Option Reason) (found : Option BoundVerdict) → option_map_or is_bound_yes (strict_found strict found) true ≡ true
+clear_found : (strict : Option Reason) (found : Option BoundVerdict) → option_map_or is_ok (strict_found strict found) true ≡ true
     → (strict_found strict found ≡ found) × (strict ≡ None)
 clear_found None found is = (refl, refl)
 clear_found (Some reason) None is = absurd (false≢true is)
-clear_found (Some reason) (Some (bounds.Bound bound)) is = absurd (false≢true is)
-clear_found (Some reason) (Some bounds.NoSolution) is = absurd (false≢true is)
-clear_found (Some reason) (Some (bounds.No other)) is = absurd (false≢true is)
+clear_found (Some reason) (Some (Ok bound)) is = absurd (false≢true is)
+clear_found (Some reason) (Some (Err other)) is = absurd (false≢true is)
 
 pub clear_before : (strict : Option Reason) (plain : KnownBound) → is_clear (strict_known_bound strict plain) ≡ true
     → (strict_known_bound strict plain ≡ plain) × (strict ≡ None)

@@ -2,13 +2,11 @@
 -- What a certificate does to a verdict, by TYPE: its bound, the reasons against it, and the verdicts on a tour, on
 -- routes, and on an instance alone. Accepted.antt in tsp_judge uses `kind_of` and `IsBoundOf`; src/certificate.rt,
 -- src/known_bound.rt and src/solution_verdict.rt promise the rest. tsp_c imports it, too.
-use Rattle.tsp_verdict.specs.Prelude.{ℕ, Bool, true, false, List, [], Option, None, Some, ℤ, pos, neg_ℤ, length, IsFromTo, IsFirstAsymmetric, Kind, cost, fixed_of, Fields, nodes_of, length_of, BoundsTours, HasNoTour, demand_of, problem_of, routing_of, IsTourOf, depots_of, demands_of, depot_of, rank_of, CertificateKind, Reason, MultiplierNotFixed, BadFamily, TooFewNodes, NotSymmetric, DepotCount, DepotDemand, FixedEdgesInRoutes, Verdict}
+use Rattle.tsp_verdict.specs.Prelude.{ℕ, Bool, true, false, List, [], Option, None, Some, ℤ, pos, neg_ℤ, length, IsFromTo, IsFirstAsymmetric, Kind, cost, fixed_of, Fields, nodes_of, length_of, BoundsTours, HasNoTour, demand_of, problem_of, routing_of, IsTourOf, depots_of, demands_of, depot_of, rank_of, CertificateKind, Reason, MultiplierNotFixed, BadFamily, TooFewNodes, NotSymmetric, DepotCount, DepotDemand, FixedEdgesInRoutes, Verdict, Ok, Err, BoundVerdict}
 use Rattle.std.specs.Prelude.{◌≡◌, ◌⊎◌, ◌∷◌, ◌^◌, ◌≢◌, ◌<◌, ◌≤◌}
 use Rattle.tsp_format.specs.declared.kinds.Kind.TheVariants as kinds
 use Rattle.tsp_routing.specs.PlanLinks.{BoundsPlans, HasNoPlan}
 use Rattle.tsp_report.specs.declared.task.CertificateKind.TheVariants.{Potentials, Branches}
-use Rattle.tsp_report.specs.declared.verdict.BoundVerdict.{BoundVerdict}
-use Rattle.tsp_report.specs.declared.verdict.BoundVerdict.TheVariants as bounds
 use Rattle.tsp_report.specs.declared.verdict.Verdict.TheVariants as verdicts
 use Rattle.tsp_verdict.specs.Certificates.{AppliesToPotentials, IsBoundByNodes, IsBoundByDuals, AppliesToQRoutes, HasBoundByQRoutes, AppliesToBranches, IsBoundByBranches, HasNoBoundByBranches}
 use Rattle.tsp_verdict.specs.Solutions.{NoneBefore, IsFirstReason, tours_of, AppliesToTour, AppliesToRoutes, IsPlanned}
@@ -105,12 +103,12 @@ IsCertified by instance certificate bound = IsBoundOf by instance certificate bo
 -- What a certificate gives for an instance to which no reason applies: a bound, or that there is no solution, or the
 -- first reason against the certificate.
 abbrev pub FindsBound : CertificateKind → Fields → Fields → BoundVerdict → Type 0
-FindsBound by instance certificate (bounds.Bound bound) =
+FindsBound by instance certificate (Ok (Some bound)) =
     ((reason : Reason) → AppliesToCertificate by instance certificate reason → ⊥) × IsCertified by instance certificate bound
-FindsBound by instance certificate bounds.NoSolution =
+FindsBound by instance certificate (Ok None) =
     ((reason : Reason) → AppliesToCertificate by instance certificate reason → ⊥) × HasNoBound by instance certificate
     × HasNoSolution instance
-FindsBound by instance certificate (bounds.No reason) = IsFirstReason (AppliesToCertificate by instance certificate) reason
+FindsBound by instance certificate (Err reason) = IsFirstReason (AppliesToCertificate by instance certificate) reason
 
 -- ---- the verdict on a tour
 
@@ -236,9 +234,9 @@ AppliesToBounded by instance certificate reason = AppliesToInstance instance rea
 -- Bound: no reason applies, and this is the certificate's bound, which no solution is below. NoSolution: no reason
 -- applies, and the instance has no solution. No: the first reason that applies.
 abbrev pub IsBoundVerdict : CertificateKind → Fields → Fields → BoundVerdict → Type 0
-IsBoundVerdict by instance certificate (bounds.Bound bound) =
+IsBoundVerdict by instance certificate (Ok (Some bound)) =
     ((reason : Reason) → AppliesToBounded by instance certificate reason → ⊥) × IsCertified by instance certificate bound
-IsBoundVerdict by instance certificate bounds.NoSolution =
+IsBoundVerdict by instance certificate (Ok None) =
     ((reason : Reason) → AppliesToBounded by instance certificate reason → ⊥) × HasNoBound by instance certificate
     × HasNoSolution instance
-IsBoundVerdict by instance certificate (bounds.No reason) = IsFirstReason (AppliesToBounded by instance certificate) reason
+IsBoundVerdict by instance certificate (Err reason) = IsFirstReason (AppliesToBounded by instance certificate) reason

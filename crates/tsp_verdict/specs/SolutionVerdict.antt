@@ -2,12 +2,10 @@
 -- what is known about the instance. src/solution_verdict.rt promises it, and the runs of tsp_judge report it. In no
 -- circle of docs/trust.md: Accepted.antt in tsp_judge says what an accepted verdict means, without this file. tsp_c
 -- imports it, too.
-use Rattle.tsp_verdict.specs.Prelude.{Bool, Option, None, Some, option_map, ℤ, IsTrue, ℕ, Kind, Fields, is_instance, IsLeastRoutes, capacity_of, CertificateKind, Reason, LengthClaimed, Verdict}
+use Rattle.tsp_verdict.specs.Prelude.{Bool, Option, None, Some, option_map, ℤ, IsTrue, ℕ, Kind, Fields, is_instance, IsLeastRoutes, capacity_of, CertificateKind, Reason, LengthClaimed, Verdict, Ok, Err, BoundVerdict}
 use Rattle.std.specs.Prelude.{◌≡◌, ◌≢◌, ◌⊎◌}
 use Rattle.tsp_format.specs.declared.kinds.Kind.TheVariants as kinds
 use Rattle.tsp_report.specs.declared.verdict.KnownBound.{KnownBound}
-use Rattle.tsp_report.specs.declared.verdict.BoundVerdict.{BoundVerdict}
-use Rattle.tsp_report.specs.declared.verdict.BoundVerdict.TheVariants as bounds
 use Rattle.tsp_report.specs.declared.verdict.Verdict.TheVariants.{Tour, Routes, No}
 use Rattle.tsp_verdict.specs.Certified.{is_bounded, AppliesToCertificate, IsCertifiedVerdict, AppliesToInstance, NoneAgainstInstance, IsBoundVerdict, NoneWithoutMemory}
 use Rattle.tsp_verdict.specs.Strict.{strict_reason, strict_verdict, strict_bound, strict_known_bound}
@@ -112,9 +110,8 @@ IsLeastKnownBy other instance least = least ≡ None
 -- there is no solution, or the first reason against the instance or the certificate.
 abbrev pub IsFoundWith : Option (CertificateKind × Fields) → Fields → Option BoundVerdict → Type 0
 IsFoundWith None instance None = NoneAgainstInstance instance
-IsFoundWith None instance (Some (bounds.Bound bound)) = ⊥
-IsFoundWith None instance (Some bounds.NoSolution) = ⊥
-IsFoundWith None instance (Some (bounds.No reason)) = IsFirstReason (AppliesToInstance instance) reason
+IsFoundWith None instance (Some (Ok bound)) = ⊥
+IsFoundWith None instance (Some (Err reason)) = IsFirstReason (AppliesToInstance instance) reason
 IsFoundWith (Some given) instance None = ⊥
 IsFoundWith (Some given) instance (Some found) = IsBoundVerdict given.0 instance given.1 found
 
@@ -137,8 +134,8 @@ NoneOfKnownBoundWithoutMemory (Some given) instance = NoneAgainstInstance instan
 
 -- an accepted solution has the bound that was found, and the least number of routes
 abbrev pub IsAsFound : Verdict → Option ℕ → Option BoundVerdict → Type 0
-IsAsFound (Tour length bound) least found = (least ≡ None) × (found ≡ option_map bounds.Bound bound)
-IsAsFound (Routes length routes own bound) least found = (least ≡ Some own) × (found ≡ option_map bounds.Bound bound)
+IsAsFound (Tour length bound) least found = (least ≡ None) × (found ≡ option_map (λ b. Ok (Some b)) bound)
+IsAsFound (Routes length routes own bound) least found = (least ≡ Some own) × (found ≡ option_map (λ b. Ok (Some b)) bound)
 IsAsFound (No reason) least found = Unit {0}
 
 -- it has those of the known bound

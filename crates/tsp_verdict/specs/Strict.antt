@@ -2,7 +2,7 @@
 -- What `--strict` demands, and src/strict.rt tests: that the verdict ignores no line of the instance. It ignores a line
 -- with an unknown keyword, and one whose field the TYPE or the weight type of the instance doesn't use. tsp_c and
 -- tsp_judge import it, too.
-use Rattle.tsp_verdict.specs.Prelude.{Bool, true, false, not, IsTrue, Option, None, Some, is_some, option_map, ℕ, List, [], Fields, Reason, NotJudged, NotUsed, Verdict}
+use Rattle.tsp_verdict.specs.Prelude.{Bool, true, false, not, IsTrue, Option, None, Some, is_some, option_map, ℕ, List, [], Fields, Reason, NotJudged, NotUsed, Verdict, Ok, Err, BoundVerdict}
 use Rattle.std.specs.Prelude.{◌≡◌, ◌&&◌, ◌∷◌}
 use Rattle.std.specs.List.{find}
 use Rattle.tsp_format.specs.Words.{fields_in_order}
@@ -11,8 +11,6 @@ use Rattle.tsp_format.specs.declared.keyword.Field.TheVariants as fields
 use Rattle.tsp_file.specs.Fields.{stands_in}
 use Rattle.tsp_file.specs.Rules.{is_explicit, is_function, is_routing}
 use Rattle.tsp_report.specs.declared.verdict.KnownBound.{KnownBound}
-use Rattle.tsp_report.specs.declared.verdict.BoundVerdict.{BoundVerdict}
-use Rattle.tsp_report.specs.declared.verdict.BoundVerdict.TheVariants as bounds
 use Rattle.tsp_report.specs.declared.verdict.Verdict.TheVariants.{Tour, Routes, No}
 
 -- ---- the fields that an instance has but doesn't use
@@ -78,14 +76,13 @@ strict_verdict (Some strict) (No reason) = No reason
 -- the same for a bound without a solution
 abbrev pub strict_bound : Option Reason → BoundVerdict → BoundVerdict
 strict_bound None found = found
-strict_bound (Some strict) (bounds.Bound bound) = bounds.No strict
-strict_bound (Some strict) bounds.NoSolution = bounds.No strict
-strict_bound (Some strict) (bounds.No reason) = bounds.No reason
+strict_bound (Some strict) (Ok bound) = Err strict
+strict_bound (Some strict) (Err reason) = Err reason
 
 -- the same for what is found for all solutions, with or without a certificate
 abbrev pub strict_found : Option Reason → Option BoundVerdict → Option BoundVerdict
 strict_found None found = found
-strict_found (Some strict) None = Some (bounds.No strict)
+strict_found (Some strict) None = Some (Err strict)
 strict_found (Some strict) (Some found) = Some (strict_bound (Some strict) found)
 
 -- the same for a known bound

@@ -104,7 +104,7 @@ fn tour_tree_bound(
 {
     let tree = match tree_of(instance, branches) {
         Ok(tree) => tree,
-        Err(reason) => return Ok(BoundVerdict::No(reason)),
+        Err(reason) => return Ok(Err(reason)),
     };
     // Each view is its own type, so that no lookup of a cost has to find out where the costs are.
     match instance.view() {
@@ -181,7 +181,7 @@ fn judge_tour_tree<C: Costs>(
     };
     if let Some(reason) = memory_reason(tree.memories, tree.subset_rows) {
         let family = first_bad_family(alloc, cases)?;
-        return Ok(BoundVerdict::No(family_or(family, reason)));
+        return Ok(Err(family_or(family, reason)));
     }
     let verdict = judge_branches(alloc, cases)?;
     Ok(found_by_tree(verdict))
@@ -194,26 +194,25 @@ pub(crate) fn found_by_tree(verdict: TreeVerdict) -> BoundVerdict
     ensures { result ≡ found_by_tree verdict }
 {
     match verdict {
-        TreeVerdict::Bound(Some(bound)) => BoundVerdict::Bound(bound),
-        TreeVerdict::Bound(None) => BoundVerdict::NoSolution,
-        TreeVerdict::BadFamily(index) => BoundVerdict::No(Reason::BadFamily {
+        TreeVerdict::Bound(bound) => Ok(bound),
+        TreeVerdict::BadFamily(index) => Err(Reason::BadFamily {
             index: index as u32,
         }),
-        TreeVerdict::BadMemory(node) => BoundVerdict::No(Reason::BadMemory { node }),
-        TreeVerdict::BadRow(index) => BoundVerdict::No(Reason::BadRow {
+        TreeVerdict::BadMemory(node) => Err(Reason::BadMemory { node }),
+        TreeVerdict::BadRow(index) => Err(Reason::BadRow {
             index: index as u32,
         }),
-        TreeVerdict::BadBranch(index) => BoundVerdict::No(Reason::BadBranch {
+        TreeVerdict::BadBranch(index) => Err(Reason::BadBranch {
             index: index as u32,
         }),
-        TreeVerdict::BranchTwice(index) => BoundVerdict::No(Reason::BranchTwice {
+        TreeVerdict::BranchTwice(index) => Err(Reason::BranchTwice {
             index: index as u32,
         }),
-        TreeVerdict::BadLeaf(index) => BoundVerdict::No(Reason::BadLeaf {
+        TreeVerdict::BadLeaf(index) => Err(Reason::BadLeaf {
             index: index as u32,
         }),
-        TreeVerdict::TooManyLoads => BoundVerdict::No(Reason::TooManyLoads),
-        TreeVerdict::TooManyStates(index) => BoundVerdict::No(Reason::TooManyStates {
+        TreeVerdict::TooManyLoads => Err(Reason::TooManyLoads),
+        TreeVerdict::TooManyStates(index) => Err(Reason::TooManyStates {
             index: index as u32,
         }),
     }

@@ -71,11 +71,11 @@ fn found_alone(instance: &Instance) -> Option<BoundVerdict>
     match instance.kind() {
         Kind::Cvrp => match depot_of_routes(instance) {
             Ok(_) => None,
-            Err(reason) => Some(BoundVerdict::No(reason)),
+            Err(reason) => Some(Err(reason)),
         },
         _ => match costs_of_tours(instance) {
             Ok(_) => None,
-            Err(reason) => Some(BoundVerdict::No(reason)),
+            Err(reason) => Some(Err(reason)),
         },
     }
 }
@@ -121,10 +121,8 @@ pub(crate) fn against_instance(found: Option<BoundVerdict>) -> Option<Reason>
     ensures { result ≡ against_instance found }
 {
     match found {
-        Some(BoundVerdict::No(Reason::TooFewNodes)) => Some(Reason::TooFewNodes),
-        Some(BoundVerdict::No(Reason::NotSymmetric { i, j })) => {
-            Some(Reason::NotSymmetric { i, j })
-        }
+        Some(Err(Reason::TooFewNodes)) => Some(Reason::TooFewNodes),
+        Some(Err(Reason::NotSymmetric { i, j })) => Some(Reason::NotSymmetric { i, j }),
         _ => None,
     }
 }
@@ -186,7 +184,7 @@ fn tours_bound(
 {
     match costs_of_tours(instance) {
         Ok(costs) => bound_by(alloc, by, instance, costs, certificate),
-        Err(reason) => Ok(BoundVerdict::No(reason)),
+        Err(reason) => Ok(Err(reason)),
     }
 }
 
@@ -209,7 +207,7 @@ fn routes_bound(
 {
     match depot_of_routes(instance) {
         Ok(depot) => plan_tree_bound(alloc, instance, depot, certificate),
-        Err(reason) => Ok(BoundVerdict::No(reason)),
+        Err(reason) => Ok(Err(reason)),
     }
 }
 

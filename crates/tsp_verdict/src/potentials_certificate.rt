@@ -55,16 +55,16 @@ pub(crate) fn bound_by_nodes(
     ensures refused { IsErr result → NoneWithoutMemory certificates.Potentials inst.now pot.now }
 {
     if let Some(reason) = first_against_file(inst, pot) {
-        return Ok(BoundVerdict::No(reason));
+        return Ok(Err(reason));
     }
     let Some(numbers) = node_numbers(pot) else {
-        return Ok(BoundVerdict::No(Reason::PotentialsKind));
+        return Ok(Err(Reason::PotentialsKind));
     };
     if let Some(reason) = first_against_multipliers(alloc, inst, pot, numbers.triples)? {
-        return Ok(BoundVerdict::No(reason));
+        return Ok(Err(reason));
     }
     let bound = bound_of_potentials(alloc, inst, view, pot, &numbers)?;
-    Ok(BoundVerdict::Bound(bound))
+    Ok(Ok(Some(bound)))
 }
 
 /// The bound that potentials of rows and columns give for an ATSP, or the first reason against the
@@ -76,14 +76,14 @@ pub(crate) fn bound_by_duals(inst: &Instance, view: View<'_>, pot: &File) -> Bou
     ensures { FindsBound certificates.Potentials inst.now pot.now result }
 {
     if let Some(reason) = first_against_file(inst, pot) {
-        return BoundVerdict::No(reason);
+        return Err(reason);
     }
     let Some(duals) = duals_of(pot) else {
-        return BoundVerdict::No(Reason::PotentialsKind);
+        return Err(Reason::PotentialsKind);
     };
     match bound_of_duals(inst, view, pot, &duals) {
-        Ok(bound) => BoundVerdict::Bound(bound),
-        Err(pair) => BoundVerdict::No(Reason::DualInfeasible {
+        Ok(bound) => Ok(Some(bound)),
+        Err(pair) => Err(Reason::DualInfeasible {
             i: pair.i,
             j: pair.j,
         }),

@@ -356,7 +356,7 @@ pub(crate) fn plan_tree_bound(
 {
     match tree_of(instance, branches) {
         Ok(tree) => judge_plan_tree(alloc, instance, depot, branches, &tree),
-        Err(reason) => Ok(BoundVerdict::No(reason)),
+        Err(reason) => Ok(Err(reason)),
     }
 }
 

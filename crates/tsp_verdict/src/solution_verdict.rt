@@ -227,10 +227,8 @@ fn with_found(verdict: Verdict, found: Option<BoundVerdict>) -> Verdict
     ensures { result ≡ with_found verdict found }
 {
     match (verdict, found) {
-        (Verdict::Tour { length, .. }, Some(BoundVerdict::Bound(bound))) => Verdict::Tour {
-            length,
-            bound: Some(bound),
-        },
+        // `Ok(None)` doesn't occur here: by `FindsBound`, the instance would have no solution.
+        (Verdict::Tour { length, .. }, Some(Ok(bound))) => Verdict::Tour { length, bound },
         (
             Verdict::Routes {
                 length,
@@ -238,18 +236,14 @@ fn with_found(verdict: Verdict, found: Option<BoundVerdict>) -> Verdict
                 least,
                 ..
             },
-            Some(BoundVerdict::Bound(bound)),
+            Some(Ok(bound)),
         ) => Verdict::Routes {
             length,
             routes,
             least,
-            bound: Some(bound),
+            bound,
         },
-        (Verdict::Tour { .. } | Verdict::Routes { .. }, Some(BoundVerdict::No(reason))) => {
-            Verdict::No(reason)
-        }
-        // An accepted solution can't meet `NoSolution`: by `FindsBound`, the instance would have
-        // none.
+        (Verdict::Tour { .. } | Verdict::Routes { .. }, Some(Err(reason))) => Verdict::No(reason),
         (verdict, _) => verdict,
     }
 }

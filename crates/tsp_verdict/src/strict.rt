@@ -3,7 +3,7 @@
 //! TYPE or the weight type doesn't use. `specs/Strict.antt` (circle 2) pins which fields an
 //! instance uses.
 
-ghost use Rattle.tsp_verdict.specs.Prelude.{All, Option, map, None, Some, true, false, [], pos, Fields, is_yes, is_bound_yes, is_clear, Verdict};
+ghost use Rattle.tsp_verdict.specs.Prelude.{All, Option, map, None, Some, true, false, [], pos, Fields, is_yes, is_clear, Verdict, Ok, Err, is_ok, BoundVerdict};
 ghost use Rattle.std.specs.Prelude.{◌≡◌, ◌∷◌};
 ghost use Rattle.std.specs.List.{find};
 ghost use Rattle.tsp_format.specs.declared.keyword.Field.TheVariants as fields;
@@ -16,8 +16,6 @@ ghost use Rattle.tsp_file.specs.states.Drafts.{fields_of};
 ghost use Rattle.tsp_verdict.specs.Strict.{IsJudgedWhole, leaves_unused, stands_unused, first_unused, reason_by, strict_reason, strict_verdict, strict_bound, strict_found, strict_known_bound};
 ghost use Rattle.tsp_verdict.specs.Examples.{carrying, instance_with, weighing, with_capacity, with_unknown};
 ghost use Rattle.tsp_report.specs.declared.verdict.KnownBound.{KnownBound};
-ghost use Rattle.tsp_report.specs.declared.verdict.BoundVerdict.{BoundVerdict};
-ghost use Rattle.tsp_report.specs.declared.verdict.BoundVerdict.TheVariants as bounds;
 ghost use Rattle.tsp_report.specs.declared.verdict.Reason.TheVariants as reasons;
 ghost use Rattle.tsp_report.specs.declared.verdict.Verdict.TheVariants as verdicts;
 
@@ -43,9 +41,7 @@ pub fn strict_bound(strict: bool, instance: &Instance, found: BoundVerdict) -> B
     ensures { result ≡ strict_bound (strict_reason strict instance.now) found }
 {
     match (strict_reason(strict, instance), found) {
-        (Some(reason), BoundVerdict::Bound(_) | BoundVerdict::NoSolution) => {
-            BoundVerdict::No(reason)
-        }
+        (Some(reason), Ok(_)) => Err(reason),
         (_, found) => found,
     }
 }
@@ -66,9 +62,7 @@ fn strict_found(strict: Option<Reason>, found: Option<BoundVerdict>) -> Option<B
     ensures { result ≡ strict_found strict found }
 {
     match (strict, found) {
-        (Some(reason), None | Some(BoundVerdict::Bound(_) | BoundVerdict::NoSolution)) => {
-            Some(BoundVerdict::No(reason))
-        }
+        (Some(reason), None | Some(Ok(_))) => Some(Err(reason)),
         (_, found) => found,
     }
 }
@@ -164,7 +158,7 @@ pub fn strict_yes_leaves_nothing_unjudged()
         → is_yes (strict_verdict (strict_reason true instance) plain) ≡ true
         → IsJudgedWhole instance × (strict_verdict (strict_reason true instance) plain ≡ plain) }
     ensures bound { (instance : Fields) (plain : BoundVerdict)
-        → is_bound_yes (strict_bound (strict_reason true instance) plain) ≡ true
+        → is_ok (strict_bound (strict_reason true instance) plain) ≡ true
         → IsJudgedWhole instance × (strict_bound (strict_reason true instance) plain ≡ plain) }
     ensures known_bound { (instance : Fields) (plain : KnownBound)
         → is_clear (strict_known_bound (strict_reason true instance) plain) ≡ true
@@ -234,16 +228,16 @@ pub fn examples_of_strictness()
         ≡ verdicts.No (reasons.NotUsed fields.ScaleKey) }
     ensures other { strict_verdict (Some reasons.NotJudged) (verdicts.No reasons.TourCount) ≡ verdicts.No reasons.TourCount }
     ensures kept { strict_verdict None (verdicts.Tour (pos 14) None) ≡ verdicts.Tour (pos 14) None }
-    ensures bound { strict_bound (Some reasons.NotJudged) (bounds.Bound (pos 14)) ≡ bounds.No reasons.NotJudged }
-    ensures no_solution { strict_bound (Some (reasons.NotUsed fields.ScaleKey)) bounds.NoSolution
-        ≡ bounds.No (reasons.NotUsed fields.ScaleKey) }
-    ensures other_of_bounds { strict_bound (Some reasons.NotJudged) (bounds.No reasons.NotPotentials) ≡ bounds.No reasons.NotPotentials }
-    ensures kept_bound { strict_bound None bounds.NoSolution ≡ bounds.NoSolution }
-    ensures tours { strict_found (Some reasons.NotJudged) None ≡ Some (bounds.No reasons.NotJudged) }
-    ensures no_solution_of_all { strict_found (Some reasons.NotJudged) (Some bounds.NoSolution) ≡ Some (bounds.No reasons.NotJudged) }
+    ensures bound { strict_bound (Some reasons.NotJudged) (Ok (Some (pos 14))) ≡ Err reasons.NotJudged }
+    ensures no_solution { strict_bound (Some (reasons.NotUsed fields.ScaleKey)) (Ok None)
+        ≡ Err (reasons.NotUsed fields.ScaleKey) }
+    ensures other_of_bounds { strict_bound (Some reasons.NotJudged) (Err reasons.NotPotentials) ≡ Err reasons.NotPotentials }
+    ensures kept_bound { strict_bound None (Ok None) ≡ Ok None }
+    ensures tours { strict_found (Some reasons.NotJudged) None ≡ Some (Err reasons.NotJudged) }
+    ensures no_solution_of_all { strict_found (Some reasons.NotJudged) (Some (Ok None)) ≡ Some (Err reasons.NotJudged) }
     ensures plans { strict_known_bound (Some (reasons.NotUsed fields.ScaleKey)) (record { least = Some 2; found = None })
-        ≡ record { least = Some 2; found = Some (bounds.No (reasons.NotUsed fields.ScaleKey)) } }
-    ensures other_of_all { strict_found (Some reasons.NotJudged) (Some (bounds.No reasons.DepotCount))
-        ≡ Some (bounds.No reasons.DepotCount) }
+        ≡ record { least = Some 2; found = Some (Err (reasons.NotUsed fields.ScaleKey)) } }
+    ensures other_of_all { strict_found (Some reasons.NotJudged) (Some (Err reasons.DepotCount))
+        ≡ Some (Err reasons.DepotCount) }
     ensures kept_known_bound { strict_found None None ≡ None }
 {}

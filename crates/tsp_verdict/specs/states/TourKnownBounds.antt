@@ -2,12 +2,10 @@
 -- `src/tour.rt`), and what was found for all solutions, as a reason against the instance (`against_instance`, for
 -- `src/known_bound.rt`) and in a verdict (`with_found`, for `src/solution_verdict.rt`). You may change it with the
 -- code, because `IsVerdictWith` defines the verdict.
-use Rattle.tsp_verdict.specs.Prelude.{Option, None, Some, MatchOption, IsSymmetric, cost, Fields, Reason, TooFewNodes, NotSymmetric, Verdict}
+use Rattle.tsp_verdict.specs.Prelude.{Option, None, Some, MatchOption, IsSymmetric, cost, Fields, Reason, TooFewNodes, NotSymmetric, Verdict, Ok, Err, BoundVerdict}
 use Rattle.std.specs.Prelude.{◌≡◌}
 use Rattle.tsp_format.specs.declared.kinds.Kind.TheVariants as kinds
 use Rattle.tsp_cost.specs.states.Views.{IsViewOf, ShowsSymmetric}
-use Rattle.tsp_report.specs.declared.verdict.BoundVerdict.{BoundVerdict}
-use Rattle.tsp_report.specs.declared.verdict.BoundVerdict.TheVariants as bounds
 use Rattle.tsp_report.specs.declared.verdict.Verdict.TheVariants.{Tour, Routes, No}
 use Rattle.tsp_verdict.specs.Certified.{AppliesToTouring, NoneAgainstTouring}
 use Rattle.tsp_verdict.specs.Solutions.{IsFirstReason}
@@ -16,8 +14,8 @@ use Rattle.tsp_verdict.specs.declared.tour.TourCosts.TheVariants.{Undirected, Di
 
 -- the reason that was found against all tours, if it is one against the instance
 abbrev pub against_instance : Option BoundVerdict → Option Reason
-against_instance (Some (bounds.No TooFewNodes)) = Some TooFewNodes
-against_instance (Some (bounds.No (NotSymmetric i j))) = Some (NotSymmetric i j)
+against_instance (Some (Err TooFewNodes)) = Some TooFewNodes
+against_instance (Some (Err (NotSymmetric i j))) = Some (NotSymmetric i j)
 against_instance found = None
 
 -- it is the first one against the instance; without it none applies to the instance
@@ -40,8 +38,8 @@ IsSymmetricTsp instance = instance.kind ≡ Some kinds.Tsp → IsSymmetric (cost
 
 -- an accepted solution has the bound, or is rejected with the reason against the certificate
 abbrev pub with_found : Verdict → Option BoundVerdict → Verdict
-with_found (Tour length own) (Some (bounds.Bound bound)) = Tour length (Some bound)
-with_found (Tour length own) (Some (bounds.No reason)) = No reason
-with_found (Routes length routes least own) (Some (bounds.Bound bound)) = Routes length routes least (Some bound)
-with_found (Routes length routes least own) (Some (bounds.No reason)) = No reason
+with_found (Tour length own) (Some (Ok bound)) = Tour length bound
+with_found (Tour length own) (Some (Err reason)) = No reason
+with_found (Routes length routes least own) (Some (Ok bound)) = Routes length routes least bound
+with_found (Routes length routes least own) (Some (Err reason)) = No reason
 with_found verdict found = verdict

@@ -4,7 +4,6 @@ use Rattle.std.specs.Prelude.{IfSome}
 use Rattle.tsp_format.specs.declared.kinds.Kind.TheVariants as kinds
 use Rattle.tsp_read.specs.declared.ReadFault.TheVariants as read_faults
 use Rattle.tsp_report.specs.declared.verdict.KnownBound.{KnownBound}
-use Rattle.tsp_report.specs.declared.verdict.BoundVerdict.TheVariants as bounds
 use Rattle.tsp_report.specs.declared.verdict.Reason.TheVariants as reasons
 use Rattle.tsp_report.specs.declared.verdict.Verdict.{Verdict}
 use Rattle.tsp_verdict.specs.Examples.{with_unknown}
@@ -31,7 +30,7 @@ pub returns-clause-reason : goal.returns-clause-reason
 returns-clause-reason c = λ common sink instance_is bound_is known written.
     let refused = ap (λ f. strict_reason true f) instance_is in
     let same = ap (λ b. strict_known_bound b unknown_yet) refused in
-    let text = head common.instance (with_unknown kinds.Atsp 4) common.known_bound (record { least = None; found = Some (bounds.No reasons.NotJudged) }) instance_is bound_is in (
+    let text = head common.instance (with_unknown kinds.Atsp 4) common.known_bound (record { least = None; found = Some (Err reasons.NotJudged) }) instance_is bound_is in (
       (unknown_yet, known, bound_is ∙ sym same),
       subst (λ b. ComparesBy b (λ place read_trace. IfSome read_trace (StopsAt read_faults.TooLong)) (codes "a.tour" ∷ []) common sink (Ok 1)) (sym (ap is_clear bound_is))
           (subst (HasWritten sink) (sym text) written, refl),
