@@ -22,10 +22,10 @@ def told(*words: str, folder: Path | None = None) -> str:
 
 def version() -> str:
     """The version, which is the same in all places that name it."""
-    grammar = (ROOT / "crates/tsp_cli/src/grammar.rt").read_text()
+    grammar = (ROOT / "crates/tsp_tool/src/grammar.rt").read_text()
     found = re.search(r'const VERSION: &str = "(\d+)\.(\d+)\.(\d+)"', grammar)
     if found is None:
-        sys.exit("release: grammar.rt of tsp_cli has no version")
+        sys.exit("release: grammar.rt of tsp_tool has no version")
     first, second, third = map(int, found.groups())
     number = 10000 * first + 100 * second + third
     if f"const VERSION_NUMBER: u32 = {number};" not in (ROOT / "crates/tsp_c/src/lib.rt").read_text():

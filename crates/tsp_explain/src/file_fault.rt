@@ -1,5 +1,5 @@
 //! Explains why a file can't be read: the place, the rule, and a likely cause. tsp_judge and
-//! tsp_cli call it. Its contract says only that text is appended, so you can change the words
+//! tsp_tool call it. Its contract says only that text is appended, so you can change the words
 //! freely.
 
 ghost use Rattle.std.specs.Io.{StartsWith};

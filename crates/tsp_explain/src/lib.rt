@@ -1,6 +1,6 @@
 //! Explains why a file can't be read, or why a solution is rejected.
 //!
-//! tsp_judge and tsp_cli call it after a run. The sentences are in `sentences` and `wanted`, and a
+//! tsp_judge and tsp_tool call it after a run. The sentences are in `sentences` and `wanted`, and a
 //! second look at the file (`look`) finds the text at a fault. Contracts say only that text is
 //! appended, so you can change the words freely.
 //!

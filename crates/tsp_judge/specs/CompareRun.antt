@@ -1,6 +1,6 @@
 -- A run of `tsp compare`: an instance and a certificate that are read once, solutions that are opened, judged and
 -- reported one after the other, and the lines that a follower gets. src/compared.rt promises it. In no circle of
--- docs/trust.md: what `optimal` in a line means is in Accepted.antt, and laws tie the two. tsp_cli imports it, too.
+-- docs/trust.md: what `optimal` in a line means is in Accepted.antt, and laws tie the two. tsp_tool imports it, too.
 use Rattle.tsp_judge.specs.Prelude.{ℕ, suc, max, Bool, true, false, List, [], length, Option, None, Some, Result, Ok, Err, IsTrue, slice_index_or, zero, ReadTrace, Sink, IsUnwritten, HasWritten, HasStopped, Fields, HasReads, IsFile, StopsAt, most_taken, IsProblem, head_of, solution_line, report_of, is_yes, is_clear, CertificateKind, Verdict, NoneOfKnownBoundWithoutMemory, HasKnownBound, is_judged, NoneBeforeRepeatsOn, IsVerdictWith, IsKnownBoundAsked}
 use Rattle.std.specs.Prelude.{◌≡◌, ◌≢◌, ◌⊎◌, ◌<◌, ◌≤◌, ◌∷◌, ◌++◌, ◌-◌}
 use Rattle.std.specs.declared.alloc.AllocError.{AllocError}

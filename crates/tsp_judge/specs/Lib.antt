@@ -1,5 +1,5 @@
 -- Definitions of runs (CheckRun, BoundRun, CompareRun, ConvertRun, TaskRun, RunStatus), of open instances (Open), and
--- of what `yes` means (Accepted). tsp_c and tsp_cli state their contracts by them.
+-- of what `yes` means (Accepted). tsp_c and tsp_tool state their contracts by them.
 pub mod Prelude
 pub mod Accepted
 pub mod RunStatus

@@ -1,4 +1,4 @@
--- Why a run has no result, in words, and its exit status. src/run_status.rt promises both; tsp_cli prints the words and
+-- Why a run has no result, in words, and its exit status. src/run_status.rt promises both; tsp_tool prints the words and
 -- exits with the status, and `tsp.h` repeats the numbers. In no circle of docs/trust.md. tsp_c imports it, too.
 use Rattle.tsp_judge.specs.Prelude.{ℕ, List, codes, decimal, Bool, true, false, Result, Ok, Err, write_fault_text}
 use Rattle.std.specs.Prelude.{◌++◌}

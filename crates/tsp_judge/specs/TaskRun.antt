@@ -1,5 +1,5 @@
 -- A task that is run on its readers, and a comparison, as src/task_run.rt promises them. It only combines what the
--- other files here say about each run; tsp_cli states its contracts by it. In no circle of docs/trust.md.
+-- other files here say about each run; tsp_tool states its contracts by it. In no circle of docs/trust.md.
 use Rattle.tsp_judge.specs.Prelude.{ℕ, List, Bool, true, Result, Ok, Err, Option, Sink, is_yes, TakesAtMost, read_trace_of, most_taken, IsReadOn, is_ok}
 use Rattle.std.specs.Prelude.{◌≡◌}
 use Rattle.tsp_judge.specs.declared.bound_run.Bounded.{Bounded}

@@ -1,4 +1,4 @@
-//! Explains the outcome or the fault of a task to the user. tsp_cli and tsp_c call it after a run.
+//! Explains the outcome or the fault of a task to the user. tsp_tool and tsp_c call it after a run.
 //! Contracts say only that text is appended, so you can change the words freely.
 
 ghost use Rattle.std.specs.Io.{StartsWith};

@@ -2,7 +2,7 @@
 //!
 //! A check reads an instance, a solution and a certificate, and writes a report. Its contract says
 //! what the line `yes` means. [`perform`] runs the verb of a task. This crate opens no files and
-//! knows no command line: tsp_cli does that.
+//! knows no command line: tsp_tool does that.
 //!
 //! The clause `cause` of each run says why its writer failed, if it did: the last write returned an
 //! error, or took no byte of a text. No run flushes its writer, because a `W: Takes` can only

@@ -1,5 +1,5 @@
 //! `perform` runs a show, convert, check or bound task on open readers; `compare` runs a
-//! comparison. tsp_cli runs every task by these two calls. A new verb is added here.
+//! comparison. tsp_tool runs every task by these two calls. A new verb is added here.
 
 ghost use Rattle.tsp_judge.specs.Prelude.{FailsByWrite, length, sink_of};
 ghost use Rattle.std.specs.Prelude.{◌≡◌};

@@ -1,5 +1,5 @@
 -- A task on files: its files in the order in which they are read, the role of each, and the same task on other files.
--- src/task.rt promises it, and tsp_cli opens files by it. In no circle of docs/trust.md.
+-- src/task.rt promises it, and tsp_tool opens files by it. In no circle of docs/trust.md.
 use Rattle.std.specs.Prelude.{ℕ, List, [], ◌∷◌, ◌-◌, ◌==◌, Option, None, Some, cond, slice_get, ◌≡◌}
 use Rattle.tsp_report.specs.declared.task.CertificateKind.{CertificateKind}
 use Rattle.tsp_report.specs.declared.task.CertificateKind.TheVariants as certificates

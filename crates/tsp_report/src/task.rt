@@ -1,5 +1,5 @@
 //! A task: a verb with its options and files. Each file is a place, then a reader or a name,
-//! because tsp_cli opens the files of a task before tsp_judge runs it. Verdicts and explanations
+//! because tsp_tool opens the files of a task before tsp_judge runs it. Verdicts and explanations
 //! name a file by the roles and certificates defined here.
 
 ghost use Rattle.std.specs.Fn.{FnReturnsAt};

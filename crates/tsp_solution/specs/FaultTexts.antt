@@ -1,4 +1,4 @@
--- The texts of the faults of solutions. For src/fault.rt; tsp_cli prints them. tsp_c imports it, too.
+-- The texts of the faults of solutions. For src/fault.rt; tsp_tool prints them. tsp_c imports it, too.
 use Rattle.std.specs.Prelude.{ℕ, List, codes, decimal, ◌++◌}
 use Rattle.tsp_io.specs.Streams.{write_fault_text}
 use Rattle.tsp_text.specs.ParsesTo.{read_fault_text}

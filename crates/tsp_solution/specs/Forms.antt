@@ -1,4 +1,4 @@
--- The names of the forms of solutions, and their table. For src/form.rt; tsp_cli and tsp_c take the names and numbers
+-- The names of the forms of solutions, and their table. For src/form.rt; tsp_tool and tsp_c take the names and numbers
 -- from here.
 use Rattle.std.specs.List.{flat_map}
 use Rattle.std.specs.Prelude.{◌≡◌, ◌≢◌, ◌++◌, ◌∷◌, ℕ, List, [], length, drop, Option, None, Some, codes}

@@ -1,5 +1,5 @@
 -- How a text is read as a solution, and the run of `tsp solution`. For src/run.rt. Which tours another form lists is
--- left open here, and tested. tsp_c and tsp_cli import it, too.
+-- left open here, and tested. tsp_c and tsp_tool import it, too.
 use Rattle.std.specs.Prelude.{◌≡◌, ◌⊎◌, ◌<◌, ℕ, Bool, true, List, [], ◌∷◌, length, Result, Ok, Err, Option, None, Some, IfSome, nat_le}
 use Rattle.std.specs.List.{list_all}
 use Rattle.std.specs.declared.io.Error.{Error}

@@ -1,5 +1,5 @@
 -- A solution that is read from a text in memory: the text that `tsp solution` writes for it, or its fault. For
--- src/in_memory.rt, and for the callers in tsp_c and tsp_cli.
+-- src/in_memory.rt, and for the callers in tsp_c and tsp_tool.
 use Rattle.std.specs.Prelude.{◌≡◌, ◌⊎◌, ◌<◌, ℕ, List, length, Result, Ok, Err, Option, None, Some, Vec}
 use Rattle.tsp_format.specs.Limits.{most_file_bytes}
 use Rattle.tsp_file.specs.CanonicalText.{text_of}

@@ -1,4 +1,4 @@
-//! Reads a solution from a text in memory, and writes it to memory. tsp_c calls it, and tsp_cli for
+//! Reads a solution from a text in memory, and writes it to memory. tsp_c calls it, and tsp_tool for
 //! `tsp check --form`. By `specs/SolutionText.antt`, it returns what `write_solution` would write.
 
 ghost use Rattle.std.specs.Prelude.{◌≡◌, MatchResult, option_map};

@@ -1,5 +1,5 @@
 //! The run of `tsp solution`: reads a solution, and its instance if one is named, and writes the
-//! canonical text of a file of TYPE TOUR. tsp_cli calls it, and `specs/SolutionRun.antt` pins how
+//! canonical text of a file of TYPE TOUR. tsp_tool calls it, and `specs/SolutionRun.antt` pins how
 //! it ends.
 
 ghost use Rattle.std.specs.Prelude.{◌≡◌, ◌++◌, MatchResult, IfErr, OnOk, false};

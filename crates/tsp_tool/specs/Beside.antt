@@ -1,10 +1,10 @@
--- Opened files that aren't a standard stream: src/main.rt promises that it opens each file so. If a standard stream was
+-- Opened files that aren't a standard stream: src/input.rt promises that it opens each file so. If a standard stream was
 -- closed before the start, the system gives its number to the next file, which would be read as standard input.
 use Rattle.std.specs.Prelude.{ℤ, pos, ◌<ℤ◌}
 use Rattle.std.specs.Fd.{file_raw_fd}
 use Rattle.std.specs.declared.fs.File.{File}
-use Rattle.tsp_cli.specs.declared.input.InputFile.{InputFile}
-use Rattle.tsp_cli.specs.declared.input.InputFile.TheVariants.{Input, Opened, Missing}
+use Rattle.tsp_tool.specs.declared.input.InputFile.{InputFile}
+use Rattle.tsp_tool.specs.declared.input.InputFile.TheVariants.{Input, Opened, Missing}
 
 -- the number of the file's descriptor is above 2, which is that of standard error
 abbrev pub IsBesideStreams : File → Type 0

@@ -1,2 +1,13 @@
--- The definition of files that aren't a standard stream, for src/main.rt. No crate is above this one.
+-- Definitions of a command line (Grammar, Tasks, Solutions, FormCheck, FormComparison), of the run that it asks for
+-- (ProgramRun, RunEnd), and of files that aren't a standard stream (Beside). No circle of docs/trust.md contains one of
+-- them.
+pub mod Examples
+pub mod Grammar
+pub mod Tasks
+pub mod Solutions
+pub mod FormCheck
+pub mod FormComparison
+pub mod states
+pub mod RunEnd
+pub mod ProgramRun
 pub mod Beside

@@ -1,7 +1,7 @@
 -- What a writer that remembers a failed write holds (`Output`), the sink that contracts see (`sink_of`), and how a
 -- function adds bytes to a text on its way out (`Puts`). `src/watched.rt` and `src/piece.rt` promise them. All that is
 -- written rests on them: `Puts` is in the contract of every function in tsp_file and tsp_report that writes a line, and
--- `sink_of` in those of all runs in tsp_judge and tsp_cli. tsp_c and tsp_solution import it, too.
+-- `sink_of` in those of all runs in tsp_judge and tsp_tool. tsp_c and tsp_solution import it, too.
 use Rattle.std.specs.Io.KnownBytes.{Appends}
 use Rattle.std.specs.IoError.{error_kind}
 use Rattle.std.specs.Prelude.{◌≡◌, ℕ, ◌<◌, Bool, true, false, List, Option, Some, Result, Ok, Err, ◌++◌}

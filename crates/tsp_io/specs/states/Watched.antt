@@ -1,6 +1,6 @@
 -- What a reader that remembers a failed read holds (`Watched`), and the trace of a call on it (`read_trace_of`): the
 -- bytes that it delivered, and whether it failed. `src/watched.rt` promises what it holds. A change reaches every
--- contract that says what was read: `tsp_read/src/api.rt`, and the runs in tsp_solution, tsp_judge and tsp_cli. tsp_c
+-- contract that says what was read: `tsp_read/src/api.rt`, and the runs in tsp_solution, tsp_judge and tsp_tool. tsp_c
 -- imports it, too.
 use Rattle.std.specs.Prelude.{◌≡◌, ℕ, Bool, List, Option, Result, Ok, ◌++◌, ◌⊎◌, [], ◌∷◌}
 use Rattle.std.specs.declared.io.Error.{Error}

@@ -1,0 +1,20 @@
+-- The goals of `check_certified` in src/grammar.rt, which is the command `check` with the options for certificates:
+-- what the calls require, and what it ensures.
+use Rattle.clap.specs.Words.{with_rule}
+use Rattle.tsp_tool.specs.Grammar.{check_files, of_branches, of_potentials}
+use Rattle.tsp_tool.proofs.Subcommands.{free}
+use Rattle.tsp_tool.proofs.grammar.check_certified.Goals as goal
+
+-- plan: the command is built argument by argument, and none of them is global (`free`)
+pub then-one-requires-clause-globals : goal.then-one-requires-clause-globals
+then-one-requires-clause-globals c = free check_files c.check_files-files.result
+    c.check_files-files.ensures
+
+pub then-requires-clause-globals : goal.then-requires-clause-globals
+then-requires-clause-globals c = free (with_rule check_files of_potentials) c.then-one.result
+    (c.then-one.ensures check_files of_potentials c.check_files-files.ensures c.option.ensures.rule)
+
+pub returns : goal.returns
+returns c =
+    c.then.ensures (with_rule check_files of_potentials) of_branches
+    (c.then-one.ensures check_files of_potentials c.check_files-files.ensures c.option.ensures.rule) c.option-2.ensures.rule
