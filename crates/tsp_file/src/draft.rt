@@ -228,7 +228,7 @@ impl Draft {
             Field::ColumnPotentialPart => &self.column_potentials,
             _ => return None,
         };
-        numbers.as_ref().map(|entries| entries.as_slice())
+        numbers.as_deref()
     }
 
     /// Sets the numbers of such a section. For any other field they are dropped.

@@ -151,7 +151,7 @@ impl File {
     pub fn name(&self) -> Option<&[u8]>
         ensures { option_map (λ entries. entries.now) result ≡ self.now.name }
     {
-        self.draft.name.as_ref().map(|entries| entries.as_slice())
+        self.draft.name.as_deref()
     }
 
     /// TYPE, which every file has.
@@ -249,71 +249,56 @@ impl File {
     pub fn demands(&self) -> Option<&[i64]>
         ensures { option_map (λ entries. entries.now) result ≡ self.now.demands }
     {
-        self.draft
-            .demands
-            .as_ref()
-            .map(|entries| entries.as_slice())
+        self.draft.demands.as_deref()
     }
 
     /// DEPOT_SECTION: nodes.
     pub fn depots(&self) -> Option<&[u32]>
         ensures { option_map (λ entries. entries.now) result ≡ self.now.depots }
     {
-        self.draft.depots.as_ref().map(|entries| entries.as_slice())
+        self.draft.depots.as_deref()
     }
 
     /// FIXED_EDGES_SECTION: pairs of different nodes.
     pub fn fixed(&self) -> Option<&[(u32, u32)]>
         ensures { option_map (λ entries. entries.now) result ≡ self.now.fixed }
     {
-        self.draft.fixed.as_ref().map(|entries| entries.as_slice())
+        self.draft.fixed.as_deref()
     }
 
     /// EDGE_WEIGHT_SECTION: the weights, in the order of the layout.
     pub fn weights(&self) -> Option<&[i64]>
         ensures { option_map (λ entries. entries.now) result ≡ self.now.weights }
     {
-        self.draft
-            .weights
-            .as_ref()
-            .map(|entries| entries.as_slice())
+        self.draft.weights.as_deref()
     }
 
     /// TOUR_SECTION: tours, none of them empty.
     pub fn tours(&self) -> Option<&[Vec<u32>]>
         ensures { option_map (λ tours. map (λ tour. tour.items) tours.now) result ≡ self.now.tours }
     {
-        self.draft.tours.as_ref().map(|tours| tours.as_slice())
+        self.draft.tours.as_deref()
     }
 
     /// NODE_POTENTIAL_SECTION: a potential for each node.
     pub fn node_potentials(&self) -> Option<&[i64]>
         ensures { option_map (λ entries. entries.now) result ≡ self.now.node_potentials }
     {
-        self.draft
-            .node_potentials
-            .as_ref()
-            .map(|entries| entries.as_slice())
+        self.draft.node_potentials.as_deref()
     }
 
     /// ROW_POTENTIAL_SECTION: a potential for each row.
     pub fn row_potentials(&self) -> Option<&[i64]>
         ensures { option_map (λ entries. entries.now) result ≡ self.now.row_potentials }
     {
-        self.draft
-            .row_potentials
-            .as_ref()
-            .map(|entries| entries.as_slice())
+        self.draft.row_potentials.as_deref()
     }
 
     /// COLUMN_POTENTIAL_SECTION: a potential for each column.
     pub fn column_potentials(&self) -> Option<&[i64]>
         ensures { option_map (λ entries. entries.now) result ≡ self.now.column_potentials }
     {
-        self.draft
-            .column_potentials
-            .as_ref()
-            .map(|entries| entries.as_slice())
+        self.draft.column_potentials.as_deref()
     }
 
     /// FIXED_EDGE_POTENTIAL_SECTION: two different nodes and the multiplier of their edge, a count
@@ -321,27 +306,21 @@ impl File {
     pub fn fixed_potentials(&self) -> Option<&[(u32, u32, i64)]>
         ensures { option_map (λ entries. entries.now) result ≡ self.now.fixed_potentials }
     {
-        self.draft
-            .fixed_potentials
-            .as_ref()
-            .map(|entries| entries.as_slice())
+        self.draft.fixed_potentials.as_deref()
     }
     /// COMB_SECTION: families, each as its sets of nodes, a comb with its handle first. A judge
     /// decides whether they are good.
     pub fn families(&self) -> Option<&[Vec<Vec<u32>>]>
         ensures { option_map (λ families. families_of families.now) result ≡ self.now.families }
     {
-        self.draft
-            .families
-            .as_ref()
-            .map(|families| families.as_slice())
+        self.draft.families.as_deref()
     }
 
     /// BRANCH_SECTION: the steps of one tree of cases.
     pub fn branches(&self) -> Option<&[TreeStep]>
         ensures { option_map (λ steps. steps_of steps.now) result ≡ self.now.branches }
     {
-        self.draft.branches.as_ref().map(|steps| steps.as_slice())
+        self.draft.branches.as_deref()
     }
 }
 
@@ -361,10 +340,7 @@ impl File {
         ensures { option_map (λ lists. map (λ list. list.items) lists.now) result
             ≡ self.now.memories }
     {
-        self.fields()
-            .memories
-            .as_ref()
-            .map(|lists| lists.as_slice())
+        self.fields().memories.as_deref()
     }
 
     /// SUBSET_ROW_SECTION: rows, each with a set that isn't empty. Judges decide whether its nodes
@@ -372,10 +348,7 @@ impl File {
     pub fn subset_rows(&self) -> Option<&[RowSets]>
         ensures { option_map (λ rows. subset_rows_of rows.now) result ≡ self.now.subset_rows }
     {
-        self.fields()
-            .subset_rows
-            .as_ref()
-            .map(|rows| rows.as_slice())
+        self.fields().subset_rows.as_deref()
     }
 
     /// The lists of what customers remember; empty if no section has them.
