@@ -14,11 +14,11 @@ from .kinds import Kind, kind_of
 from .users import Users
 
 WIDTH = 118
-MOST_ROWS, MOST_NAMES = 9, 4
+MOST_ROWS, MOST_NAMES = 7, 4
 TESTS = ("tsp_tests", "tsp_tests_no_memory", "example_check")
 LISTS = ("Lib.antt", "states.antt", "lib.rt")
 LOOK = "./check layout names style edits bodies cited trust evaluated walks"
-SENTENCE = re.compile(r"(?<=[^.\s])\.(?:\s+(?=[A-Z`(])|$)")
+SENTENCE = re.compile(r"(?<=[^.\s][^.\s])\.(?:\s|$)")
 CIRCLES = re.compile(r"^Circles? [123][^.]*of docs/trust\.md\.\s*")
 
 
@@ -57,7 +57,7 @@ class Told:
     def lines(self) -> list[str]:
         """All parts."""
         parts = [("where", self.where()), ("users", self.who_uses()), ("uses", self.what_it_uses()),
-                 ("rule", [self.rule()]), ("after a change", self.to_run())]
+                 ("rule", self.rule()), ("after a change", self.to_run())]
         found = [f"{self.path.relative_to(ROOT) if ROOT in self.path.parents else self.path}: {self.about_kind()}"]
         for title, told in parts:
             found += ["", title, *(line for text in told for line in self.wrapped(text))] if told else []
@@ -86,7 +86,17 @@ class Told:
         library = next((file.head for file in self.crate.code if file.place in ("lib", "main")), "")
         more = f", and {len(above) - len(direct)} more through these" if len(above) > len(direct) else ""
         return [*self.says(), f"crate {self.crate.name}: {sentence(library)}",
-                f"below it: {', '.join(self.crate.needs) or 'no crate'}; above: {', '.join(direct) or 'no crate'}{more}"]
+                f"below it: {', '.join(self.crate.needs) or 'no crate'}; above: {', '.join(direct) or 'no crate'}{more}", *self.pages()]
+
+    def pages(self) -> list[str]:
+        """The pages that name the file: code by its module, an edit by its name."""
+        word = self.path.stem if self.path.suffix == ".edit" else f"{self.path.stem}{self.path.suffix}"
+        if self.kind in (Kind.PROOF, Kind.INDEX, Kind.PRELUDE, Kind.EXPORTS):
+            return []
+        named = re.compile(rf"(?<!\w){re.escape(word)}\b|{self.crate.name}/{self.path.stem}\b")
+        pages = [str(page.relative_to(ROOT)) for page in (*sorted(ROOT.glob("*.md")), *sorted((ROOT / "docs").glob("*.md")))
+                 if named.search(page.read_text())]
+        return [self.row(f"pages that name {word}", pages)] if pages else []
 
     def says(self) -> list[str]:
         if self.path.suffix == ".edit":
@@ -94,7 +104,7 @@ class Told:
             return [edit.text.splitlines()[0], f"refused by: {edit.refused}"]
         if self.kind is Kind.PROOF and (function := self.users.proved_by(self.path)):
             names = [clause.name or "a clause without a name" for clause in function.clauses if clause.kind == "ensures"]
-            what = "the goals" if self.path.stem == "Answers" else "the loops"
+            what = {"Answers": "the goals", "Invariants": "the loops"}.get(self.path.stem, "the proof")
             return [f"{what} of {self.function(function)}: {function.summary}", self.row("its contract ensures", names)]
         head = code_at(self.path).head if self.path.suffix == ".rt" else definitions_at(self.path).head
         return [sentence(head)] if head else []
@@ -154,7 +164,7 @@ class Told:
         if function.trait:
             return f"{function.shown}: called through the trait {function.trait}"
         is_law = function.is_law or function.changes_nothing
-        return f"{function.shown}: {'a law that no code calls' if is_law else 'no code calls it'}"
+        return f"{function.shown}: {'a law for readers, which no code calls' if is_law else 'no code calls it'}"
 
     def walks(self) -> list[str]:
         """The walks that pass through the file."""
@@ -228,14 +238,24 @@ class Told:
 
     def users_of_edit(self, edit: Edit) -> list[str]:
         changed = [it for pair in edit.pairs if (it := self.crate.function_of(pair))]
-        files = {pair.path for pair in edit.pairs}
         folders = set(self.crate.folders_of(edit))
         alike = [it.path.stem for it in self.crate.edits if it.path != edit.path and folders & set(self.crate.folders_of(it))]
-        pages = [str(page.relative_to(ROOT)) for page in sorted((ROOT / "docs").glob("*.md")) if edit.path.stem in page.read_text()]
-        found = [self.row("it changes", [*map(self.function, changed), *(sorted(files) if not changed else [])])]
+        found = [self.row("it changes", [*map(self.function, changed), *self.definitions_changed(edit)])]
         found += [self.row("which is called by", map(self.function, (it for function in changed for it in self.users.callers(function))))] \
             if changed else []
-        return [*found, self.row("other edits of it", alike), self.row("pages that name the edit", pages)]
+        return [*found, *([self.row("other edits of it", alike)] if alike else [])]
+
+    def definitions_changed(self, edit: Edit) -> list[str]:
+        """The definitions that an edit changes, each with the circles of its file; other files by their paths."""
+        found = []
+        for pair in (it for it in edit.pairs if not self.crate.function_of(it)):
+            path = self.crate.folder / pair.path
+            number = path.read_text().partition(pair.old)[0].count("\n") + 1 if path.is_file() else 0
+            names = [it.name for it in definitions_at(path).definitions.values() if it.number <= number] if path.suffix == ".antt" else []
+            circles = self.users.circles.of_file(path) if names else []
+            told = f", circle {' and '.join(map(str, circles))}" if circles else ""
+            found.append(f"{names[-1]} ({pair.path}{told})" if names else pair.path)
+        return found
 
     # ---- what it uses
 
@@ -272,8 +292,18 @@ class Told:
 
     # ---- what to do
 
-    def rule(self) -> str:
-        return self.kind.rule
+    def rule(self) -> list[str]:
+        """The rule for its kind, and of code which functions promise something, and which nothing."""
+        if self.kind is not Kind.CODE:
+            return [self.kind.rule]
+        functions = [it for it in code_at(self.path).functions if it.body is not None and not it.is_test]
+        free = [it.shown for it in functions if not it.clauses and not it.trait]
+        facts = len(re.findall(r"^ *(?:pub )?ghost \w+:", self.path.read_text(), re.M))
+        more = f", and its types state {facts} facts" if facts else ""
+        if len(free) == len(functions):
+            return [self.kind.rule, f"none of its {len(functions)} functions has a contract: the prover only sees that they can't fail{more}"]
+        told = f"{len(functions) - len(free)} of its {len(functions)} functions have a contract{more}"
+        return [self.kind.rule, f"{told}; none has {few(free, self.names)}" if free else told]
 
     def to_run(self) -> list[str]:
         """What to run after a change."""
