@@ -89,14 +89,16 @@ class Told:
                 f"below it: {', '.join(self.crate.needs) or 'no crate'}; above: {', '.join(direct) or 'no crate'}{more}", *self.pages()]
 
     def pages(self) -> list[str]:
-        """The pages that name the file: code by its module, an edit by its name."""
-        word = self.path.stem if self.path.suffix == ".edit" else f"{self.path.stem}{self.path.suffix}"
+        """The pages that name the file. If other crates have one of its name, the line names its crate, too."""
         if self.kind in (Kind.PROOF, Kind.INDEX, Kind.PRELUDE, Kind.EXPORTS):
             return []
-        named = re.compile(rf"(?<!\w){re.escape(word)}\b|{self.crate.name}/{self.path.stem}\b")
-        pages = [str(page.relative_to(ROOT)) for page in (*sorted(ROOT.glob("*.md")), *sorted((ROOT / "docs").glob("*.md")))
-                 if named.search(page.read_text())]
-        return [self.row(f"pages that name {word}", pages)] if pages else []
+        word = self.path.stem if self.path.suffix == ".edit" else self.path.name
+        every = (path for crate in self.users.crates.values() for path in crate.folder.glob(f"*/**/{self.path.name}"))
+        is_alone = sum("out" not in path.parts for path in every) == 1
+        named = re.compile(rf"(?<!\w){re.escape(word)}\b" if is_alone else rf"{self.crate.name}\b.*(?<!\w){re.escape(word)}\b")
+        pages = (*sorted(ROOT.glob("*.md")), *sorted((ROOT / "docs").glob("*.md")))
+        found = [str(page.relative_to(ROOT)) for page in pages if named.search(page.read_text())]
+        return [self.row("pages that name it", found)] if found else []
 
     def says(self) -> list[str]:
         if self.path.suffix == ".edit":
@@ -132,6 +134,7 @@ class Told:
     def users_of_code(self, code: Code) -> list[str]:
         """The callers of its functions, the files that import its types, and the walks that pass."""
         users, functions = self.users, [it for it in code.functions if not it.is_test]
+        tests = len(code.functions) - len(functions)
         exported = [it for it in functions if users.is_exported(it)]
         others = [it for it in functions if it not in exported and self.is_called_elsewhere(it)]
         names = {function.name for function in functions}
@@ -142,7 +145,7 @@ class Told:
         return [*self.table("exported functions, and who calls them", map(self.callers, exported)),
                 *self.table("other functions that other files call", map(self.callers, others)),
                 *self.table("types and constants, and who imports them", types),
-                *([f"{inner} more functions are called only in this file"] if inner else []),
+                *([f"functions that only this file calls: {inner}"] if inner else []), *([f"tests: {tests}"] if tests else []),
                 *([self.row("definitions and proofs that name its types", stating)] if stating else []), *self.walks()]
 
     def table(self, title: str, rows: Iterable[str]) -> list[str]:
@@ -168,7 +171,7 @@ class Told:
 
     def walks(self) -> list[str]:
         """The walks that pass through the file."""
-        if self.kind is Kind.TESTS:
+        if self.kind is Kind.TESTS or any(self.crate.name in walk.aside for walk in self.users.walks):
             return []
         counts = [(walk.name, sum(it.path == self.path for it in walk.calls)) for walk in self.users.walks]
         passing = [f"{name} ({count})" for name, count in counts if count]
@@ -299,11 +302,12 @@ class Told:
         functions = [it for it in code_at(self.path).functions if it.body is not None and not it.is_test]
         free = [it.shown for it in functions if not it.clauses and not it.trait]
         facts = len(re.findall(r"^ *(?:pub )?ghost \w+:", self.path.read_text(), re.M))
-        more = f", and its types state {facts} facts" if facts else ""
+        more = f"; facts that its types state: {facts}" if facts else ""
         if len(free) == len(functions):
             return [self.kind.rule, f"none of its {len(functions)} functions has a contract: the prover only sees that they can't fail{more}"]
-        told = f"{len(functions) - len(free)} of its {len(functions)} functions have a contract{more}"
-        return [self.kind.rule, f"{told}; none has {few(free, self.names)}" if free else told]
+        told = f"all of its {len(functions)} functions have a contract" if not free else \
+            f"{len(functions) - len(free)} of its {len(functions)} functions have a contract, but not {few(free, self.names)}"
+        return [self.kind.rule, told + more]
 
     def to_run(self) -> list[str]:
         """What to run after a change."""
@@ -318,7 +322,7 @@ class Told:
             importing = self.by_crate(self.users.importers_of(definitions_at(self.path)))
             named = [name for name in above if name in importing]
             return [f"if a statement changed, rt check also in {', '.join(named)}"] if named else []
-        if self.kind in (Kind.PROOF, Kind.INDEX, Kind.PRELUDE, Kind.TESTS, Kind.VALUES) or not above:
+        if self.kind in (Kind.PROOF, Kind.INDEX, Kind.PRELUDE, Kind.TESTS, Kind.VALUES, Kind.EXAMPLES) or not above:
             return []
         what = "a contract, a type or an export" if self.path.suffix == ".rt" else "a definition"
         return [f"if {what} changed, rt check also in {', '.join(above)}"]

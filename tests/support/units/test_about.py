@@ -65,7 +65,7 @@ class Planted(unittest.TestCase):
         told = self.lines("low/src/shape.rt")
         self.assertIn("largest: picked (middle/pick)", told)
         self.assertIn("Circle: middle/src/pick.rt, top/src/main.rt", told)
-        self.assertIn("2 more functions are called only in this file", told)
+        self.assertIn("functions that only this file calls: 2", told)
         self.assertIn("if a contract, a type or an export changed, rt check also in middle, top", told)
         self.assertIn("rt must-fail low has 1 about it: area", told)
 
