@@ -1,6 +1,6 @@
 """The texts of the crates, read in one way: code (by code_text.py), definitions and lemmas (.antt), wrong edits (.edit).
 
-Suites of tests/repository and scripts/walk stand on it; tests/repository/texts tests it.
+Suites of tests/repository, scripts/walk and scripts/about stand on it; tests/repository/texts tests it.
 """
 from __future__ import annotations
 
