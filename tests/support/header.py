@@ -16,13 +16,15 @@ POINTERS = {"const uint8_t": "c_char_p", "uint8_t": "c_void_p", "int64_t": "c_vo
 POINTERS |= {"size_t": "POINTER(c_size_t)", "uint32_t": "POINTER(c_uint32)"}
 DECLARED = "bindings/python/yokecairn/_declared.py"
 WIDE = 140  # signs in a line of it
+# The enums that the package doesn't use, by their first names: reasons are in a table of their own, and faults are read as texts.
+LEFT_OUT = {"TSP_NOT_A_SOLUTION", "TSP_LONG_LINE", "TSP_LONG_WORD", "TSP_FIELD_NAME"}
 
 
 class Header(NamedTuple):
-    """The numbers of all names of enums, the fields of each struct, and the result and the parameters of each call; each type is
-    that of ctypes."""
+    """The names of each enum with their numbers, the fields of each struct, and the result and the parameters of each call; each type
+    is that of ctypes."""
 
-    numbers: dict[str, int]
+    enums: list[dict[str, int]]
     structs: dict[str, list[tuple[str, str]]]
     calls: dict[str, tuple[str, list[str]]]
 
@@ -53,13 +55,14 @@ def header_of(text: str) -> Header:
         KeyError: a type isn't known here.
     """
     plain = re.sub(r"/\*.*?\*/|^#.*?$", "", text, flags=re.S | re.M)
-    numbers = {name: int(number) for body in re.findall(r"\benum \{(.*?)\}", plain, re.S) for name, number in re.findall(r"(\w+) = (\d+)", body)}
+    bodies = re.findall(r"\benum \{(.*?)\}", plain, re.S)
+    enums = [{name: int(number) for name, number in re.findall(r"(\w+) = (\d+)", body)} for body in bodies]
     structs = {name: [declared(it) for it in body.split(";")[:-1]] for name, body in re.findall(r"^struct (\w+) \{(.*?)^\};", plain, re.S | re.M)}
     calls = {}
     for result, name, parameters in re.findall(r"^(\w+) (tsp_\w+)\(([^)]*)\);", plain, re.M):
         given = [] if parameters == "void" else [declared(it)[1] for it in parameters.split(",")]
         calls[name] = type_of(result), given
-    return Header(numbers, structs, calls)
+    return Header(enums, structs, calls)
 
 
 def reasons_of(reasons: list[tuple[int, str, str, int]]) -> str:
@@ -91,7 +94,8 @@ def sentences_of(sentences: dict[str, str]) -> str:
 
 def module_of(header: Header, reasons: list[tuple[int, str, str, int]], sentences: dict[str, str]) -> str:
     """Python's module."""
-    numbers = "".join(f"{name.removeprefix('TSP_')} = {number}\n" for name, number in header.numbers.items())
+    numbers = "".join(f"{name.removeprefix('TSP_')} = {number}\n" for enum in header.enums if LEFT_OUT.isdisjoint(enum)
+                      for name, number in enum.items())
     structs = ""
     for name, fields in header.structs.items():
         rows = "".join(f'        ("{field}", {kind}),\n' for field, kind in fields)

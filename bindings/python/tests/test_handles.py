@@ -63,11 +63,6 @@ class Handles(unittest.TestCase):
         self.assertEqual((status, numbers.tolist()), (_library.REFUSED, [0]))
         self.assertEqual(handle.check(TOUR, None)[:2], (_library.REFUSED, b""))
 
-    def test_a_count_has_a_status(self):
-        self.assertEqual(_library.count(text_of("harbour.tsp")), (_library.DONE, 8))
-        self.assertEqual(_library.count(TOUR), (_library.FAULT, None))
-        self.assertEqual(_library.count(b"TYPE : TSP\nDIMENSION : 4\n7\n"), (_library.FAULT, None))
-
     def test_threads_share_one(self):
         handle = _library.Handle(text_of("harbour.tsp"))
         handle.bind(text_of("harbour.potentials"), _library.POTENTIALS)

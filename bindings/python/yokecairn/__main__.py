@@ -11,14 +11,13 @@ statuses, with these differences:
 - If a fault isn't explained, its line ends in the path and the wrong word, or in the system's message.
 """
 
-import io
 import json
 import os
 import sys
 from typing import IO, Any, Callable, List, Optional, Sequence, Tuple, Union
 
 from . import _library
-from .compare import Comparison, Judge, cells, line_of, rows_to, said_of, status_of
+from .compare import Comparison, Judge, csv_of, line_of, said_of, status_of
 from .contest import table
 from .faults import Error, Fault, OutOfMemory, error_of, located
 from .publishing import README, publish, verify
@@ -52,20 +51,12 @@ class Lines:
     def write(self, text: str) -> None:
         self.run.write(text.encode("utf-8", "surrogateescape"))
 
-    def row(self, *rows: Any) -> None:
-        """Writes rows of the table."""
-        lines = io.StringIO()
-        rows_to(lines, "\t").writerows(rows)
-        self.write(lines.getvalue())
-
     def head(self) -> None:
         """Writes what comes before all solutions."""
         if self.task.written == "text":
             self.write(self.judge.basis.text)
         elif self.task.written == "tsv":
-            header = io.StringIO()
-            rows_to(header, "\t").writeheader()
-            self.write(header.getvalue())
+            self.write(csv_of([], "\t"))
 
     def outcome(self, path: str) -> Outcome:
         """What comes of the solution at a path."""
@@ -81,7 +72,7 @@ class Lines:
         if self.task.written == "text":
             self.write(f"{line_of(path, outcome)}\n")
         elif self.task.written == "tsv":
-            self.row(cells(self.found.row(path, outcome)))
+            self.write(csv_of([self.found.row(path, outcome)], "\t", has_head=False))
         if self.counts:
             self.run.say(b"\r%d of %d" % (len(self.found), len(self.task.solutions)))
         explanation = "" if isinstance(outcome, Report) and outcome.yes else getattr(outcome, "explanation", "")

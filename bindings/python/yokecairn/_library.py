@@ -14,7 +14,7 @@ import sys
 import threading
 import weakref
 from array import array
-from ctypes import byref, c_int64, c_size_t, c_uint32
+from ctypes import byref, c_int64, c_size_t
 from pathlib import Path
 from typing import Any, Dict, Optional, Sequence, Tuple
 
@@ -35,8 +35,8 @@ DEVICE = 5
 # How a check gets its bound.
 ALONE, POTENTIALS, BRANCHES = _declared.BY_NONE, _declared.BY_POTENTIALS, _declared.BY_BRANCHES
 
-# The sections of points.
-COORDS, DISPLAY = _declared.POINTS_NODE_COORD, _declared.POINTS_DISPLAY_DATA
+# The section of points that costs are computed from.
+_COORDS = _declared.POINTS_NODE_COORD
 
 # The distances, and the layouts, by their numbers.
 KINDS, LAYOUTS = _words("DISTANCE_"), _words("LAYOUT_")
@@ -48,8 +48,7 @@ FORMS = {name.lower().replace("or_tools", "ortools").replace("_", "-"): number f
 SHOW, CONVERT, CHECK, BOUND = _declared.OF_SHOW, _declared.OF_CONVERT, _declared.OF_CHECK, _declared.OF_BOUND
 
 # The verdicts, by their numbers.
-TOUR, ROUTES, REJECTED = _declared.TOUR, _declared.ROUTES, _declared.REJECTED
-BOUNDED, NO_TOUR = _declared.BOUND, _declared.NO_TOUR
+TOUR, ROUTES, NO_TOUR = _declared.TOUR, _declared.ROUTES, _declared.NO_TOUR
 
 # The TYPEs of instances by their numbers from 1.
 TYPES = tuple(_words("TYPE_"))
@@ -98,7 +97,7 @@ class Result(_declared.tsp_result):
 
 _check, _bound, _explain = _call("tsp_check_result"), _call("tsp_bound_result"), _call("tsp_explain")
 _show, _convert, _solution = _call("tsp_show"), _call("tsp_convert"), _call("tsp_solution")
-_count, _points = _call("tsp_count"), _call("tsp_points")
+_points = _call("tsp_points")
 _open, _close, _bind, _version = _call("tsp_open"), _call("tsp_close"), _call("tsp_bind"), _call("tsp_version")
 _check_held, _points_held = _call("tsp_instance_check"), _call("tsp_instance_points")
 _weights_held, _matrix_held, _lengths_held = (_call(f"tsp_instance_{name}") for name in ("weights", "matrix", "lengths"))
@@ -180,17 +179,10 @@ def solution(text: bytes, instance: bytes, form: int, first: int, depot: int) ->
     return _written(_solution, *words, capacity=len(text) + REPORT)
 
 
-def count(text: bytes) -> Tuple[int, Optional[int]]:
-    """The status, and how many nodes an instance has; None where the text is none, or out of memory."""
-    nodes = c_uint32()
-    status = int(_count(text, len(text), byref(nodes)))
-    return status, nodes.value if status == DONE else None
-
-
-def points(text: bytes, section: int, nodes: int) -> Tuple[int, "array[int]"]:
+def points(text: bytes, nodes: int) -> Tuple[int, "array[int]"]:
     """The status, and x, y and z of node 1, 2, .. in counts of 10^-9."""
     out = array("q", bytes(24 * nodes))
-    return _points(text, len(text), section, *_slice(out)), out
+    return _points(text, len(text), _COORDS, *_slice(out)), out
 
 
 class Handle:
@@ -223,11 +215,11 @@ class Handle:
             status, told = _written(_check_held, *words, capacity=REPORT)
         return status, told, result
 
-    def points(self, section: int, nodes: int) -> Tuple[int, "array[int]"]:
+    def points(self, nodes: int) -> Tuple[int, "array[int]"]:
         """The status, and x, y and z of node 1, 2, .. in counts of 10^-9."""
         out = array("q", bytes(24 * nodes))
         with self._lock:
-            return _points_held(self._at, section, *_slice(out)), out
+            return _points_held(self._at, _COORDS, *_slice(out)), out
 
     def weights(self, pairs: "array[int]") -> Tuple[int, "array[int]"]:
         """The status, and the costs of the pairs, whose nodes follow each other."""

@@ -40,7 +40,8 @@ def _scaled(number: Decimal, scale: int) -> Decimal:
     return _EXACT.multiply(number, Decimal(scale))
 
 
-def _check_scale(scale: int) -> None:
+def check_scale(scale: int) -> None:
+    """Raises TypeError or ValueError where a scale isn't a whole number from 1 on."""
     if isinstance(scale, bool) or not isinstance(scale, int):
         raise TypeError(f"a scale is a whole number, and this is of type {_type(scale)}")
     if scale < 1:
@@ -49,7 +50,7 @@ def _check_scale(scale: int) -> None:
 
 def points(table: Any, axes: int, scale: int, decimals: Optional[int]) -> List[List[Decimal]]:
     """The coordinates of each point, multiplied, and rounded where decimals are named."""
-    _check_scale(scale)
+    check_scale(scale)
     if hasattr(table, "keys"):
         raise TypeError("points are rows of numbers, for node 1, 2, ..; a dict by node is the field node_coords")
     found = []
@@ -77,7 +78,7 @@ def rounded_down(rows: Sequence[Sequence[Decimal]], parts: int) -> List[List[int
 
 def matrix(table: Any, scale: int, rounded: bool) -> List[List[int]]:
     """The weights of each row, multiplied, with 0 in the diagonal."""
-    _check_scale(scale)
+    check_scale(scale)
     rows = _rows(table, "weights")
     return [_weights(row, number, len(rows), scale, rounded) for number, row in enumerate(rows)]
 

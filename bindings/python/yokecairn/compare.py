@@ -13,7 +13,7 @@ from typing import Any, Callable, Dict, Iterable, Iterator, List, Mapping, NoRet
 
 from . import _library, plots
 from ._declared import REASONS
-from .faults import Error, Fault, OutOfMemory, text_of
+from .faults import Error, Fault, OutOfMemory, readable, text_of
 from .problem import Path, Problem, Source, parse, text_and_path
 from .report import Outcome, Report, Solution, bound_of, certificate_of, report_of, solution_of
 from .solution import Shape, best_known, shape_with
@@ -398,14 +398,7 @@ class Comparison(Sequence[Outcome]):
         """The row of a solution."""
         row: Dict[str, Any] = dict.fromkeys(COLUMNS)
         row.update(instance=self.instance, solution=name, bound=self.basis.bound, best=self.best)
-        if not isinstance(outcome, Report):
-            return {**row, "verdict": "unread" if isinstance(outcome, OSError) else "fault", "detail": said_of(outcome)}
-        row.update(length=outcome.length, gap=outcome.gap, gap_percent=outcome.gap_percent, routes=outcome.routes)
-        if outcome.yes and self.best is not None:
-            row["best_percent"] = outcome.percent_over(self.best)
-        if outcome.yes:
-            return {**row, "verdict": "optimal" if outcome.optimal else "yes"}
-        return {**row, "verdict": "no", "detail": outcome.detail}
+        return {**row, **cells_of(outcome, self.best)}
 
     def as_dict(self) -> Dict[str, Any]:
         """All of it as numbers, texts and lists that `json.dumps` takes."""
@@ -418,15 +411,7 @@ class Comparison(Sequence[Outcome]):
 
         What isn't known is empty. Percents have four decimals.
         """
-        lines = io.StringIO()
-        writer = rows_to(lines, separator)
-        writer.writeheader()
-        writer.writerows(map(cells, self.as_rows()))
-        if path is None:
-            return lines.getvalue()
-        with open(path, "w", encoding="utf-8", errors="surrogateescape", newline="") as file:
-            file.write(lines.getvalue())
-        return None
+        return put(csv_of(self.as_rows(), separator), path)
 
     def to_dataframe(self) -> Any:
         """The rows as a DataFrame of pandas, which has to be installed.
@@ -465,16 +450,16 @@ class Comparison(Sequence[Outcome]):
         sides = ["left" if name in ("solution", "verdict", "detail") else "right" for name in head]
 
         def line(tag: str, row: List[str]) -> str:
-            cells = (f'<{tag} style="text-align: {side}">{html.escape(_shown(it))}</{tag}>' for it, side in zip(row, sides))
+            cells = (f'<{tag} style="text-align: {side}">{html.escape(readable(it))}</{tag}>' for it, side in zip(row, sides))
             return f"<tr>{''.join(cells)}</tr>"
 
-        parts = (f"<li>{html.escape(_shown(f'{name}: {why}'))}</li>" for name, why in self.rejected())
+        parts = (f"<li>{html.escape(readable(f'{name}: {why}'))}</li>" for name, why in self.rejected())
         rejected = "".join(parts)
         above = f"<p>Not accepted:</p><ul>{rejected}</ul>" if rejected else ""
         body = "".join(line("td", row) for row in rows[:_MOST_ROWS])
         table = f"<table><thead>{line('th', head)}</thead><tbody>{body}</tbody></table>" if rows else ""
         rest = f"<p>and {len(rows) - _MOST_ROWS} more</p>" if len(rows) > _MOST_ROWS else ""
-        return f"{above}{table}{rest}<p>{html.escape(_shown(self.summary()))}</p>"
+        return f"{above}{table}{rest}<p>{html.escape(readable(self.summary()))}</p>"
 
     def plot(self, ax: Any = None) -> Any:
         """Draws the length of each accepted solution beside the bound and the best-known length, by matplotlib,
@@ -486,9 +471,15 @@ class Comparison(Sequence[Outcome]):
         return plots.plot_comparison(self, ax)
 
 
-def _shown(text: str) -> str:
-    """A text with a sign in the place of each byte that is no UTF-8."""
-    return text.encode("utf-8", "surrogateescape").decode("utf-8", "replace")
+def cells_of(outcome: Outcome, best: Optional[int]) -> Dict[str, Any]:
+    """What the row of a solution says of its outcome."""
+    if not isinstance(outcome, Report):
+        return {"verdict": "unread" if isinstance(outcome, OSError) else "fault", "detail": said_of(outcome)}
+    if not outcome.yes:
+        return {"verdict": "no", "detail": outcome.detail}
+    found = {name: getattr(outcome, name) for name in ("length", "gap", "gap_percent", "routes")}
+    best_percent = None if best is None else outcome.percent_over(best)
+    return {**found, "verdict": "optimal" if outcome.optimal else "yes", "best_percent": best_percent}
 
 
 def cells(row: Mapping[str, Any], decimal: Sequence[str] = _PERCENTS) -> Dict[str, str]:
@@ -502,9 +493,29 @@ def cells(row: Mapping[str, Any], decimal: Sequence[str] = _PERCENTS) -> Dict[st
     return {name: cell(name, value) for name, value in row.items()}
 
 
-def rows_to(file: Any, separator: str, columns: Sequence[str] = COLUMNS) -> "csv.DictWriter[str]":
-    """A writer of rows with these columns."""
-    return csv.DictWriter(file, columns, delimiter=separator, lineterminator="\n")
+def csv_of(
+    rows: Iterable[Mapping[str, Any]],
+    separator: str,
+    columns: Sequence[str] = COLUMNS,
+    decimal: Sequence[str] = _PERCENTS,
+    has_head: bool = True,
+) -> str:
+    """Rows as lines of cells, below the names of the columns."""
+    lines = io.StringIO()
+    writer = csv.DictWriter(lines, columns, delimiter=separator, lineterminator="\n")
+    if has_head:
+        writer.writeheader()
+    writer.writerows(cells(row, decimal) for row in rows)
+    return lines.getvalue()
+
+
+def put(text: str, path: Optional[Path]) -> Optional[str]:
+    """Writes a text to a path; or returns it where there is none."""
+    if path is None:
+        return text
+    with open(path, "w", encoding="utf-8", errors="surrogateescape", newline="") as file:
+        file.write(text)
+    return None
 
 
 def compare(

@@ -84,7 +84,6 @@ class Fault(Error, ValueError):
         found = f": {self.found}" if self.found else ""
         return where + self.told + found + (f"\n{self.explanation}" if self.explanation else "")
 
-
     def of_file(self, number: int) -> "Fault":
         """The same fault, of the text with another number."""
         return type(self)(re.sub(r"\Afile \d+", f"file {number}", self.told), self.explanation, self.path, self.found)
@@ -149,6 +148,11 @@ def _found(text: bytes, line: int, word: int, is_unknown: bool, marks: str = "")
 def text_of(told: bytes) -> str:
     """Bytes as text. Bytes that are no UTF-8 come back as they were by `surrogateescape`."""
     return told.decode("utf-8", "surrogateescape")
+
+
+def readable(text: str) -> str:
+    """A text with a sign in the place of each byte that is no UTF-8."""
+    return text.encode("utf-8", "surrogateescape").decode("utf-8", "replace")
 
 
 def located(fault: Fault) -> str:

@@ -11,7 +11,6 @@ from typing import Any, Callable, Dict, Iterable, Iterator, List, Mapping, Seque
 
 from .faults import text_of
 
-Number = Union[int, Decimal]
 Step = Union[Tuple[int, int], List[Tuple[int, int]]]
 
 # The names of fields, and their keywords or sections, in canonical order. COMMENT and unknown keywords

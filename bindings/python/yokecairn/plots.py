@@ -6,7 +6,7 @@ import os
 import textwrap
 from typing import Any, Iterable, List, Sequence, Set, Tuple
 
-from .faults import NodeError
+from .faults import NodeError, readable
 
 Pair = Tuple[int, int]
 
@@ -100,14 +100,13 @@ def _draw_nodes(ax: Any, places: Any, depots: Set[int]) -> None:
 
 def _name(name: str) -> str:
     """The end of a name, which tells paths apart."""
-    plain = name.encode("utf-8", "surrogateescape").decode("utf-8", "replace")
+    plain = readable(name)
     return plain if len(plain) <= _LONGEST else f"..{plain[2 - _LONGEST:]}"
 
 
 def _title(text: str) -> str:
     """A title in lines that a picture has width for."""
-    plain = text.encode("utf-8", "surrogateescape").decode("utf-8", "replace")
-    return "\n".join(textwrap.wrap(plain, _WIDEST)[:_MOST_LINES])
+    return "\n".join(textwrap.wrap(readable(text), _WIDEST)[:_MOST_LINES])
 
 
 def _labels(names: Sequence[str]) -> List[str]:

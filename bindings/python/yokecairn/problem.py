@@ -479,15 +479,13 @@ class Problem:
             raise error_of(handle.status, b"file 1: wrong kind" if handle.status == _library.FAULT else b"out of memory")
         return handle
 
-    def _node_counts(self, section: int) -> "array[int]":
+    def _node_counts(self) -> "array[int]":
         if self.type in _WEIGHTED:
-            status, counts = self._handle.points(section, self._nodes())
-        else:
-            status, counts = _library.points(self._text, section, self._nodes())
-        return self._numbers(status, counts)
+            return self._numbers(*self._handle.points(self._nodes()))
+        return self._numbers(*_library.points(self._text, self._nodes()))
 
     def _node_points(self) -> List[Tuple[int, ...]]:
-        counts = self._node_counts(_library.COORDS)
+        counts = self._node_counts()
         return [(), *zip(counts[::3], counts[1::3], counts[2::3])]
 
     def counts(self) -> memoryview:
@@ -500,7 +498,7 @@ class Problem:
         """
         if "NODE_COORD_SECTION" not in self._sections:
             raise KeyError("NODE_COORD_SECTION")
-        return _table(self._node_counts(_library.COORDS), self._nodes(), 3)
+        return _table(self._node_counts(), self._nodes(), 3)
 
     def _whole_matrix(self) -> "array[int]":
         return self._numbers(*self._handle.matrix(self._nodes()))
@@ -689,7 +687,6 @@ def _checked(path: Path) -> Path:
 
 # A path, the text itself, or a file that was read.
 Source = Union[Path, bytes, Problem]
-
 
 
 def text_and_path(source: Source) -> Tuple[bytes, Optional[str]]:

@@ -9,7 +9,7 @@ from dataclasses import dataclass
 from decimal import ROUND_CEILING, ROUND_FLOOR, Context, Decimal
 from typing import Any, Callable, Dict, Iterable, List, Mapping, NamedTuple, Optional, Sequence, Tuple, Union
 
-from . import _library
+from . import _library, arrays
 from ._declared import REASONS
 from .faults import error_of, explained, text_of
 from .problem import Problem, Source, text_and_path
@@ -126,10 +126,7 @@ class Report:
 
     def _real(self, length: int, edges: int, scale: int, rounding: str) -> Tuple[Decimal, Decimal]:
         """The least and the most real length of a solution with this whole length and so many edges."""
-        if isinstance(scale, bool) or not isinstance(scale, int):
-            raise TypeError(f"a scale is a whole number, and this is of type {_type(scale)}")
-        if scale < 1:
-            raise ValueError(f"a scale is 1 or more, and this is {scale}")
+        arrays.check_scale(scale)
         if rounding not in _ROUNDINGS:
             raise ValueError(f"a rounding is one of {', '.join(_ROUNDINGS)}, and this is {rounding!r:.60}")
         less, more = _ROUNDINGS[rounding]
@@ -177,10 +174,6 @@ class Report:
 def _not_judged(lines: Sequence[str]) -> Tuple[str, ...]:
     """The unknown keywords of an instance, by the lines of a report."""
     return tuple(it[len("not judged ") :] for it in lines if it.startswith("not judged "))
-
-
-def _type(value: object) -> str:
-    return type(value).__name__
 
 
 def solution_and_path(solution: Solution, shape: Callable[[], Shape]) -> Tuple[bytes, Optional[str]]:
@@ -297,7 +290,7 @@ def _length(length: Optional[int]) -> Optional[int]:
         whole = operator.index(length)
     except TypeError:
         raise TypeError(
-            f"a length is a whole number, and this is of type {_type(length)}: {length!r:.60}. Lengths of TSPLIB"
+            f"a length is a whole number, and this is of type {type(length).__name__}: {length!r:.60}. Lengths of TSPLIB"
             " are whole, and one in real numbers can't be compared with them"
         ) from None
     if not -(2**63) <= whole < 2**63:

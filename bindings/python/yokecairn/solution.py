@@ -46,10 +46,7 @@ def tour_text(tours: Iterable[Iterable[int]]) -> bytes:
     """A text of TYPE TOUR with these tours, or routes."""
     lines = ["TYPE : TOUR", "TOUR_SECTION"]
     for tour in tours:
-        try:
-            lines += [*map(str, map(operator.index, tour)), "-1"]
-        except TypeError:
-            raise TypeError(f"a tour is a list of nodes, whole numbers, and this is none: {tour!r:.60}") from None
+        lines += [*map(str, map(_whole_node, tour)), "-1"]
     return "\n".join([*lines, "EOF", ""]).encode()
 
 

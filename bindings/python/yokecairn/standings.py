@@ -2,12 +2,12 @@
 
 import html
 import importlib
-import io
 import json
 import re
 from typing import Any, Dict, Iterable, List, Mapping, NamedTuple, Optional, Sequence, Tuple
 
-from .compare import Basis, cells, rows_to, said_of
+from .compare import Basis, cells_of, csv_of, put, said_of
+from .faults import readable
 from .problem import Path
 from .report import Outcome, Report
 
@@ -126,18 +126,9 @@ class Table:
         best = self._found[instance].best
         rows = []
         for run, outcome in self.runs(instance, solver).items():
-            names = ("length", "best_percent", "gap", "gap_percent", "routes", "detail")
-            row: Dict[str, Any] = {"run": run, "verdict": "no", **dict.fromkeys(names)}
-            row["seconds"] = self._seconds.get((solver, instance, run))
-            if not isinstance(outcome, Report):
-                row.update(verdict="unread" if isinstance(outcome, OSError) else "fault", detail=said_of(outcome))
-            elif not outcome.yes:
-                row.update(detail=outcome.detail)
-            else:
-                row.update(verdict="optimal" if outcome.optimal else "yes", length=outcome.length, routes=outcome.routes)
-                row.update(gap=outcome.gap, gap_percent=outcome.gap_percent)
-                row.update(best_percent=None if best is None else outcome.percent_over(best))
-            rows.append(row)
+            names = ("verdict", "length", "best_percent", "gap", "gap_percent", "routes", "detail")
+            row: Dict[str, Any] = {"run": run, **dict.fromkeys(names), **cells_of(outcome, best)}
+            rows.append({**row, "seconds": self._seconds.get((solver, instance, run))})
         return rows
 
     def rejected(self) -> List[Tuple[str, str, str]]:
@@ -253,22 +244,18 @@ class Table:
 
     def to_json(self, path: Optional[Path] = None) -> Optional[str]:
         """Writes `as_dict()` to a path; or returns that text."""
-        return _put(json.dumps(self.as_dict(), indent=1) + "\n", path)
+        return put(json.dumps(self.as_dict(), indent=1) + "\n", path)
 
     def to_csv(self, path: Optional[Path] = None) -> Optional[str]:
         """Writes the rows to a path, below a line with the names of the columns; or returns that text."""
-        lines = io.StringIO()
-        writer = rows_to(lines, ",", COLUMNS)
-        writer.writeheader()
-        writer.writerows(cells(row, _REAL) for row in self.as_rows())
-        return _put(lines.getvalue(), path)
+        return put(csv_of(self.as_rows(), ",", COLUMNS, _REAL), path)
 
     def to_markdown(self, path: Optional[Path] = None) -> Optional[str]:
         """Writes the table in Markdown to a path, below what isn't accepted; or returns that text."""
-        head, *rows = ([re.sub(r"([\\|*_`<\[])", r"\\\1", _plain(cell)) for cell in row] for row in self._grid())
-        above = [f"- {line}" for line in map(_plain, self._above())]
+        head, *rows = ([re.sub(r"([\\|*_`<\[])", r"\\\1", readable(cell)) for cell in row] for row in self._grid())
+        above = [f"- {line}" for line in map(readable, self._above())]
         lines = [head, ["---", *["---:"] * (len(head) - 1)], *rows]
-        return _put("\n".join([*above, *[""] * bool(above), *(f"| {' | '.join(row)} |" for row in lines), ""]), path)
+        return put("\n".join([*above, *[""] * bool(above), *(f"| {' | '.join(row)} |" for row in lines), ""]), path)
 
     def to_latex(self, path: Optional[Path] = None) -> Optional[str]:
         """Writes the table as a `tabular` of LaTeX to a path, with what isn't accepted in comments above; or returns that
@@ -279,19 +266,19 @@ class Table:
         lines = [f"{' & '.join(row)} \\\\" for row in rows]
         count = len(self.instances)
         body = [begin, "\\hline", f"{' & '.join(head)} \\\\", "\\hline", *lines[:count], "\\hline", *lines[count:], "\\hline"]
-        return _put("\n".join([*above, *body, "\\end{tabular}", ""]), path)
+        return put("\n".join([*above, *body, "\\end{tabular}", ""]), path)
 
     def to_html(self, path: Optional[Path] = None) -> Optional[str]:
         """Writes the table as HTML to a path, below what isn't accepted; or returns that text."""
 
         def line(tag: str, row: List[str]) -> str:
-            return "<tr>" + "".join(f"<{tag}>{html.escape(_plain(it))}</{tag}>" for it in row) + "</tr>"
+            return "<tr>" + "".join(f"<{tag}>{html.escape(readable(it))}</{tag}>" for it in row) + "</tr>"
 
         head, *rows = self._grid()
-        above = "".join(f"<li>{html.escape(_plain(it))}</li>" for it in self._above())
+        above = "".join(f"<li>{html.escape(readable(it))}</li>" for it in self._above())
         body = "\n".join(line("td", row) for row in rows)
         listed = f"<ul>{above}</ul>\n" if above else ""
-        return _put(f"{listed}<table>\n<thead>{line('th', head)}</thead>\n<tbody>\n{body}\n</tbody>\n</table>\n", path)
+        return put(f"{listed}<table>\n<thead>{line('th', head)}</thead>\n<tbody>\n{body}\n</tbody>\n</table>\n", path)
 
     def _repr_html_(self) -> str:
         return self.to_html() or ""
@@ -321,21 +308,7 @@ def _decimals(number: Optional[float], places: int = 4) -> str:
     return "" if number is None else f"{number:.{places}f}"
 
 
-def _plain(text: str) -> str:
-    """A text with a sign in the place of each byte that is no UTF-8."""
-    return text.encode("utf-8", "surrogateescape").decode("utf-8", "replace")
-
-
 def _latex(text: str) -> str:
     """A text of LaTeX that shows this one."""
     named = {"\\": r"\textbackslash{}", "~": r"\textasciitilde{}", "^": r"\textasciicircum{}"}
-    return re.sub(r"[\\~^&%$#_{}]", lambda found: named.get(found[0], f"\\{found[0]}"), _plain(text))
-
-
-def _put(text: str, path: Optional[Path]) -> Optional[str]:
-    """Writes a text to a path; or returns it where there is none."""
-    if path is None:
-        return text
-    with open(path, "w", encoding="utf-8", errors="surrogateescape", newline="") as file:
-        file.write(text)
-    return None
+    return re.sub(r"[\\~^&%$#_{}]", lambda found: named.get(found[0], f"\\{found[0]}"), readable(text))
