@@ -1,4 +1,4 @@
-"""Routes judged plainly, from what docs/format.md says of them: plans one by one, and the runs of a leaf by recursion,
+"""Routes judged plainly, from what docs/format.md says of them: plans one by one, and all runs of a leaf, state by state,
 without any pruning or dominance. For tests/second/memory and tests/second/run."""
 from __future__ import annotations
 
@@ -12,6 +12,8 @@ FIRST_ROW = 10_001  # behind the nodes: the index of the first row's multiplier
 Cost = Callable[[int, int], int]
 Limit = tuple[int, int, bool]  # a family's place, t, and whether it is crossed at most 2t times
 State = tuple[int, int, frozenset[int], frozenset[int]]  # load, last customer, what it remembers, open rows
+Link = tuple[int, int, tuple[int, ...]]  # two nodes, and the rows that a run pays for from one to the other
+Step = tuple[int, int]  # the places of a link, and of the state after it
 
 
 def plans(fleet: recheck.Fleet) -> Iterator[list[list[int]]]:
@@ -55,6 +57,7 @@ class Runs:
 
     def __init__(self, certificate: Certificate) -> None:
         fleet, self.rows = certificate.fleet, certificate.rows
+        self.depot = fleet.depot
         whole = {node: fleet.demands[node] // certificate.unit for node in fleet.customers}
         light = sum(load == 0 for load in whole.values())
         self.load = {node: load * (light + 1) or 1 for node, load in whole.items()}
@@ -86,6 +89,24 @@ class Runs:
             found.append((paid, (load + more, node, known, frozenset(still))))
         return found
 
+    @cached_property
+    def table(self) -> tuple[list[Link], list[Step], list[list[Step]]]:
+        """All links, the first steps of runs, and the steps from each state. Heavier states come first, so that those after a
+        step are known before it. The depot at the end of a run has place 0."""
+        found, rest = set(self.starts()), list(self.starts())
+        while rest:
+            fresh = {after for _, after in self.steps(rest.pop())} - found
+            found |= fresh
+            rest += fresh
+        states = sorted(found, key=lambda state: -state[0])
+        places, links = {state: place for place, state in enumerate(states, 1)}, dict[Link, int]()
+        link = lambda i, j, *paid: links.setdefault((i, j, paid), len(links))
+        firsts = [(link(self.depot, state[1]), places[state]) for state in self.starts()]
+        home = lambda last: (link(last, self.depot), 0)
+        steps = [[home(state[1]), *((link(state[1], after[1], *paid), places[after]) for paid, after in self.steps(state))]
+                 for state in states]
+        return list(links), firsts, steps
+
 
 class Leaf:
     """A leaf with its numbers by index."""
@@ -116,12 +137,12 @@ class Leaf:
 
     def least(self) -> int | None:
         """The least weight of a run, or None if there is none."""
-
-        @cache
-        def rest(state: State) -> int:
-            return min([self.weight(state[1], self.fleet.depot), *(cost + rest(after) for cost, after in self.steps(state))])
-
-        return min((cost + rest(state) for cost, state in self.starts()), default=None)
+        links, firsts, states = self.runs.table
+        weights = [self.weight(i, j) + sum(self.gains[row] for row in paid) for i, j, paid in links]
+        rests = [0]  # from each state to the depot
+        for steps in states:
+            rests.append(min([weights[link] + rests[after] for link, after in steps]))
+        return min([weights[link] + rests[after] for link, after in firsts], default=None)
 
     def kept_states(self) -> int:
         """How many states have starts of runs that could end below twice the depot's potential by the cheapest ways home, on
