@@ -1,4 +1,4 @@
-"""What the benchmarks share that run a program beside bench/native."""
+"""What the benchmarks share that compare the program with bench/native."""
 from __future__ import annotations
 
 import os
