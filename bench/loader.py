@@ -1,6 +1,7 @@
-"""A loader in pure Python, in the style of the package tsplib95: values in dicts, a function for each weight.
+"""A loader in pure Python, in the style of the package tsplib95: values in dicts, and a function for each weight.
 
-bench/compare runs it beside the program. It reads what that makes, and measures tours: it checks neither the file nor that a tour is one.
+bench/compare runs it next to the program. It reads the files that bench/compare makes, and measures tours, but it checks neither
+the files nor the tours.
 """
 import math
 import re
