@@ -284,8 +284,8 @@ class Told:
         return shown if crate == self.crate.name else f"{crate}/{shown}"
 
     def imports(self, file: Definitions) -> list[str]:
-        heads, modules = self.users.heads, dict.fromkeys(module for module, _ in file.uses.values())
-        homes = {heads.home(key) for key in file.uses.values()} if self.kind is not Kind.PRELUDE else set(modules)
+        imports, modules = self.users.imports, dict.fromkeys(module for module, _ in file.uses.values())
+        homes = {imports.home(key) for key in file.uses.values()} if self.kind is not Kind.PRELUDE else set(modules)
         own = sorted(module for module in homes if module.startswith("tsp_") and ".declared." not in module and not module.endswith(".Goals"))
         return [self.row("imports", map(self.module, own))] if own else []
 

@@ -11,10 +11,11 @@ from pathlib import Path
 from circles import MEANINGS, Circles
 from code_text import Clause, Code, Function
 from crates_text import NAME, Crate, Definitions, Edit, Key, code_at, definitions_at
-from heads import Heads, module_of
 from walks.body import Body
 from walks.walk import Walk, all_walks
 from walks.world import World
+
+from .imports import Imports, module_of
 
 WORD = re.compile(NAME)
 
@@ -33,7 +34,7 @@ class Users:
     """The crates, and who uses what in them."""
 
     def __init__(self, crates: dict[str, Crate]) -> None:
-        self.crates, self.world, self.heads = crates, World(crates), Heads(crates)
+        self.crates, self.world, self.imports = crates, World(crates), Imports(crates)
         self.files = self.world.files
 
     @cached_property
@@ -108,7 +109,7 @@ class Users:
         """The files that import a file of definitions or lemmas; of a prelude, those that import what it passes on."""
         module = module_of(self.crate_of(file.path), file.path)
         if file.path.stem != "Prelude":
-            return self.heads.users[module]
+            return self.imports.users[module]
         crate = self.crate_of(file.path)
         every = [*((it.path, it.uses) for it in (*crate.specs, *crate.lemmas)), *((it.path, it.ghost_uses) for it in crate.code)]
         return {path for path, uses in every if any(source == module for source, _ in uses.values())}
@@ -119,14 +120,14 @@ class Users:
         found: dict[str, set[Path]] = defaultdict(set)
         for path in self.importers_of(file):
             keys = definitions_at(path).uses.values() if path.suffix == ".antt" else code_at(path).ghost_uses.values()
-            for key in (it for it in keys if self.heads.home(it) == module):
+            for key in (it for it in keys if self.imports.home(it) == module):
                 found[key[1].partition(" as ")[0]].add(path)
         return found
 
     def stating(self, file: Code) -> set[Path]:
         """The files of definitions and proofs that name a type of a file of code."""
         prefix = f"{file.crate}.specs.declared.{file.place.replace('/', '.')}."
-        return {path for module, paths in self.heads.users.items() if module.startswith(prefix) for path in paths if path.suffix == ".antt"}
+        return {path for module, paths in self.imports.users.items() if module.startswith(prefix) for path in paths if path.suffix == ".antt"}
 
     @cached_property
     def named_by(self) -> dict[Key, set[Key]]:
