@@ -45,7 +45,7 @@ class Lines:
             return file.read()
 
     def best_of(self, word: str) -> Union[int, bytes]:
-        """The best-known length: the word itself, where it is a whole number and no file; or the text of a file."""
+        """The best-known length: the word itself, if it is a whole number and no file; or the text of a file."""
         is_length = word.isascii() and word.isdigit() and not os.path.exists(word)
         return int(word) if is_length else self.text_of(word)
 
@@ -121,7 +121,7 @@ def _status(found: Table) -> int:
 
 
 class Bar:
-    """A bar on standard error, where that is a terminal: how many instances are done."""
+    """A bar on standard error, if that is a terminal: how many instances are done."""
 
     def __init__(self, run: Any) -> None:
         self.run = run
@@ -301,7 +301,7 @@ class Run:
             raise Unreadable(file, path, fault) from None
 
     def unreadable(self, fault: Unreadable, task: Task, texts: List[bytes]) -> int:
-        """Tells of the first file with a fault, where one can't be read."""
+        """Reports the first file with a fault, if one can't be read."""
         for number, text in enumerate(texts, 1):
             status, told = _library.show(text)
             told = told.replace(b"file 1:", b"file %d:" % number, 1)

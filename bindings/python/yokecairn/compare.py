@@ -125,7 +125,7 @@ class Judge:
 
     @cached_property
     def name(self) -> str:
-        """The NAME of the instance; it is empty where there is none."""
+        """The NAME of the instance; empty if there is none."""
         first = text_of(_library.show(self.instance)[1]).partition("\n")[0]
         return first[len("name ") :] if first.startswith("name ") else ""
 
@@ -181,7 +181,7 @@ class Judge:
 
     def outcome(self, solution: Solution, explain: bool = False, path: Optional[str] = None) -> Outcome:
         """What comes of a solution: its report, or the exception that says why it has none. `path` is where it
-        was, where it is a text."""
+        was, if it is a text."""
         try:
             return self.report(*solution_of(solution, lambda: self._shape, self.is_foreign, self.claims, path), explain)
         except OutOfMemory:
@@ -359,7 +359,7 @@ class Comparison(Sequence[Outcome]):
         return [(name, row["detail"]) for name, it, row in rows if not (isinstance(it, Report) and it.yes)]
 
     def shortest(self) -> Optional[Tuple[str, Report]]:
-        """The first shortest solution of those that are accepted; None where none is."""
+        """The first of the shortest accepted solutions; None if none is accepted."""
         accepted = self.accepted()
         return min(accepted, key=lambda pair: pair[1].length or 0) if accepted else None
 

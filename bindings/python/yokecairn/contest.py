@@ -24,7 +24,7 @@ Progress = Callable[[int, int, str], None]
 
 
 class Entry(NamedTuple):
-    """A solution of an instance by a solver, with the certificate of the instance, where there is one. A solver that has
+    """A solution of an instance by a solver, with the certificate of the instance, if there is one. A solver that has
     several solutions of an instance names each by its run."""
 
     instance: Path
@@ -42,7 +42,7 @@ class Contest:
         instances: the path of each instance, and its certificate, by its name.
         entries: the solutions.
         solvers: all that have a folder, also an empty one.
-        seconds: how long a run took, by its solver, instance and run, where a file `times.csv` says so.
+        seconds: how long a run took, by its solver, instance and run, if a file `times.csv` says so.
     """
 
     def __init__(self) -> None:
@@ -80,7 +80,7 @@ class Contest:
 
     def _parts(self, file: _Path) -> Tuple[str, str]:
         """The instance and the run that the name of a file has: `harbour` and `run1` of harbour.run1.tour. The instance is
-        empty where there is none."""
+        empty if there is none."""
         parts = file.name.split(".")
         for count in range(len(parts) - 1, 0, -1):
             name = ".".join(parts[:count])

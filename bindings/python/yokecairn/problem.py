@@ -306,7 +306,7 @@ class Problem:
 
     def unused_field(self) -> Optional[str]:
         """The first field of an instance that its TYPE or its EDGE_WEIGHT_TYPE doesn't use, which `strict` of `check` rejects
-        with `NotUsed`, by its keyword or section; None where each is used."""
+        with `NotUsed`, by its keyword or section; None if each is used."""
         used = {*canonical_fields.USED}
         if self.type == "CVRP":
             used |= {"CAPACITY", "DEMAND_SECTION", "DEPOT_SECTION"}
@@ -467,7 +467,7 @@ class Problem:
         return product(self.get_nodes(), self.get_nodes())
 
     def _weight_kind(self) -> int:
-        """The number of the distance; 0 where the weights are listed."""
+        """The number of the distance; 0 if the weights are listed."""
         if self.type not in _WEIGHTED:
             raise WrongKind("file 1: wrong kind")
         return _library.KINDS.get(self.edge_weight_type or "", 0)
@@ -693,7 +693,7 @@ Source = Union[Path, bytes, Problem]
 
 
 def text_and_path(source: Source) -> Tuple[bytes, Optional[str]]:
-    """The text of a source, and its path where it is one."""
+    """The text of a source, and its path if it is one."""
     if isinstance(source, Problem):
         return source.to_bytes(), None
     if isinstance(source, (bytes, bytearray)):

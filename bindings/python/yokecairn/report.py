@@ -184,7 +184,7 @@ def _type(value: object) -> str:
 
 
 def solution_and_path(solution: Solution, shape: Callable[[], Shape]) -> Tuple[bytes, Optional[str]]:
-    """The text of a solution, and its path where it is one. `shape` tells the shape of the instance, if that is asked for."""
+    """The text of a solution, and its path if it is one. `shape` tells the shape of the instance, if that is asked for."""
     if isinstance(solution, (Problem, bytes, bytearray, str, os.PathLike)):
         return text_and_path(solution)
     return tour_text(tours_of(solution, shape)), None
@@ -246,8 +246,8 @@ def check(
 def solution_of(
     solution: Solution, shape: Callable[[], Shape], foreign: Optional[bool], claims: bool, path: Optional[str] = None
 ) -> Tuple[bytes, Optional[str], Optional[int]]:
-    """The text of a solution that is judged, its path where it has one, and the length that it claims. `path` is where
-    it was, where it is a text.
+    """The text of a solution that is judged, its path if it has one, and the length that it claims. `path` is where
+    it was, if it is a text.
 
     Raises:
         SolutionError: it is of another program, and isn't read.
@@ -270,7 +270,7 @@ def report_of(
     strict: bool = False,
 ) -> Report:
     """The report of a check of these texts: of the instance, the solution and the certificate. A handle has the
-    first and the third, where it is given."""
+    first and the third, if it is given."""
     if handle is None:
         status, told, result = _library.check_result(*texts, by, length, strict)
     else:

@@ -26,13 +26,13 @@ class Shape(NamedTuple):
 
 
 def shape_of(instance: bytes) -> Shape:
-    """The shape of an instance by its text; nothing is known where that has a fault."""
+    """The shape of an instance by its text; nothing is known if it has a fault."""
     status, shown = _library.show(instance)
     return Shape(b"type CVRP" in shown.split(b"\n"), instance) if status == _library.DONE else Shape()
 
 
 def shape_with(nodes: int, depot: Optional[int]) -> Shape:
-    """A shape with so many nodes, and a depot where it is of routes. It is read faster than a large instance."""
+    """A shape with so many nodes, and a depot if solutions are routes. It is read faster than a large instance."""
     points = "".join(f"{node} 0 0\n" for node in range(1, nodes + 1))
     text = f"DIMENSION : {nodes}\nEDGE_WEIGHT_TYPE : EUC_2D\nNODE_COORD_SECTION\n{points}"
     if depot is None:
@@ -154,7 +154,7 @@ def length_of(word: str) -> int:
 
 def claim_of(text: bytes) -> Optional[int]:
     """The length that a text of TYPE TOUR claims: the whole number of its first COMMENT that ends in `Length = N` or
-    `Cost N`, or that is as TSPLIB's `Optimal tour for a280.tsp (2579)`. None where there is none. Explanations look at
+    `Cost N`, or that is as TSPLIB's `Optimal tour for a280.tsp (2579)`. None if there is none. Explanations look at
     every COMMENT that ends in `(N)`, and tell one with another number than the length."""
     for comment in _COMMENT.finditer(text):
         match = _CLAIM.search(text_of(comment[1]).rstrip(" \t\r\f"))
@@ -235,7 +235,7 @@ _WANTED = (
 def tours_of(solution: Any, shape: Callable[[], Shape]) -> List[List[int]]:
     """The tours of an object, or its routes without the depot, whose nodes count from 1.
 
-    `shape` tells the shape of the instance, where that is asked for: whether a single route is a tour.
+    `shape` tells the shape of the instance, if that is asked for: whether a single route is a tour.
 
     Raises:
         TypeError: it is none of these objects, or an OR-Tools model without its manager and assignment.

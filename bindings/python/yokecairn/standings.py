@@ -68,7 +68,7 @@ class Table:
         self.solvers = sorted(solvers)
 
     def __getitem__(self, place: Tuple[str, str]) -> Optional[Outcome]:
-        """What came of a solver on an instance: `table["harbour8", "lkh"]`; None where it has no solution. Of several runs
+        """What came of a solver on an instance: `table["harbour8", "lkh"]`; None if it has no solution. Of several runs
         it is the shortest accepted one, or else the first."""
         outcomes = list(self.runs(*place).values())
         accepted = [it for it in outcomes if isinstance(it, Report) and it.yes]
@@ -82,7 +82,7 @@ class Table:
         return {run: outcomes[own, run] for own, run in sorted(outcomes) if own == solver}
 
     def length(self, instance: str, solver: str) -> Optional[int]:
-        """The length of the shortest accepted solution; None where there is none."""
+        """The length of the shortest accepted solution; None if there is none."""
         outcome = self[instance, solver]
         return outcome.length if isinstance(outcome, Report) and outcome.yes else None
 
@@ -97,7 +97,7 @@ class Table:
     def as_rows(self) -> List[Dict[str, Any]]:
         """A row for each instance and solver, with the columns of `COLUMNS`. What isn't known is None.
 
-        `verdict` is `optimal`, `yes`, `no`, `fault`, `unread`, or `missing` where a solver has no solution; of several runs
+        `verdict` is `optimal`, `yes`, `no`, `fault`, `unread`, or `missing` if a solver has no solution; of several runs
         it is that of the shortest accepted one. `detail` has what is wrong with all others.
         """
         return [self._row(instance, solver) for instance in self.instances for solver in self.solvers]
@@ -333,7 +333,7 @@ def _latex(text: str) -> str:
 
 
 def _put(text: str, path: Optional[Path]) -> Optional[str]:
-    """Writes a text to a path; or returns it where there is none."""
+    """Writes a text to a path, or returns it if there is no path."""
     if path is None:
         return text
     with open(path, "w", encoding="utf-8", errors="surrogateescape", newline="") as file:
