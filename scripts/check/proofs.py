@@ -1,10 +1,12 @@
 """The run of `rt ci` that proves every crate, and its critical path.
 
-`rt ci` proves many crates at once, each after those below it. The critical path of a run is the chain of crates of
-which each began when the one before it had ended. It says what would shorten the run.
+`rt ci` proves many crates at once, each after those below it: by itself as many as its estimate of their memory allows,
+and here one on each processor. The critical path of a run is the chain of crates of which each began when the one
+before it had ended. It says what would shorten the run.
 """
 from __future__ import annotations
 
+import os
 import re
 import shutil
 import subprocess
@@ -14,10 +16,26 @@ from collections.abc import Callable
 
 from build import statements
 from build.sources import ROOT, crates, strange_logic
+from check.runs import free_memory
 from check.suites import Outcome, outcome_of
 
 PROVED = re.compile(r"rt: (\w+) (proved|is kept: .*)$")
+# The memory to plan on for each check; the largest takes 3.2 GB. By itself `rt ci` plans on up to 10 GB, by a crate's
+# number of lines, and leaves processors idle.
+MEMORY_OF_ONE = 4 << 30
 Times = dict[str, float]
+
+
+def side_by_side(processors: int, memory: int) -> int:
+    """How many crates are checked at once: one on each processor, if memory holds as many."""
+    return max(1, min(processors, memory // MEMORY_OF_ONE))
+
+
+def environment() -> dict[str, str]:
+    """The environment of `rt ci`, with that number. It keeps a number that is set, and has none if memory holds only
+    one check: `rt ci` then decides."""
+    checks = side_by_side(len(os.sched_getaffinity(0)), free_memory())
+    return {**({"RT_JOBS": str(checks)} if checks > 1 else {}), **os.environ}
 
 
 def critical_path(ends: Times, lower: dict[str, list[str]]) -> list[tuple[str, float]]:
@@ -56,7 +74,7 @@ def prove(say: Callable[[str], None], proved: Callable[[str, str], None] = lambd
         print("check:", strange_logic(), file=sys.stderr)
     with subprocess.Popen(
         ["rt", "ci"], cwd=ROOT, stdin=subprocess.DEVNULL, stdout=subprocess.PIPE, stderr=subprocess.STDOUT,
-        text=True, errors="replace",
+        text=True, errors="replace", env=environment(),
     ) as ran:
         for line in ran.stdout or ():
             say(line.rstrip("\n"))

@@ -1,18 +1,19 @@
 //! Unit tests of the libraries, with readers and writers that move a few bytes at a time, or fail.
 //!
 //! All unit tests live here, because tests are proved too (docs/TESTING.md). `rt ci` runs them. The
-//! helpers `devices` and `drafts_of_tests_support` are `pub` because they are part of the library,
-//! where only tests use them.
+//! library itself is empty: each module is read only with the tests, so that none is proved twice.
 #![tactic(auto)]
 
 #[cfg(test)]
 mod asserts;
 #[cfg(test)]
 mod bound;
-pub mod devices;
+#[cfg(test)]
+mod devices;
 #[cfg(test)]
 mod drafts;
-pub mod drafts_of_tests_support;
+#[cfg(test)]
+mod drafts_of_tests_support;
 #[cfg(test)]
 mod file_names;
 #[cfg(test)]
