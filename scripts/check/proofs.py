@@ -20,9 +20,9 @@ from check.runs import free_memory
 from check.suites import Outcome, outcome_of
 
 PROVED = re.compile(r"rt: (\w+) (proved|is kept: .*)$")
-# The memory to plan on for each check; the largest takes 3.2 GB. By itself `rt ci` plans on up to 10 GB, by a crate's
+# The memory to plan on for each check; the largest takes 4.2 GB. By itself `rt ci` plans on up to 10 GB, by a crate's
 # number of lines, and leaves processors idle.
-MEMORY_OF_ONE = 4 << 30
+MEMORY_OF_ONE = 9 << 29
 Times = dict[str, float]
 
 
