@@ -43,7 +43,8 @@ except ModuleNotFoundError as error:
 from build import statements
 from build.program import PROVED
 from build.sources import LIBRARY, PROGRAM, ROOT
-from check.runs import BEHIND, PROOFS, Beside, Reports, Runs, free_memory, listed, say
+from check.machine import free_memory
+from check.runs import BEHIND, PROOFS, Beside, Reports, Runs, listed, say
 from check.suites import FIRST, Job, Outcome, Pool, Suite
 
 REFUSED = 4

@@ -16,7 +16,7 @@ from collections.abc import Callable
 
 from build import statements
 from build.sources import ROOT, crates, strange_logic
-from check.runs import free_memory
+from check.machine import free_memory, processors
 from check.suites import Outcome, outcome_of
 
 PROVED = re.compile(r"rt: (\w+) (proved|is kept: .*)$")
@@ -26,15 +26,15 @@ MEMORY_OF_ONE = 9 << 29
 Times = dict[str, float]
 
 
-def side_by_side(processors: int, memory: int) -> int:
+def side_by_side(cores: int, memory: int) -> int:
     """How many crates are checked at once: one on each processor, if memory holds as many."""
-    return max(1, min(processors, memory // MEMORY_OF_ONE))
+    return max(1, min(cores, memory // MEMORY_OF_ONE))
 
 
 def environment() -> dict[str, str]:
     """The environment of `rt ci`, with that number. It keeps a number that is set, and has none if memory holds only
     one check: `rt ci` then decides."""
-    checks = side_by_side(len(os.sched_getaffinity(0)), free_memory())
+    checks = side_by_side(processors(), free_memory())
     return {**({"RT_JOBS": str(checks)} if checks > 1 else {}), **os.environ}
 
 

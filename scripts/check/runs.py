@@ -1,7 +1,6 @@
 """A check's runs of suites: their outcomes, which are counted and told, and the programs on which they run."""
 from __future__ import annotations
 
-import re
 import subprocess
 import sys
 import threading
@@ -125,12 +124,6 @@ class Runs:
         proved = "proved by an earlier run" if program == PROVED else "the quick one, which isn't proved"
         say(f"check: nothing is proved here; the program is {proved}: {program.relative_to(ROOT)}")
         return program
-
-
-def free_memory() -> int:
-    """How many bytes of memory are free."""
-    found = re.search(r"^MemAvailable:\s+(\d+) kB", Path("/proc/meminfo").read_text(), re.M)
-    return 1024 * int(found[1]) if found else sys.maxsize
 
 
 class Beside:

@@ -79,8 +79,17 @@ pub fn rectangle(alloc: Global) -> Result<Draft, Fail> {
     Ok(draft)
 }
 
-/// Sets the lists of the rectangle.
+/// Sets the lists of the rectangle. (Each part is a function of its own, whose proof is short.)
 fn set_lists(alloc: Global, draft: &mut Draft) -> Result<(), Fail> {
+    set_places(alloc, draft)?;
+    set_weights(alloc, draft)?;
+    set_potentials(alloc, draft)?;
+    set_certificates(alloc, draft)?;
+    Ok(())
+}
+
+/// Sets an unknown line and the points.
+fn set_places(alloc: Global, draft: &mut Draft) -> Result<(), Fail> {
     let other = (
         Vec::from_slice(alloc, b"DISTANCE")?,
         Vec::from_slice(alloc, b"9")?,
@@ -88,22 +97,42 @@ fn set_lists(alloc: Global, draft: &mut Draft) -> Result<(), Fail> {
     draft.others.push(other)?;
     draft.coords = Some(points(alloc, &[(0, 0), (6, 0), (6, 8), (0, 8)])?);
     draft.display = Some(points(alloc, &[(0, 0), (3, 0), (3, -4), (0, -4)])?);
+    Ok(())
+}
+
+/// Sets what the customers and the edges are given.
+fn set_weights(alloc: Global, draft: &mut Draft) -> Result<(), AllocError> {
     draft.demands = Some(Vec::from_slice(alloc, &[0i64, 4, 4, 4])?);
     draft.depots = Some(Vec::from_slice(alloc, &[1u32])?);
     draft.fixed = Some(Vec::from_slice(alloc, &[(1u32, 2u32), (4, 3)])?);
     draft.weights = Some(Vec::from_slice(alloc, &[3i64, 5, 4, -1, 0, 1_000_000_000_000])?);
+    Ok(())
+}
+
+/// Sets the potentials.
+fn set_potentials(alloc: Global, draft: &mut Draft) -> Result<(), AllocError> {
     draft.node_potentials = Some(Vec::from_slice(alloc, &[3i64, -3, 0, 0])?);
     draft.row_potentials = Some(Vec::from_slice(alloc, &[4i64, -4, 0, 0])?);
     draft.column_potentials = Some(Vec::from_slice(alloc, &[5i64, -5, 0, 0])?);
     draft.fixed_potentials = Some(Vec::from_slice(alloc, &[(1u32, 2u32, 6i64), (3, 4, 0)])?);
-    let mut families = Vec::new(alloc);
-    families.push(lists_of(alloc, &[&[1, 2], &[1, 3]])?)?;
-    families.push(lists_of(alloc, &[&[4]])?)?;
-    draft.families = Some(families);
+    Ok(())
+}
+
+/// Sets two families, and the lists of a tree.
+fn set_certificates(alloc: Global, draft: &mut Draft) -> Result<(), AllocError> {
+    draft.families = Some(two_families(alloc)?);
     draft.memories = Some(lists_of(alloc, &[&[2, 3, 4], &[3]])?);
     draft.subset_rows = Some(two_rows(alloc)?);
     draft.branches = Some(two_leaves(alloc)?);
     Ok(())
+}
+
+/// A family of two sets, and one of a single node.
+fn two_families(alloc: Global) -> Result<Vec<Vec<Vec<u32>>>, AllocError> {
+    let mut families = Vec::new(alloc);
+    families.push(lists_of(alloc, &[&[1, 2], &[1, 3]])?)?;
+    families.push(lists_of(alloc, &[&[4]])?)?;
+    Ok(families)
 }
 
 /// Lists of nodes: the sets of a family, a memory, or tours.
