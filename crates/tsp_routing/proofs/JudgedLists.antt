@@ -164,15 +164,22 @@ owner_in n lists index own list are lt is value =
     let here = subst (λ (xs : List ℕ). (1 ≤ length xs) × All (IsNode n) xs) (sym value) given in
     (here.1 0 0 here.0, here)
 
--- no mark and no owner is there at first
+-- no mark, no owner and no list is there at first
+pub zero_there : (places node : ℕ) → get_or (replicate places zero) node zero ≡ zero
+zero_there zero node = refl
+zero_there (suc places) zero = refl
+zero_there (suc places) (suc node) = zero_there places node
+
 pub none_marked : (places mark : ℕ) → 0 < mark → AreUnmarked (replicate places 0) mark
 none_marked places mark more node =
     ne_eqb (get_or (replicate places 0) node 0) mark (λ same. let none = zero_there places node in omega (arith, same, none, more))
-  where
-    zero_there : (places node : ℕ) → get_or (replicate places zero) node zero ≡ zero
-    zero_there zero node = refl
-    zero_there (suc places) zero = refl
-    zero_there (suc places) (suc node) = zero_there places node
+
+pub none_pushed : (lists : List (Vec ℕ)) (own : Vec ℕ) → own.items ≡ [] → ((node : ℕ) → get_or (item_lists lists) node [] ≡ [])
+    → (node : ℕ) → get_or (item_lists (lists ++ own ∷ [])) node [] ≡ []
+none_pushed [] own empty none zero = empty
+none_pushed [] own empty none (suc node) = refl
+none_pushed (first ∷ lists) own empty none zero = none zero
+none_pushed (first ∷ lists) own empty none (suc node) = none_pushed lists own empty (λ k. none (suc k)) node
 
 pub no_owners : (lists : List (List ℕ)) (places : ℕ) → AreOwners lists 0 (replicate places false)
 no_owners lists places = record {
