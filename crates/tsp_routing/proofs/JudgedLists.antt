@@ -1,7 +1,7 @@
 -- For src/judged_memory.rt: the lists of MEMORY_SECTION and the subset rows, judged one after the other up to the first
 -- bad one. At the top, lemmas on which nodes a list has.
-use Rattle.tsp_routing.proofs.Prelude.{◌≡◌, ◌≢◌, ℕ, zero, suc, ◌+◌, ◌-◌, ◌≤◌, ◌<◌, ◌==◌, ◌||◌, Bool, true, false, not, List, [], ◌∷◌, ◌++◌, map, take, drop, length, get_or, refl, sym, ap, ◌∙◌, subst, arith, inl, inr, drop_more, append_assoc, take_more, cases_eq, cases_Bool, both_ways, false≢true, eqb-true, eq-eqb, ne_eqb, if◌then◌else◌, get_or-set_same, get_or-set_other, get_or-map, length-map, length-set, replicate, length-replicate, get_or-replicate, ap₂, Vec, All, All-append, recursion_from_All, IsNode, IsCustomer, HasEachOnce, has}
-use Rattle.std.specs.Prelude.{slice_set, slice_index, ◌↔◌, IsTrue}
+use Rattle.tsp_routing.proofs.Prelude.{◌≡◌, ℕ, zero, suc, ◌+◌, ◌-◌, ◌≤◌, ◌<◌, ◌==◌, ◌||◌, Bool, true, false, not, List, [], ◌∷◌, ◌++◌, map, take, drop, length, get_or, refl, sym, ap, ◌∙◌, subst, arith, inl, inr, drop_more, append_assoc, take_more, cases_eq, cases_Bool, both_ways, false≢true, eqb-true, eq-eqb, ne_eqb, if◌then◌else◌, get_or-set_same, get_or-set_other, get_or-map, length-map, length-set, replicate, length-replicate, get_or-replicate, ap₂, Vec, All, All-append, recursion_from_All, IsNode, IsCustomer, HasEachOnce, has}
+use Rattle.std.specs.Prelude.{slice_set}
 use Rattle.std.proofs.lemmas.List.{length-take, get_or-take}
 use Rattle.tsp_cases.specs.states.GoodFamilies.{AreUnmarked, AreMarked}
 use Rattle.tsp_routing.specs.Runs.{keeps}

@@ -156,7 +156,7 @@ pub set_product : (count : ℕ) (z a b : ℤ) → count ≤ 2 ^ 33 → FitsSigne
 set_product count z a b few fits first second =
     let size = set_size count z few in (
       ap (λ y. to_z w128 (of_z w128 y)) (set_factors count z a b few fits first second)
-      ∙ to_z-of_z w128 (pos count *ℤ z) (set_fits count z few fits),
+          ∙ to_z-of_z w128 (pos count *ℤ z) (set_fits count z few fits),
       (omega (arith, ints, size.0), omega (arith, ints, size.1)),
     )
 

@@ -1,5 +1,5 @@
 -- The goals of `judge_rows` in src/judged_memory.rt: what its calls require, its loop and what it ensures.
-use Rattle.tsp_routing.proofs.Prelude.{◌≡◌, ◌≤◌, ◌<◌, ◌+◌, ◌∙◌, ◌++◌, ℕ, List, [], map, take, refl, length, get_or, ap, sym, subst, arith, cases_eq, cases_lt, inl, inr, false≢true, if◌then◌else◌, length-map, length-replicate, take_all, get_or_default, All, IsNode, IsCustomer, HasEachOnce, has, written}
+use Rattle.tsp_routing.proofs.Prelude.{◌≡◌, ◌≤◌, ◌+◌, ◌∙◌, ℕ, List, [], map, take, refl, length, get_or, ap, sym, subst, arith, cases_eq, cases_lt, inl, inr, false≢true, if◌then◌else◌, length-map, length-replicate, take_all, get_or_default, All, IsNode, IsCustomer, HasEachOnce, has, written}
 use Rattle.std.proofs.lemmas.List.{length-take}
 use Rattle.tsp_cases.specs.states.GoodFamilies.{AreUnmarked}
 use Rattle.tsp_format.specs.Steps.{SubsetRow}

@@ -1,5 +1,5 @@
 -- The goals of `floors_of` in src/kept_states.rt, which finds the floor of each list: its loop and what it ensures.
-use Rattle.tsp_routing.proofs.Prelude.{◌≡◌, ◌++◌, ◌∙◌, ℕ, ℤ, List, [], ◌∷◌, pos, length, get_or, ap, sym, subst, arith, rules, FitsSigned, Vec, w128, to_z-of_z, get_or-map, length-append, length-map}
+use Rattle.tsp_routing.proofs.Prelude.{◌≡◌, ◌++◌, ◌∙◌, ℤ, List, [], ◌∷◌, pos, length, get_or, ap, sym, subst, arith, rules, FitsSigned, Vec, w128, to_z-of_z, get_or-map, length-append, length-map}
 use Rattle.tsp_routing.specs.declared.kept_states.KeptState.{KeptState}
 use Rattle.tsp_routing.specs.states.KeptLists.{IsFloor}
 use Rattle.tsp_routing.specs.states.RunTables.{item_lists}

@@ -1,6 +1,6 @@
 -- The goals of `row_of` in src/leaf_weights.rt, which makes the row of a node: what a call requires, and what it
 -- ensures.
-use Rattle.tsp_routing.proofs.Prelude.{◌≡◌, ◌+◌, ◌∙◌, ℕ, ℤ, List, pos, neg_ℤ, length, ap, sym, subst, IsFromTo, least_at, written}
+use Rattle.tsp_routing.proofs.Prelude.{◌+◌, ◌∙◌, ℕ, ℤ, List, pos, neg_ℤ, length, ap, sym, subst, IsFromTo, least_at, written}
 use Rattle.tsp_routing.specs.PlanBounds.{most_link}
 use Rattle.tsp_routing.proofs.leaf_weights.row_of.Goals as goal
 

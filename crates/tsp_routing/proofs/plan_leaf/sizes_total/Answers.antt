@@ -1,7 +1,6 @@
 -- The goals of `sizes_total` in src/plan_leaf.rt, which sums the sizes of multipliers: that no sum overflows, and its
 -- loop.
-use Rattle.tsp_routing.proofs.Prelude.{◌≡◌, ◌∙◌, ◌+◌, ◌*◌, ◌^◌, ◌<◌, ℕ, ℤ, List, drop, length, get_or, ap, subst, sym, arith, rules, to_z, of_z, FitsSigned, pos, nat_abs, unsigned_abs, ◌+ℤ◌, w64, w128, ints, to_z-of_z}
-use Rattle.tsp_routing.specs.PlanVerdicts.{most_of_multipliers, sizes_total}
+use Rattle.tsp_routing.proofs.Prelude.{◌≡◌, ◌∙◌, ◌^◌, ◌<◌, ℕ, ℤ, List, get_or, ap, arith, rules, to_z, FitsSigned, pos, nat_abs, unsigned_abs, w64, w128, ints, to_z-of_z}
 use Rattle.tsp_routing.proofs.RouteProducts.{sizes_left, size_more}
 use Rattle.tsp_routing.proofs.plan_leaf.sizes_total.Goals as goal
 

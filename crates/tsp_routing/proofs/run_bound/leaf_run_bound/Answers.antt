@@ -1,6 +1,6 @@
 -- The goals of `leaf_run_bound` in src/run_bound.rt, which bounds a leaf at a case by its least run: the facts of the sum
 -- that it makes, what its calls require, and what it ensures.
-use Rattle.tsp_routing.proofs.Prelude.{◌≡◌, ◌≤◌, ◌∙◌, ◌+◌, most_nodes, IsNode, ◌-◌, ◌*◌, ◌^◌, Option, neg_ℤ, IsFromTo, ℕ, ℤ, List, map, length, refl, ap, ap₂, sym, subst, arith, rules, to_z, of_z, FitsSigned, pos, ◌-ℤ◌, ◌*ℤ◌, Vec, w64, w128, ints, to_z-of_z, length-map, entry, lists_of, families_with, as_leaf_numbers, lent_in, decisions_in}
+use Rattle.tsp_routing.proofs.Prelude.{◌≡◌, ◌≤◌, ◌∙◌, ◌+◌, most_nodes, IsNode, ◌-◌, ◌*◌, ◌^◌, Option, neg_ℤ, IsFromTo, ℕ, ℤ, List, length, refl, ap, ap₂, sym, subst, arith, rules, to_z, of_z, FitsSigned, pos, ◌-ℤ◌, ◌*ℤ◌, Vec, w64, w128, ints, to_z-of_z, length-map, entry, lists_of, families_with, as_leaf_numbers, lent_in, decisions_in}
 use Rattle.std.proofs.Math.Logic.{∥∥₁_elim}
 use Rattle.std.proofs.Props.{props}
 use Rattle.std.specs.Prelude.{IfSome}
@@ -12,7 +12,6 @@ use Rattle.tsp_format.specs.Steps.{SubsetRow}
 use Rattle.tsp_routing.specs.RunBounds.{IsLeastRun, leaf_rules, IsRunBound}
 use Rattle.tsp_routing.specs.states.Demands.{loads_problem}
 use Rattle.tsp_routing.specs.states.KeptLists.{IsLeastRunIfFew}
-use Rattle.tsp_format.specs.states.TreeSteps.{subset_row_of}
 use Rattle.tsp_routing.specs.states.RunJudged.{halves_with}
 use Rattle.tsp_routing.proofs.RouteProducts.{numbers_of_families}
 use Rattle.tsp_routing.proofs.LeastRuns.{halves_are_total}

@@ -1,6 +1,6 @@
 -- The goals of `onwards` in src/run_leaf.rt, which finds for each node what the cheapest way home from it weighs: its
 -- loop, what a call requires, and what it ensures.
-use Rattle.tsp_routing.proofs.Prelude.{◌≡◌, ◌+◌, ◌∙◌, ℕ, ℤ, List, [], ◌∷◌, ◌++◌, pos, length, get_or, ap, subst, sym, arith, rules, FitsSigned, length-append, w128, to_z-of_z}
+use Rattle.tsp_routing.proofs.Prelude.{◌≡◌, ◌∙◌, ℕ, ℤ, List, [], ◌∷◌, ◌++◌, pos, length, ap, arith, rules, FitsSigned, length-append, w128, to_z-of_z}
 use Rattle.tsp_routing.specs.states.RunTables.{IsOnward, IsOnwardSized}
 use Rattle.tsp_routing.proofs.WaysHome.{node_pushed}
 use Rattle.tsp_routing.proofs.run_leaf.onwards.Goals as goal

@@ -1,8 +1,8 @@
 -- The goals of `way_home` in src/run_leaf.rt, which finds the least weight of a way home from a node: its loop, what a
 -- call requires, and what it ensures.
-use Rattle.tsp_routing.proofs.Prelude.{◌≡◌, ◌≢◌, ◌+◌, ◌*◌, ℕ, ℤ, List, pos, neg_ℤ, ap, sym, subst, arith, rules, FitsSigned, to_z, inl, inr, ◌≤ℤ◌, ◌<ℤ◌, ◌⊎◌, ◌+ℤ◌, slice_index_or, w128, ints, to_z-of_z, least_at, IsFromTo}
+use Rattle.tsp_routing.proofs.Prelude.{◌≡◌, ◌≢◌, ◌+◌, ℕ, ℤ, List, pos, neg_ℤ, ap, sym, subst, arith, rules, FitsSigned, to_z, inl, inr, ◌≤ℤ◌, ◌<ℤ◌, ◌⊎◌, ◌+ℤ◌, slice_index_or, w128, ints, to_z-of_z, least_at, IsFromTo}
 use Rattle.tsp_routing.specs.PlanBounds.{most_link}
-use Rattle.tsp_routing.specs.states.RunTables.{link_in, IsWayBelowTo, IsWayMetTo}
+use Rattle.tsp_routing.specs.states.RunTables.{IsWayBelowTo, IsWayMetTo}
 use Rattle.tsp_routing.proofs.WaysHome.{below_by_one, met_by_one, size_by_one}
 use Rattle.tsp_routing.proofs.run_leaf.way_home.Goals as goal
 
