@@ -3,7 +3,7 @@
 use Rattle.std.proofs.lemmas.Nat.{pow-add}
 use Rattle.std.proofs.lemmas.Nat.Bits.{bit_at_lowest, bit_at-suc, bit_at-zero}
 use Rattle.tsp_format.specs.Steps.{SubsetRow}
-use Rattle.tsp_routing.proofs.Prelude.{◌≡◌, ℕ, zero, suc, ◌+◌, ◌-◌, ◌*◌, ◌/◌, ◌%◌, ◌^◌, ◌≤◌, ◌<◌, ◌==◌, Bool, true, false, List, [], ◌∷◌, length, get_or, refl, sym, ap, ◌∙◌, arith, pow-le-pow_right, bit_at, if◌then◌else◌, ◌≢◌, ◌&&◌, ◌||◌, not, ◌++◌, map, ap₂, subst, inl, inr, nat_le, ℤ, pos, ◌+ℤ◌, All, AllByRecursion, false≢true, both_ways, cases_Bool, cases_eq, cases_lt, or_parts, and_left, and_right, eq-eqb, ne_eqb, le-leb, lt-leb, ints, get_or-map, get_or_past, length-map, recursion_from_All, IsNode, sum_int_by, has}
+use Rattle.tsp_routing.proofs.Prelude.{◌≡◌, ℕ, zero, suc, ◌+◌, ◌-◌, ◌*◌, ◌/◌, ◌%◌, ◌^◌, ◌≤◌, ◌<◌, ◌==◌, Bool, true, false, List, [], ◌∷◌, length, get_or, refl, sym, ap, ◌∙◌, arith, pow-le-pow_right, bit_at, if◌then◌else◌, ◌≢◌, ◌&&◌, ◌||◌, not, ◌++◌, map, ap₂, subst, inl, inr, nat_le, ℤ, pos, ◌+ℤ◌, All, AllByRecursion, false≢true, both_ways, cases_Bool, cases_eq, cases_lt, or_parts, and_left, and_right, eq-eqb, ne_eqb, leb-true, leb-false, le-leb, lt-leb, ints, get_or-map, get_or_past, length-map, recursion_from_All, IsNode, sum_int_by, has}
 use Rattle.tsp_routing.specs.Memories.{memory_word, row_keys, keys_of, odd_at, told, in_row, is_member_of, memory_of, Remembers}
 use Rattle.tsp_routing.specs.Runs.{keeps, RunRules, RunState, first_state, next_state, is_charged, charged}
 use Rattle.tsp_routing.specs.declared.memories.MemoryKey.{MemoryKey}
