@@ -5,7 +5,7 @@ use Rattle.std.proofs.lemmas.List.Folds.{list_any-append}
 use Rattle.tsp_format.specs.Steps.{SubsetRow}
 use Rattle.tsp_format.specs.declared.steps.RowSets.{RowSets}
 use Rattle.tsp_format.specs.states.TreeSteps.{subset_row_of}
-use Rattle.tsp_routing.proofs.Prelude.{◌≡◌, ◌≢◌, ℕ, zero, suc, ◌+◌, ◌-◌, ◌≤◌, ◌<◌, ◌==◌, ◌||◌, Bool, true, false, List, [], ◌∷◌, ◌++◌, map, take, drop, length, get_or, refl, sym, ap, ap₂, ◌∙◌, subst, arith, inl, inr, ◌⊎◌, if◌then◌else◌, nat_le, ℤ, pos, All, AllByRecursion, false≢true, cases_eq, or_from, ne_eqb, lt-leb, le-leb, append_assoc, map-append, drop_more, take_more, length-take-le, get_or_at, get_or_append_left, get_or-set_same, get_or-set_other, length-append, recursion_from_All, All-from_recursion, All-append, IsNode, has, Vec, length-map, map_push, get_or_push, length_push, take_all, All-weaker, most_nodes}
+use Rattle.tsp_routing.proofs.Prelude.{◌≡◌, ◌≢◌, ℕ, zero, suc, ◌+◌, ◌-◌, ◌≤◌, ◌<◌, ◌==◌, Bool, true, false, List, [], ◌∷◌, ◌++◌, map, take, drop, length, get_or, refl, sym, ap, ap₂, ◌∙◌, subst, arith, inl, inr, if◌then◌else◌, nat_le, ℤ, All, AllByRecursion, false≢true, cases_eq, or_from, ne_eqb, lt-leb, le-leb, append_assoc, map-append, drop_more, take_more, length-take-le, get_or_at, get_or_append_left, get_or-set_same, get_or-set_other, length-append, recursion_from_All, All-from_recursion, All-append, IsNode, has, Vec, length-map, map_push, get_or_push, length_push, take_all, All-weaker, most_nodes}
 use Rattle.tsp_routing.specs.Memories.{row_keys, keys_of, in_row, is_member_of, AreMemories}
 use Rattle.tsp_routing.specs.Runs.{keeps}
 use Rattle.tsp_routing.specs.declared.memories.MemoryKey.{MemoryKey}
@@ -109,18 +109,6 @@ all_keys nodes lists near rows customer keys same all is =
         (lt-leb (nodes + 1 + place) nodes (omega arith))
         ∙ ap (λ (k : ℕ). in_row (free_rows rows) k customer) at
 
--- one row and the rows after it
-pub one_kept : (key : ℕ) (row : RowSets) (rows : List RowSets) (customer : ℕ)
-    → kept_keys key (row ∷ rows) customer ≡ kept_keys key (row ∷ []) customer ++ kept_keys (key + 1) rows customer
-one_kept key row rows customer = at (keeps (subset_row_of row) customer)
-  where
-    at : (b : Bool)
-        → (if b then record { key = key; is_member = has row.set.items customer } ∷ kept_keys (key + 1) rows customer
-        else kept_keys (key + 1) rows customer)
-        ≡ (if b then record { key = key; is_member = has row.set.items customer } ∷ [] else []) ++ kept_keys (key + 1) rows customer
-    at true = refl
-    at false = refl
-
 -- ---- places
 
 has_not : (keys : List ℕ) (last key : ℕ) → has keys key ≡ false → last ≢ key → has (keys ++ last ∷ []) key ≡ false
@@ -169,24 +157,6 @@ near_pushed keys new whole near index lt is before =
     ap (λ (xs : List MemoryKey). xs ++ rest) is
     ∙ (append_assoc keys (own ∷ []) rest
     ∙ (sym (ap (λ (xs : List MemoryKey). keys ++ xs) split) ∙ before))
-
--- one row more
-pub row_pushed : (keys new whole : List MemoryKey) (rows : List RowSets) (first index customer : ℕ) (row : RowSets) → index < length rows
-    → row ≡ get_or rows index row → new ≡ keys ++ kept_keys (first + index) (row ∷ []) customer
-    → keys ++ kept_keys (first + index) (drop index rows) customer ≡ whole
-    → new ++ kept_keys (first + (index + 1)) (drop (index + 1) rows) customer ≡ whole
-row_pushed keys new whole rows first index customer row lt at is before =
-    let own : List MemoryKey = kept_keys (first + index) (row ∷ []) customer in
-    let rest : List MemoryKey = kept_keys (first + (index + 1)) (drop (index + 1) rows) customer in
-    let next : first + index + 1 ≡ first + (index + 1) = omega arith in
-    let split : drop index rows ≡ row ∷ drop (index + 1) rows =
-    drop_more rows index row lt ∙ ap (λ (it : RowSets). it ∷ drop (index + 1) rows) (sym at) in
-    let both : kept_keys (first + index) (drop index rows) customer ≡ own ++ rest =
-    ap (λ (xs : List RowSets). kept_keys (first + index) xs customer) split
-    ∙ (one_kept (first + index) row (drop (index + 1) rows) customer
-    ∙ ap (λ (key : ℕ). own ++ kept_keys key (drop (index + 1) rows) customer) next) in
-    ap (λ (xs : List MemoryKey). xs ++ rest) is
-    ∙ (append_assoc keys own rest ∙ (sym (ap (λ (xs : List MemoryKey). keys ++ xs) both) ∙ before))
 
 -- a row that the customer doesn't keep, and one that it keeps
 pub not_kept : (key : ℕ) (row : RowSets) (customer : ℕ) → keeps (subset_row_of row) customer ≡ false → kept_keys key (row ∷ []) customer ≡ []

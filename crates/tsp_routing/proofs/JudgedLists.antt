@@ -1,7 +1,7 @@
 -- For src/judged_memory.rt: the lists of MEMORY_SECTION and the subset rows, judged one after the other up to the first
 -- bad one. At the top, lemmas on which nodes a list has.
-use Rattle.tsp_routing.proofs.Prelude.{◌≡◌, ◌≢◌, ℕ, zero, suc, ◌+◌, ◌-◌, ◌≤◌, ◌<◌, ◌==◌, ◌||◌, Bool, true, false, not, List, [], ◌∷◌, ◌++◌, map, take, drop, length, get_or, refl, sym, ap, ◌∙◌, subst, arith, inl, inr, drop_more, append_assoc, take_more, cases_eq, cases_Bool, both_ways, false≢true, eqb-true, eq-eqb, ne_eqb, if◌then◌else◌, get_or-set_same, get_or-set_other, get_or-map, length-map, length-set, ap₂, Vec, All, All-append, recursion_from_All, IsNode, IsCustomer, HasEachOnce, has}
-use Rattle.std.specs.Prelude.{slice_set, slice_index, ◌↔◌, IsTrue}
+use Rattle.tsp_routing.proofs.Prelude.{◌≡◌, ℕ, zero, suc, ◌+◌, ◌-◌, ◌≤◌, ◌<◌, ◌==◌, ◌||◌, Bool, true, false, not, List, [], ◌∷◌, ◌++◌, map, take, drop, length, get_or, refl, sym, ap, ◌∙◌, subst, arith, inl, inr, drop_more, append_assoc, take_more, cases_eq, cases_Bool, both_ways, false≢true, eqb-true, eq-eqb, ne_eqb, if◌then◌else◌, get_or-set_same, get_or-set_other, get_or-map, length-map, length-set, replicate, length-replicate, get_or-replicate, ap₂, Vec, All, All-append, recursion_from_All, IsNode, IsCustomer, HasEachOnce, has}
+use Rattle.std.specs.Prelude.{slice_set}
 use Rattle.std.proofs.lemmas.List.{length-take, get_or-take}
 use Rattle.tsp_cases.specs.states.GoodFamilies.{AreUnmarked, AreMarked}
 use Rattle.tsp_routing.specs.Runs.{keeps}
@@ -163,6 +163,32 @@ owner_in n lists index own list are lt is value =
     let given = subst (λ (v : Vec ℕ). (1 ≤ length v.items) × All (IsNode n) v.items) (sym is) (are index own lt) in
     let here = subst (λ (xs : List ℕ). (1 ≤ length xs) × All (IsNode n) xs) (sym value) given in
     (here.1 0 0 here.0, here)
+
+-- no mark, no owner and no list is there at first
+pub zero_there : (places node : ℕ) → get_or (replicate places zero) node zero ≡ zero
+zero_there zero node = refl
+zero_there (suc places) zero = refl
+zero_there (suc places) (suc node) = zero_there places node
+
+pub none_marked : (places mark : ℕ) → 0 < mark → AreUnmarked (replicate places 0) mark
+none_marked places mark more node =
+    ne_eqb (get_or (replicate places 0) node 0) mark (λ same. let none = zero_there places node in omega (arith, same, none, more))
+
+pub none_pushed : (lists : List (Vec ℕ)) (own : Vec ℕ) → own.items ≡ [] → ((node : ℕ) → get_or (item_lists lists) node [] ≡ [])
+    → (node : ℕ) → get_or (item_lists (lists ++ own ∷ [])) node [] ≡ []
+none_pushed [] own empty none zero = empty
+none_pushed [] own empty none (suc node) = refl
+none_pushed (first ∷ lists) own empty none zero = none zero
+none_pushed (first ∷ lists) own empty none (suc node) = none_pushed lists own empty (λ k. none (suc k)) node
+
+pub no_owners : (lists : List (List ℕ)) (places : ℕ) → AreOwners lists 0 (replicate places false)
+no_owners lists places = record {
+  found = λ node flag less.
+      let long = length-replicate places false in
+      let free = get_or-replicate places node false true (omega (arith, less, long)) in
+      absurd (false≢true (sym free ∙ flag));
+  are = λ place less. absurd (omega (arith, less));
+}
 
 -- a good list after good ones
 pub list_more : (n depot : ℕ) (lists : List (List ℕ)) (index : ℕ) (list : List ℕ) (owners : List Bool)

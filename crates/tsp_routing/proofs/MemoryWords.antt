@@ -3,7 +3,7 @@
 use Rattle.std.proofs.lemmas.Nat.{pow-add}
 use Rattle.std.proofs.lemmas.Nat.Bits.{bit_at_lowest, bit_at-suc, bit_at-zero}
 use Rattle.tsp_format.specs.Steps.{SubsetRow}
-use Rattle.tsp_routing.proofs.Prelude.{◌≡◌, ℕ, zero, suc, ◌+◌, ◌-◌, ◌*◌, ◌/◌, ◌%◌, ◌^◌, ◌≤◌, ◌<◌, ◌==◌, Bool, true, false, List, [], ◌∷◌, length, get_or, refl, sym, ap, ◌∙◌, arith, pow-le-pow_right, bit_at, if◌then◌else◌, ◌≢◌, ◌&&◌, ◌||◌, not, ◌++◌, map, ap₂, subst, inl, inr, ◌⊎◌, nat_le, ℤ, pos, ◌+ℤ◌, All, AllByRecursion, false≢true, both_ways, cases_Bool, cases_eq, cases_lt, or_parts, and_left, and_right, eqb-true, eq-eqb, ne_eqb, leb-true, leb-false, le-leb, lt-leb, ints, get_or-map, get_or_past, length-map, recursion_from_All, IsNode, sum_int_by, has}
+use Rattle.tsp_routing.proofs.Prelude.{◌≡◌, ℕ, zero, suc, ◌+◌, ◌-◌, ◌*◌, ◌/◌, ◌%◌, ◌^◌, ◌≤◌, ◌<◌, ◌==◌, Bool, true, false, List, [], ◌∷◌, length, get_or, refl, sym, ap, ◌∙◌, arith, pow-le-pow_right, bit_at, if◌then◌else◌, ◌≢◌, ◌&&◌, ◌||◌, not, ◌++◌, map, ap₂, subst, inl, inr, nat_le, ℤ, pos, ◌+ℤ◌, All, AllByRecursion, false≢true, both_ways, cases_Bool, cases_eq, cases_lt, or_parts, and_left, and_right, eq-eqb, ne_eqb, leb-true, leb-false, le-leb, lt-leb, ints, get_or-map, get_or_past, length-map, recursion_from_All, IsNode, sum_int_by, has}
 use Rattle.tsp_routing.specs.Memories.{memory_word, row_keys, keys_of, odd_at, told, in_row, is_member_of, memory_of, Remembers}
 use Rattle.tsp_routing.specs.Runs.{keeps, RunRules, RunState, first_state, next_state, is_charged, charged}
 use Rattle.tsp_routing.specs.declared.memories.MemoryKey.{MemoryKey}
@@ -64,23 +64,6 @@ same_bits (x ∷ a) (y ∷ b) long is =
 pub is_one : (n : ℕ) (bit : Bool) → n ≡ (if bit then 1 else 0) → (n == 1) ≡ bit
 is_one n true is = ap (λ (k : ℕ). k == 1) is
 is_one n false is = ap (λ (k : ℕ). k == 1) is
-
--- a word with one bit more
-pub twice_below : (n index : ℕ) (bit : Bool) → n < 2 ^ index → (if bit then 1 else 0) + 2 * n < 2 ^ (index + 1)
-twice_below n index bit below = at bit
-  where
-    twice : 2 ^ (index + 1) ≡ 2 ^ index * 2
-    twice = pow-add 2 index 1
-
-    at : (b : Bool) → (if b then 1 else 0) + 2 * n < 2 ^ (index + 1)
-    at true = omega (arith, below, twice)
-    at false = omega (arith, below, twice)
-
--- so few bits that one more fits
-pub up_to_63 : (n index : ℕ) → n < 2 ^ index → index < 64 → n < 2 ^ 63
-up_to_63 n index below few =
-    let more = pow-le-pow_right {n = 2} (omega arith) {i = index} {j = 63} (omega (arith, few)) in
-    omega (arith, below, more)
 
 -- ---- lists of keys
 

@@ -3,7 +3,7 @@
 use Rattle.tsp_format.specs.Steps.{SubsetRow}
 use Rattle.tsp_routing.proofs.KeptStarts.{pays, completions_tell_kept_states}
 use Rattle.tsp_routing.proofs.MemoryWords.{at_node}
-use Rattle.tsp_routing.proofs.Prelude.{◌≡◌, ◌≢◌, ℕ, ◌+◌, ◌≤◌, Bool, true, false, sym, ap, ◌∙◌, subst, arith, Some, None, ℤ, pos, ◌+ℤ◌, ◌≤ℤ◌, ◌<ℤ◌, both_ways, ints, recursion_from_All, IsCustomer, ◌<◌, List, neg_ℤ, length, ◌-ℤ◌}
+use Rattle.tsp_routing.proofs.Prelude.{◌≡◌, ◌≢◌, ℕ, ◌+◌, ◌≤◌, Bool, true, false, sym, ap, ◌∙◌, subst, arith, Some, None, ℤ, pos, ◌+ℤ◌, ◌≤ℤ◌, ◌<ℤ◌, both_ways, ints, recursion_from_All, IsCustomer, List, ◌-ℤ◌}
 use Rattle.tsp_routing.specs.KeptStates.{IsCompletion}
 use Rattle.tsp_routing.specs.Memories.{told, Remembers}
 use Rattle.tsp_routing.specs.Runs.{RunRules, RunState, next_state, MayServe, charged, AreCharges}
@@ -13,11 +13,6 @@ use Rattle.tsp_routing.specs.declared.run_leaf.RunLeaf.{RunLeaf}
 use Rattle.tsp_routing.specs.states.Demands.{load_at}
 use Rattle.tsp_routing.specs.states.KeptLists.{IsNextEntry, rules_of, IsLeafOf}
 use Rattle.tsp_routing.specs.states.RunTables.{link_in, home_in}
-
--- what the step weighs by the link and the charge
-step_is : (rules : RunRules) (state : RunState) (next : ℕ) (link charge : ℤ) → rules.weight state.last next ≡ link
-    → charge ≡ charged rules state next → step_weight rules state next ≡ link +ℤ charge
-step_is rules state next link charge link_is charge_is = omega (arith, ints, link_is, charge_is)
 
 -- no way home ends below the limit, even if the step pays nothing
 pub none_at_first : (rules : RunRules) (limit : ℤ) (state : RunState) (weight link home : ℤ) (next : ℕ) → AreCharges rules.rows

@@ -17,6 +17,23 @@ each_small most (m ∷ ms) h =
     let low = sizes_low ms in
     (from_size most m (omega (arith, ints, low, h)), each_small most ms (omega (arith, ints, h)))
 
+-- one size more fits 128 bits
+pub record IsSizeMore (sum m from : ℤ) (index : ℕ) : Type 0 where
+  pub fits : FitsSigned w128 (sum +ℤ to_z w128 (of_z w128 from))
+  pub is : to_z w128 (of_z w128 (sum +ℤ to_z w128 (of_z w128 from))) ≡ sum +ℤ pos (unsigned_abs m)
+  pub size : IsFromTo (pos 0) (pos ((index + 1) * most_of_multipliers)) (sum +ℤ pos (unsigned_abs m))
+
+pub size_more : (sum m from : ℤ) (index : ℕ) → index < 2 ^ 64 → IsFromTo (pos 0) (pos (index * most_of_multipliers)) sum
+    → IsFromTo (neg_ℤ (pos most_of_multipliers)) (pos most_of_multipliers) m → from ≡ pos (unsigned_abs m) → IsSizeMore sum m from index
+size_more sum m from index few sums own is =
+    let size : unsigned_abs m ≤ most_of_multipliers = size_of most_of_multipliers m own in
+    let same : to_z w128 (of_z w128 from) ≡ pos (unsigned_abs m) = omega (arith, ints, is, size) in
+    record {
+      fits = omega (arith, ints, few, sums.0, sums.1, same, size);
+      is = omega (arith, ints, few, sums.0, sums.1, same, size);
+      size = (omega (arith, ints, sums.0), omega (arith, ints, sums.1, size));
+    }
+
 -- ---- the limits on how often plans cross one set
 
 abbrev low_step : Bool → Bool → ℕ → ℕ → ℕ
@@ -112,17 +129,34 @@ size_refl : (z : ℤ) → FitsSigned w64 z → unsigned_abs z ≤ 2 ^ 63
 size_refl (pos n) h = omega (arith, ints, h)
 size_refl (negsuc n) h = omega (arith, ints, h)
 
+set_size : (count : ℕ) (z : ℤ) → count ≤ 2 ^ 33 → IsFromTo (neg_ℤ (pos (2 ^ 33 * unsigned_abs z))) (pos (2 ^ 33 * unsigned_abs z)) (pos count *ℤ z)
+set_size count z few = product_size (2 ^ 33) (unsigned_abs z) (pos count) z few (omega arith)
+
+set_fits : (count : ℕ) (z : ℤ) → count ≤ 2 ^ 33 → FitsSigned w64 z → FitsSigned w128 (pos count *ℤ z)
+set_fits count z few fits =
+    let own = size_refl z fits in
+    let less = size_of (2 ^ 33 * unsigned_abs z) (pos count *ℤ z) (set_size count z few) in
+    fits_signed_from_abs w128 (pos count *ℤ z) (omega (arith, less, own))
+
+set_factors : (count : ℕ) (z a b : ℤ) → count ≤ 2 ^ 33 → FitsSigned w64 z → a ≡ pos count → b ≡ z
+    → to_z w128 (of_z w128 a) *ℤ to_z w128 (of_z w128 b) ≡ pos count *ℤ z
+set_factors count z a b few fits first second =
+    let left : to_z w128 (of_z w128 a) ≡ pos count = omega (arith, ints, few, first) in
+    let right : to_z w128 (of_z w128 b) ≡ z = omega (arith, ints, fits, second) in
+    ap₂ (λ x y. x *ℤ y) left right
+
+pub set_product_fits : (count : ℕ) (z a b : ℤ) → count ≤ 2 ^ 33 → FitsSigned w64 z → a ≡ pos count → b ≡ z
+    → FitsSigned w128 (to_z w128 (of_z w128 a) *ℤ to_z w128 (of_z w128 b))
+set_product_fits count z a b few fits first second =
+    subst (FitsSigned w128) (sym (set_factors count z a b few fits first second)) (set_fits count z few fits)
+
 pub set_product : (count : ℕ) (z a b : ℤ) → count ≤ 2 ^ 33 → FitsSigned w64 z → a ≡ pos count → b ≡ z
     → (to_z w128 (of_z w128 (to_z w128 (of_z w128 a) *ℤ to_z w128 (of_z w128 b))) ≡ pos count *ℤ z)
     × IsFromTo (neg_ℤ (pos (unsigned_abs z * 2 ^ 33))) (pos (unsigned_abs z * 2 ^ 33)) (pos count *ℤ z)
 set_product count z a b few fits first second =
-    let own = size_refl z fits in
-    let size = product_size (2 ^ 33) (unsigned_abs z) (pos count) z few (omega arith) in
-    let left : to_z w128 (of_z w128 a) ≡ pos count = omega (arith, ints, few, first) in
-    let right : to_z w128 (of_z w128 b) ≡ z = omega (arith, ints, fits, second) in
-    let whole : FitsSigned w128 (pos count *ℤ z) = fits_signed_from_abs w128 (pos count *ℤ z)
-    (let less = size_of (2 ^ 33 * unsigned_abs z) (pos count *ℤ z) size in omega (arith, less, own)) in (
-      ap (λ y. to_z w128 (of_z w128 y)) (ap₂ (λ x y. x *ℤ y) left right) ∙ to_z-of_z w128 (pos count *ℤ z) whole,
+    let size = set_size count z few in (
+      ap (λ y. to_z w128 (of_z w128 y)) (set_factors count z a b few fits first second)
+          ∙ to_z-of_z w128 (pos count *ℤ z) (set_fits count z few fits),
       (omega (arith, ints, size.0), omega (arith, ints, size.1)),
     )
 

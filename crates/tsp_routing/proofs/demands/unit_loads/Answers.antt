@@ -1,6 +1,6 @@
 -- The goals of `unit_loads` in src/demands.rt, which counts loads and capacity in parts of a unit: its loop and what it
 -- ensures.
-use Rattle.tsp_routing.proofs.Prelude.{◌≡◌, ◌∙◌, ◌<◌, ◌+◌, ◌*◌, ◌/◌, ℕ, List, length, refl, sym, ap, subst, arith, inl, inr, to_z, of_z, ℤ, nat_abs, w64, ints, cases_eq, get_or-set_same, get_or-set_other, length-set}
+use Rattle.tsp_routing.proofs.Prelude.{◌≡◌, ◌∙◌, ◌<◌, ◌+◌, ◌*◌, ◌/◌, ℕ, List, length, refl, sym, ap, subst, arith, inl, inr, to_z, of_z, ℤ, nat_abs, w64, ints, cases_eq, get_or-set_same, get_or-set_other, length-set, length-replicate}
 use Rattle.std.proofs.Math.ListN.{set}
 use Rattle.tsp_routing.specs.PlanLinks.{load_in}
 use Rattle.tsp_routing.specs.states.Demands.{loads_problem, load_at}
@@ -39,4 +39,13 @@ returns c =
       loads_are = λ cost node there. c.nodes.invariant.loads_are cost light node refl there
           (omega (arith, there.1, c.nodes-test.false));
       room_is = λ cost. ap (λ (z : ℤ). nat_abs z / c.args.unit * (light + 1) + light) capacity;
+    }
+
+-- no node comes before the first one
+pub nodes-init : goal.nodes-init
+nodes-init c =
+    let zeros = c.in_ok-loads.ensures.items_if_clones_equal (λ y h. h) in
+    record {
+      places = ap length zeros ∙ length-replicate (c.args.demands.now.nodes + 1) 0;
+      loads_are = λ cost light node parts there below. absurd (omega (arith, there.0, below));
     }

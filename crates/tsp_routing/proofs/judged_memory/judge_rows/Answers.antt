@@ -1,12 +1,12 @@
 -- The goals of `judge_rows` in src/judged_memory.rt: what its calls require, its loop and what it ensures.
-use Rattle.tsp_routing.proofs.Prelude.{◌≡◌, ◌≤◌, ◌<◌, ◌+◌, ◌∙◌, ◌++◌, ℕ, List, [], map, take, refl, length, get_or, ap, sym, subst, arith, cases_eq, cases_lt, inl, inr, false≢true, if◌then◌else◌, length-map, get_or_default, All, IsNode, IsCustomer, HasEachOnce, has, written}
+use Rattle.tsp_routing.proofs.Prelude.{◌≡◌, ◌≤◌, ◌+◌, ◌∙◌, ℕ, List, [], map, take, refl, length, get_or, ap, sym, subst, arith, cases_eq, cases_lt, inl, inr, false≢true, if◌then◌else◌, length-map, length-replicate, take_all, get_or_default, All, IsNode, IsCustomer, HasEachOnce, has, written}
 use Rattle.std.proofs.lemmas.List.{length-take}
 use Rattle.tsp_cases.specs.states.GoodFamilies.{AreUnmarked}
 use Rattle.tsp_format.specs.Steps.{SubsetRow}
 use Rattle.tsp_routing.specs.RunTrees.{IsGoodRow, row_at, rows_kept}
 use Rattle.tsp_format.specs.declared.steps.RowSets.{RowSets}
 use Rattle.tsp_format.specs.states.TreeSteps.{subset_row_of}
-use Rattle.tsp_routing.proofs.JudgedLists.{few_rows_kept, rows_kept_more, row_here, row_inside, bad_row}
+use Rattle.tsp_routing.proofs.JudgedLists.{none_marked, zero_there, few_rows_kept, rows_kept_more, row_here, row_inside, bad_row}
 use Rattle.tsp_routing.proofs.judged_memory.judge_rows.Goals as goal
 
 -- plan: a row is good by its marks and by how many its set has; the first bad one ends the loop
@@ -101,3 +101,53 @@ rows-preserved c =
         | inr other ↦ h.good place (omega (arith, less, other))
       ];
     }
+
+-- no row is counted at first
+pub rows-init : goal.rows-init
+rows-init c =
+    let places : ℕ = c.args.demands.now.nodes + 1 in
+    let marks = c.in_ok-marks.ensures.items_if_clones_equal (λ y h. h) in
+    let counts = c.in_ok-counts.ensures.items_if_clones_equal (λ y h. h) in
+    record {
+      places = ap length marks ∙ length-replicate places 0;
+      fresh = λ mark more. subst (λ (xs : List ℕ). AreUnmarked xs mark) (sym marks) (none_marked places mark more);
+      long = ap length counts ∙ length-replicate places 0;
+      counted = λ node le. ap (λ (xs : List ℕ). get_or xs node 0) counts ∙ zero_there places node;
+      good = λ place less. absurd (omega (arith, less));
+    }
+
+pub are_customers-requires-clause-demands : goal.are_customers-requires-clause-demands
+are_customers-requires-clause-demands c = c.requires.demands
+
+pub are_customers-requires-clause-places : goal.are_customers-requires-clause-places
+are_customers-requires-clause-places c = ap length c.deref_mut.ensures.value ∙ c.rows.invariant.places
+
+pub are_customers-requires-clause-fresh : goal.are_customers-requires-clause-fresh
+are_customers-requires-clause-fresh c =
+    subst (λ (xs : List ℕ). AreUnmarked xs (c.rows.index + 1)) (sym c.deref_mut.ensures.value)
+    (c.rows.invariant.fresh (c.rows.index + 1) (omega arith))
+
+pub add_ones-requires-clause-inside : goal.add_ones-requires-clause-inside
+add_ones-requires-clause-inside c = λ k d lt.
+    let are = c.if-not-are_customers.ensures.are.0 refl in
+    let inside = subst (All (IsCustomer c.args.demands.now.nodes c.args.demands.now.depot)) (c.deref.ensures.value ∙ sym c.deref-in-rows.ensures.value) are.0 in
+    let there = (inside k d lt).0.1 in
+    let long = ap length c.deref_mut-in-rows.ensures.value in
+    let places = c.rows.invariant.long in
+    omega (arith, there, long, places)
+
+pub add_ones-requires-clause-once : goal.add_ones-requires-clause-once
+add_ones-requires-clause-once c =
+    subst HasEachOnce (c.deref.ensures.value ∙ sym c.deref-in-rows.ensures.value) (c.if-not-are_customers.ensures.are.0 refl).1
+
+-- all rows are judged in the end
+pub returns : goal.returns
+returns c =
+    let h = c.rows.invariant in
+    let rows : List SubsetRow = map subset_row_of c.args.rows.now in
+    let wide = length-map c.args.rows.now subset_row_of in
+    let all : take c.rows.index rows ≡ rows = take_all c.rows.index rows (omega (arith, wide, c.rows-test.false)) in (
+      λ place less. h.good place (omega (arith, less, wide, c.rows-test.false)),
+      h.long,
+      λ node le. h.counted node le ∙ ap (λ (rs : List SubsetRow). rows_kept rs node) all,
+    )

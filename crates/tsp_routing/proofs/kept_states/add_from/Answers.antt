@@ -1,7 +1,6 @@
 -- The goals of `add_from` in src/kept_states.rt, which adds the entries that go on from one customer: what its call requires
 -- and what it ensures.
-use Rattle.std.proofs.Common.{◌≡◌, ◌≤◌, ◌<◌, ◌+◌, ◌-◌, ℕ, List, length, ap, sym, subst, arith, inl, inr}
-use Rattle.tsp_routing.specs.declared.kept_states.KeptState.{KeptState}
+use Rattle.std.proofs.Common.{◌≡◌, ◌<◌, ◌+◌, ◌-◌, ℕ, length, sym, subst, arith, inl, inr}
 use Rattle.tsp_routing.specs.states.Demands.{load_at}
 use Rattle.tsp_routing.specs.states.KeptLists.{rules_of, IsKeptList, AreSizedEntries}
 use Rattle.tsp_routing.proofs.KeptLists.{list_goes_on, list_skips}
@@ -59,3 +58,9 @@ returns-clause-sizes c = λ olds.
     c.in_ok-add_nexts.ensures.sizes load (length c.args.table.now) lt
     (subst (AreSizedEntries load) (sym c.list_at-befores.ensures)
     ((c.requires.sizes load lt).sizes c.args.before (omega (arith, c.requires.before.1)))) olds
+
+pub returns-then-before-leaf-clause-sizes : goal.returns-then-before-leaf-clause-sizes
+returns-then-before-leaf-clause-sizes c = λ sizes. sizes
+
+pub returns-then-before-last-clause-sizes : goal.returns-then-before-last-clause-sizes
+returns-then-before-last-clause-sizes c = λ sizes. sizes

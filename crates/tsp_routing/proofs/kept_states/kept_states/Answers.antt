@@ -1,4 +1,5 @@
--- The goals of `kept_states` in src/kept_states.rt, which makes the table of kept states: its loop.
+-- The goals of `kept_states` in src/kept_states.rt, which makes the table of kept states: its loop, what a
+-- call requires, and what it ensures.
 use Rattle.tsp_routing.proofs.Prelude.{◌≡◌, ◌≤◌, ◌+◌, ◌∙◌, Option, ℕ, ℤ, List, [], ◌∷◌, ◌++◌, length, ap, subst, subst₂, sym, arith, length-append, Vec}
 use Rattle.std.specs.Prelude.{IfSome}
 use Rattle.tsp_routing.specs.KeptStates.{most_states}
@@ -64,3 +65,63 @@ returns-in_default-clause-exact c = λ near rows leaf_of.
     subst (AreStateRows rules leaf.limit) (sym c.deref.ensures.value) (c.loads.invariant.rows near rows leaf_of) in
     subst (IsStateRowIfFew rules leaf.limit (IsStateRow rules leaf.limit (length c.deref.result.now))) c.in_default.is
     (c.in_ok-next.ensures.exact near rows leaf_of states)
+
+-- no row is there at first
+pub loads-init : goal.loads-init
+loads-init c =
+    let none = c.new-table.ensures.items in
+    let long : length c.new-table.result.items ≡ 0 = ap (λ (xs : List (Vec (Vec KeptState))). length xs) none in
+    record {
+      long = long;
+      rows = λ near rows leaf_of load lt. absurd (omega (arith, lt, long));
+      rising = λ load lt. absurd (omega (arith, lt, long));
+      counted = sym (ap entry_count none);
+      fits = omega arith;
+      sizes = λ load lt. absurd (omega (arith, lt, long));
+      floors = record {
+        loads = ap (λ (xs : List (Vec ℤ)). length xs) c.new-floors.ensures.items ∙ sym long;
+        rows = λ load lt. absurd (omega (arith, lt, long));
+      };
+    }
+
+pub states_with-requires-clause-few : goal.states_with-requires-clause-few
+states_with-requires-clause-few c =
+    let same = ap (λ (xs : List (Vec (Vec KeptState))). length xs) c.deref.ensures.value in
+    let long = c.loads.invariant.long in
+    let less = c.loads-test.true in omega (arith, same, long, less)
+
+pub states_with-requires-clause-sizes : goal.states_with-requires-clause-sizes
+states_with-requires-clause-sizes c =
+    subst (AreSizedRows c.args.leaf.now.nodes.now.nodes) (sym c.deref.ensures.value) c.loads.invariant.sizes
+
+pub states_with-requires-clause-floors : goal.states_with-requires-clause-floors
+states_with-requires-clause-floors c =
+    subst₂ AreFloors (sym c.deref.ensures.value) (sym c.deref-in-loads.ensures.value) c.loads.invariant.floors
+
+pub states_with-requires-clause-rising : goal.states_with-requires-clause-rising
+states_with-requires-clause-rising c = subst AreRisingRows (sym c.deref.ensures.value) c.loads.invariant.rising
+
+pub states_with-requires-clause-count : goal.states_with-requires-clause-count
+states_with-requires-clause-count c = c.loads.invariant.counted ∙ sym (ap entry_count c.deref.ensures.value)
+
+pub states_with-requires-clause-fits : goal.states_with-requires-clause-fits
+states_with-requires-clause-fits c = c.loads.invariant.fits
+
+-- all rows are there in the end
+pub returns-clause-long : goal.returns-clause-long
+returns-clause-long c =
+    let long = c.loads.invariant.long in
+    let most = c.loads.auto.load-end in
+    let end = c.loads-test.false in omega (arith, long, most, end)
+
+pub returns-clause-exact : goal.returns-clause-exact
+returns-clause-exact c = c.loads.invariant.rows
+
+pub returns-clause-rising : goal.returns-clause-rising
+returns-clause-rising c = c.loads.invariant.rising
+
+pub returns-clause-few : goal.returns-clause-few
+returns-clause-few c = subst (λ (k : ℕ). k ≤ most_states) c.loads.invariant.counted c.loads.invariant.fits
+
+pub returns-clause-sizes : goal.returns-clause-sizes
+returns-clause-sizes c = c.loads.invariant.sizes

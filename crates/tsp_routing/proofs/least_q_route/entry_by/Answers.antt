@@ -1,5 +1,6 @@
--- The goals of `entry_by` in src/least_q_route.rt, which improves an entry by one next node: what it ensures.
-use Rattle.tsp_routing.proofs.Prelude.{◌≡◌, ◌+◌, ◌<◌, ◌∙◌, ℕ, length, ap, sym, subst, arith, ℤ, ◌+ℤ◌, ints, least_at}
+-- The goals of `entry_by` in src/least_q_route.rt, which improves an entry by one next node: what its calls
+-- require, and what it ensures.
+use Rattle.tsp_routing.proofs.Prelude.{◌≡◌, ◌+◌, ◌<◌, ◌∙◌, ℕ, length, ap, sym, subst, arith, rules, pos, neg_ℤ, FitsSigned, w64, to_z-of_z, IsFromTo, ℤ, ◌+ℤ◌, ints, least_at}
 use Rattle.tsp_routing.specs.declared.least_q_route.Onward.{Onward}
 use Rattle.tsp_routing.specs.QRoutes.{QRouteEntry, least_from, IsReal}
 use Rattle.tsp_routing.specs.states.Demands.{onward_entry, entry_at, IsEntrySized}
@@ -65,3 +66,31 @@ returns-clause-size g c = λ size fits rows best.
     c.improved.ensures.size (size + link) best
     (sum_low half link size a (value c.least_onward-onward.result) (value c.plus.result) is c.requires.link number)
     (sum_near half link size a (value c.least_onward-onward.result) (value c.plus.result) is c.requires.link number)
+
+pub bounds-known-next : goal.bounds-known-next
+bounds-known-next g c = let sizes = c.requires.sizes in omega (arith, c.requires.next.0.1, sizes.2.places)
+
+pub plus-requires-clause-weight : goal.plus-requires-clause-weight
+plus-requires-clause-weight g c =
+    let fits : FitsSigned w64 c.weight_in.result = search rules in
+    rw (to_z-of_z w64 c.weight_in.result fits)
+    (subst (IsFromTo (neg_ℤ (pos g.S.Sum.link)) (pos g.S.Sum.link)) (sym c.weight_in.ensures) c.requires.link)
+
+pub plus-requires-clause-sum : goal.plus-requires-clause-sum
+plus-requires-clause-sum g c =
+    let value = g.S.Sum.value in
+    let half : ℕ = g.S.Sum.half in
+    let sizes = c.requires.sizes in
+    let own = c.index-known-next.result in
+    let sized : IsEntrySized half sizes.0 (onward_entry value own) =
+    subst (λ (e : Onward g.row.S.Denot). IsEntrySized half sizes.0 (onward_entry value e)) (sym c.index-known-next.is)
+    (known_sized value half c.args.q_routes.now.nodes sizes.0 c.args.next c.args.known.now own c.requires.next.0 sizes.2) in
+    let number = c.least_onward-onward.ensures.size sizes.0 sized in
+    let low = number.0 in
+    let small = sizes.1 in (omega (arith, ints, low, small), number.1)
+
+pub improved-requires : goal.improved-requires
+improved-requires g c = record { order = c.requires.order }
+
+pub returns-clause-order : goal.returns-clause-order
+returns-clause-order g c = c.improved.ensures.order

@@ -1,6 +1,8 @@
 -- The goals of `leaf_bound` in src/plan_leaf.rt, which bounds a leaf at a case: the facts of the sum that it makes, and
 -- what it ensures.
-use Rattle.tsp_routing.proofs.Prelude.{◌≡◌, ◌∙◌, ◌+◌, ◌-◌, ◌*◌, ℕ, ℤ, List, length, refl, ap, ap₂, sym, subst, arith, rules, to_z, of_z, FitsSigned, pos, ◌-ℤ◌, ◌*ℤ◌, Vec, w64, w128, ints, to_z-of_z, length-map, entry, lists_of, families_with, as_leaf_numbers, lent_in, decisions_in}
+use Rattle.tsp_routing.proofs.Prelude.{◌≡◌, ◌≤◌, ◌∙◌, ◌+◌, ◌-◌, ◌*◌, ◌^◌, Option, neg_ℤ, most_nodes, IsFromTo, IsNode, ℕ, ℤ, List, length, refl, ap, ap₂, sym, subst, arith, rules, to_z, of_z, FitsSigned, pos, ◌-ℤ◌, ◌*ℤ◌, Vec, w64, w128, ints, to_z-of_z, length-map, entry, lists_of, families_with, as_leaf_numbers, lent_in, decisions_in}
+use Rattle.std.specs.Prelude.{IfSome}
+use Rattle.tsp_cases.specs.states.OpenCases.{IsOpenCase}
 use Rattle.tsp_routing.specs.PlanBounds.{limits_total, IsPlanBound, IsLeastQRoute}
 use Rattle.tsp_routing.specs.PlanLinks.{sum_of_customers}
 use Rattle.tsp_routing.specs.states.Demands.{loads_problem}
@@ -71,3 +73,73 @@ returns-clause-found g c =
           (c.plan_bound.ensures.bound problem ps families ms case refl (c.fewest.ensures.fewest cost) back
           (omega (arith, ints, own.0, own.1)))));
     }
+
+pub limits_total-limits-requires-clause-some : goal.limits_total-limits-requires-clause-some
+limits_total-limits-requires-clause-some g c =
+    let depot = c.args.leaf.now.context.now.are.depot_in in omega (arith, depot.0, depot.1)
+
+pub limits_total-limits-requires-clause-nodes : goal.limits_total-limits-requires-clause-nodes
+limits_total-limits-requires-clause-nodes g c = c.args.leaf.now.context.now.are.few
+
+pub limits_total-limits-requires-clause-case : goal.limits_total-limits-requires-clause-case
+limits_total-limits-requires-clause-case g c =
+    subst (λ (k : ℕ). IsOpenCase (c.args.leaf.now.context.now.demands.nodes + k) c.args.case.now) (sym c.args.leaf.now.numbers.each_family)
+    c.requires.case
+
+pub limits_total-limits-requires-clause-direction : goal.limits_total-limits-requires-clause-direction
+limits_total-limits-requires-clause-direction g c = c.requires.direction
+
+pub limits_total-limits-requires-clause-as_many : goal.limits_total-limits-requires-clause-as_many
+limits_total-limits-requires-clause-as_many g c = sym c.args.leaf.now.numbers.each_family
+
+pub limits_total-limits-requires-clause-sizes : goal.limits_total-limits-requires-clause-sizes
+limits_total-limits-requires-clause-sizes g c = c.args.leaf.now.numbers.sum
+
+pub customers_total-requires-clause-few : goal.customers_total-requires-clause-few
+customers_total-requires-clause-few g c =
+    subst (λ (k : ℕ). k ≤ most_nodes) (sym c.args.leaf.now.numbers.each_node) c.args.leaf.now.context.now.are.few
+
+pub customers_total-requires-clause-depot : goal.customers_total-requires-clause-depot
+customers_total-requires-clause-depot g c =
+    subst (λ (k : ℕ). IsNode k c.args.leaf.now.context.now.demands.depot) (sym c.args.leaf.now.numbers.each_node)
+    c.args.leaf.now.context.now.are.depot_in
+
+pub customers_total-requires-clause-potentials : goal.customers_total-requires-clause-potentials
+customers_total-requires-clause-potentials g c = c.args.leaf.now.numbers.potentials_are
+
+pub overflow_mul-sum : goal.overflow_mul-sum
+overflow_mul-sum g c = let size = c.customers_total.ensures.size in omega (arith, ints, size.0, size.1)
+
+pub overflow_sub-sum : goal.overflow_sub-sum
+overflow_sub-sum g c =
+    let limits = c.limits_total-limits.ensures.size in
+    let customers = c.customers_total.ensures.size in omega (arith, ints, limits.0, limits.1, customers.0, customers.1)
+
+pub bounds-leaf-context : goal.bounds-leaf-context
+bounds-leaf-context g c =
+    let depot = c.args.leaf.now.context.now.are.depot_in in
+    let each = c.args.leaf.now.numbers.each_node in omega (arith, depot.0, depot.1, each)
+
+pub fewest-requires : goal.fewest-requires
+fewest-requires g c = record { demands = c.args.leaf.now.context.now.are }
+
+pub overflow_sub-sum-2 : goal.overflow_sub-sum-2
+overflow_sub-sum-2 g c = c.args.leaf.now.context.now.are.depot_in.0
+
+pub plan_bound-requires : goal.plan_bound-requires
+plan_bound-requires g c =
+    let size = subst (λ (o : Option ℤ). IfSome o (IsFromTo (neg_ℤ (pos (2 ^ 83))) (pos (2 ^ 83)))) c.in-Some.is c.in_ok-found.ensures.size in
+    let fits : FitsSigned w128 c.in-Some.each = search rules in
+    rw (to_z-of_z w128 c.in-Some.each fits) size
+
+pub returns-clause-size : goal.returns-clause-size
+returns-clause-size g c =
+    let fits : FitsSigned w128 c.plan_bound.result = search rules in
+    rw (to_z-of_z w128 c.plan_bound.result fits) c.plan_bound.ensures.size
+
+pub limits_total-limits-requires-clause-few_families : goal.limits_total-limits-requires-clause-few_families
+limits_total-limits-requires-clause-few_families g c =
+    subst (λ (k : ℕ). k ≤ 10000) (sym c.args.leaf.now.numbers.each_family) c.args.leaf.now.context.now.few_families
+
+pub limits_total-limits-requires-clause-few : goal.limits_total-limits-requires-clause-few
+limits_total-limits-requires-clause-few g c = c.args.leaf.now.context.now.few

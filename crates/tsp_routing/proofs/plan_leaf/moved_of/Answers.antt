@@ -1,6 +1,6 @@
 -- The goals of `moved_of` in src/plan_leaf.rt, which lessens each potential by the multipliers of the node's sets: the
 -- facts of the multiplied families that it makes, and what it ensures.
-use Rattle.tsp_routing.proofs.Prelude.{◌≡◌, ◌∙◌, ◌+◌, ℕ, ℤ, List, replicate, ap, arith, pos, neg_ℤ, ◌+ℤ◌, w64, int_wrap, ints, get_or-replicate, length-replicate, All-from_recursion, IsFromTo, entry, least_at, multipliers_at, lent_in, written, wrapped_by}
+use Rattle.tsp_routing.proofs.Prelude.{◌≡◌, ◌∙◌, ◌+◌, ℕ, ℤ, List, length, sym, replicate, ap, arith, pos, neg_ℤ, ◌+ℤ◌, w64, int_wrap, ints, get_or-replicate, length-replicate, All-from_recursion, IsFromTo, entry, least_at, multipliers_at, lent_in, written, wrapped_by}
 use Rattle.tsp_cases.proofs.RowsKept.{moved_from_ends}
 use Rattle.tsp_routing.specs.PlanVerdicts.{most_of_multipliers}
 use Rattle.tsp_routing.proofs.RouteProducts.{each_small}
@@ -37,3 +37,22 @@ returns-clause-moved g c = λ x x_in.
     ap (λ (zs : List ℤ). int_wrap w64 (least_at zs x)) moved_is
     ∙ moved_from_ends (entry c.args.potentials.now x) (least_at c.deref.result.now x) (least_at c.fill_moved.new.row x) taken held
     (end ∙ ap (int_wrap w64) same)
+
+pub returns-clause-long : goal.returns-clause-long
+returns-clause-long g c =
+    let moved_is = written c.in_ok-moved.moved.len c.fill_moved.new.row _ (c.fill_moved.auto.row ∙ c.deref_mut-2.ensures.len) in
+    ap length moved_is ∙ (c.fill_moved.auto.row ∙ (c.deref_mut-2.ensures.len ∙ c.in_ok-moved.ensures.len))
+
+pub fill_moved-requires : goal.fill_moved-requires
+fill_moved-requires g c =
+    let each = ap (λ (k : ℕ). k + 1) (sym c.requires.numbers.each_node) in
+    let ends_is = c.deref.ensures.value
+    ∙ written c.in_ok-ends.ends.len c.take_multipliers.new.row _ (c.take_multipliers.auto.row ∙ c.deref_mut.ensures.len) in
+    record {
+      room = c.deref_mut-2.ensures.len ∙ (c.in_ok-moved.ensures.len ∙ each);
+      ends = ap length ends_is ∙ (c.take_multipliers.auto.row ∙ (c.deref_mut.ensures.len ∙ (c.in_ok-ends.ensures.len ∙ each)));
+    }
+
+pub take_multipliers-requires : goal.take_multipliers-requires
+take_multipliers-requires g c =
+    c.deref_mut.ensures.len ∙ (c.in_ok-ends.ensures.len ∙ ap (λ (k : ℕ). k + 1) (sym c.args.context.now.own))

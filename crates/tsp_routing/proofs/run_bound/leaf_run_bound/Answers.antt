@@ -1,9 +1,10 @@
 -- The goals of `leaf_run_bound` in src/run_bound.rt, which bounds a leaf at a case by its least run: the facts of the sum
 -- that it makes, what its calls require, and what it ensures.
-use Rattle.tsp_routing.proofs.Prelude.{◌≡◌, ◌∙◌, ◌+◌, ◌-◌, ◌*◌, ◌^◌, Option, neg_ℤ, IsFromTo, ℕ, ℤ, List, map, length, refl, ap, ap₂, sym, subst, arith, rules, to_z, of_z, FitsSigned, pos, ◌-ℤ◌, ◌*ℤ◌, Vec, w64, w128, ints, to_z-of_z, length-map, entry, lists_of, families_with, as_leaf_numbers, lent_in, decisions_in}
+use Rattle.tsp_routing.proofs.Prelude.{◌≡◌, ◌≤◌, ◌∙◌, ◌+◌, most_nodes, IsNode, ◌-◌, ◌*◌, ◌^◌, Option, neg_ℤ, IsFromTo, ℕ, ℤ, List, length, refl, ap, ap₂, sym, subst, arith, rules, to_z, of_z, FitsSigned, pos, ◌-ℤ◌, ◌*ℤ◌, Vec, w64, w128, ints, to_z-of_z, length-map, entry, lists_of, families_with, as_leaf_numbers, lent_in, decisions_in}
 use Rattle.std.proofs.Math.Logic.{∥∥₁_elim}
 use Rattle.std.proofs.Props.{props}
 use Rattle.std.specs.Prelude.{IfSome}
+use Rattle.tsp_cases.specs.states.OpenCases.{IsOpenCase}
 use Rattle.tsp_routing.specs.PlanBounds.{limits_total}
 use Rattle.tsp_routing.specs.PlanLinks.{sum_of_customers}
 use Rattle.tsp_routing.specs.Runs.{halves_total}
@@ -11,7 +12,6 @@ use Rattle.tsp_format.specs.Steps.{SubsetRow}
 use Rattle.tsp_routing.specs.RunBounds.{IsLeastRun, leaf_rules, IsRunBound}
 use Rattle.tsp_routing.specs.states.Demands.{loads_problem}
 use Rattle.tsp_routing.specs.states.KeptLists.{IsLeastRunIfFew}
-use Rattle.tsp_format.specs.states.TreeSteps.{subset_row_of}
 use Rattle.tsp_routing.specs.states.RunJudged.{halves_with}
 use Rattle.tsp_routing.proofs.RouteProducts.{numbers_of_families}
 use Rattle.tsp_routing.proofs.LeastRuns.{halves_are_total}
@@ -124,3 +124,83 @@ returns-clause-bound g c = λ near rows are sets priced signs.
       rw (to_z-of_z w128 bound bound_fits)
           (subst (λ (z : ℤ). IsRunBound problem z s.unit s.units.now.light families case numbers near rows bound) (to_z-of_z w64 s.scale fits) out),
     )
+
+pub limits_total-limits-requires-clause-some : goal.limits_total-limits-requires-clause-some
+limits_total-limits-requires-clause-some g c =
+    let depot = c.args.leaf.now.context.now.are.depot_in in omega (arith, depot.0, depot.1)
+
+pub limits_total-limits-requires-clause-nodes : goal.limits_total-limits-requires-clause-nodes
+limits_total-limits-requires-clause-nodes g c = c.args.leaf.now.context.now.are.few
+
+pub limits_total-limits-requires-clause-case : goal.limits_total-limits-requires-clause-case
+limits_total-limits-requires-clause-case g c =
+    subst (λ (k : ℕ). IsOpenCase (c.args.leaf.now.context.now.demands.nodes + k) c.args.case.now) (sym c.args.leaf.now.numbers.each_family)
+    c.requires.case
+
+pub limits_total-limits-requires-clause-direction : goal.limits_total-limits-requires-clause-direction
+limits_total-limits-requires-clause-direction g c = c.requires.direction
+
+pub limits_total-limits-requires-clause-as_many : goal.limits_total-limits-requires-clause-as_many
+limits_total-limits-requires-clause-as_many g c = sym c.args.leaf.now.numbers.each_family
+
+pub limits_total-limits-requires-clause-sizes : goal.limits_total-limits-requires-clause-sizes
+limits_total-limits-requires-clause-sizes g c = c.args.leaf.now.numbers.sum
+
+pub customers_total-customers-requires-clause-few : goal.customers_total-customers-requires-clause-few
+customers_total-customers-requires-clause-few g c =
+    subst (λ (k : ℕ). k ≤ most_nodes) (sym c.args.leaf.now.numbers.each_node) c.args.leaf.now.context.now.are.few
+
+pub customers_total-customers-requires-clause-depot : goal.customers_total-customers-requires-clause-depot
+customers_total-customers-requires-clause-depot g c =
+    subst (λ (k : ℕ). IsNode k c.args.leaf.now.context.now.demands.depot) (sym c.args.leaf.now.numbers.each_node)
+    c.args.leaf.now.context.now.are.depot_in
+
+pub customers_total-customers-requires-clause-potentials : goal.customers_total-customers-requires-clause-potentials
+customers_total-customers-requires-clause-potentials g c = c.args.leaf.now.numbers.potentials_are
+
+pub overflow_mul-sum : goal.overflow_mul-sum
+overflow_mul-sum g c = let size = c.customers_total-customers.ensures.size in omega (arith, ints, size.0, size.1)
+
+pub overflow_sub-sum : goal.overflow_sub-sum
+overflow_sub-sum g c =
+    let limits = c.limits_total-limits.ensures.size in
+    let customers = c.customers_total-customers.ensures.size in omega (arith, ints, limits.0, limits.1, customers.0, customers.1)
+
+pub bounds-leaf-context : goal.bounds-leaf-context
+bounds-leaf-context g c =
+    let depot = c.args.leaf.now.context.now.are.depot_in in
+    let each = c.args.leaf.now.numbers.each_node in omega (arith, depot.0, depot.1, each)
+
+pub fewest-requires : goal.fewest-requires
+fewest-requires g c = record { demands = c.args.leaf.now.context.now.are }
+
+pub halves_of-halves-requires-clause-many : goal.halves_of-halves-requires-clause-many
+halves_of-halves-requires-clause-many g c = c.requires.many ∙ sym c.requires.rows
+
+pub halves_of-halves-requires-clause-sets : goal.halves_of-halves-requires-clause-sets
+halves_of-halves-requires-clause-sets g c = c.requires.sets
+
+pub halves_of-halves-requires-clause-sizes : goal.halves_of-halves-requires-clause-sizes
+halves_of-halves-requires-clause-sizes g c = c.requires.sizes
+
+pub overflow_sub-sum-2 : goal.overflow_sub-sum-2
+overflow_sub-sum-2 g c =
+    let limits = c.limits_total-limits.ensures.size in
+    let customers = c.customers_total-customers.ensures.size in
+    let halves = c.halves_of-halves.ensures.size in
+    omega (arith, ints, limits.0, limits.1, customers.0, customers.1, halves.0, halves.1)
+
+pub overflow_sub-sum-3 : goal.overflow_sub-sum-3
+overflow_sub-sum-3 g c = c.args.leaf.now.context.now.are.depot_in.0
+
+pub returns-clause-size : goal.returns-clause-size
+returns-clause-size g c =
+    let fits : FitsSigned w128 c.run_bound.result = search rules in
+    rw (to_z-of_z w128 c.run_bound.result fits) c.run_bound.ensures.size
+
+pub limits_total-limits-requires-clause-few_families : goal.limits_total-limits-requires-clause-few_families
+limits_total-limits-requires-clause-few_families g c =
+    subst (λ (k : ℕ). k ≤ 10000) (sym c.args.leaf.now.numbers.each_family) c.args.leaf.now.context.now.few_families
+
+pub limits_total-limits-requires-clause-few : goal.limits_total-limits-requires-clause-few
+limits_total-limits-requires-clause-few g c = c.args.leaf.now.context.now.few

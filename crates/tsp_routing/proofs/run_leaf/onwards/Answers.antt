@@ -1,6 +1,6 @@
 -- The goals of `onwards` in src/run_leaf.rt, which finds for each node what the cheapest way home from it weighs: its
--- loop.
-use Rattle.tsp_routing.proofs.Prelude.{◌≡◌, ◌+◌, ◌∙◌, ℕ, ℤ, List, [], ◌∷◌, ◌++◌, pos, length, get_or, ap, subst, sym, arith, rules, FitsSigned, length-append, w128, to_z-of_z}
+-- loop, what a call requires, and what it ensures.
+use Rattle.tsp_routing.proofs.Prelude.{◌≡◌, ◌∙◌, ℕ, ℤ, List, [], ◌∷◌, ◌++◌, pos, length, ap, arith, rules, FitsSigned, length-append, w128, to_z-of_z}
 use Rattle.tsp_routing.specs.states.RunTables.{IsOnward, IsOnwardSized}
 use Rattle.tsp_routing.proofs.WaysHome.{node_pushed}
 use Rattle.tsp_routing.proofs.run_leaf.onwards.Goals as goal
@@ -24,4 +24,23 @@ nodes-preserved c =
           before after own (pos 0) c.nodes.index pushed h.long h.values c.onward_from.ensures.value;
       sizes = node_pushed (λ (next : ℕ) (number : ℤ). IsOnwardSized (length table) number)
           before after own (pos 0) c.nodes.index pushed h.long h.sizes c.onward_from.ensures.size;
+    }
+
+pub onward_from-requires-clause-next : goal.onward_from-requires-clause-next
+onward_from-requires-clause-next c = (omega arith, omega (arith, c.nodes-test.true))
+
+pub onward_from-requires-clause-sizes : goal.onward_from-requires-clause-sizes
+onward_from-requires-clause-sizes c = c.requires.sizes
+
+pub returns-clause-values : goal.returns-clause-values
+returns-clause-values c = λ next there. c.nodes.invariant.values next (there.0, omega (arith, there.1, c.nodes-test.false))
+
+pub returns-clause-sizes : goal.returns-clause-sizes
+returns-clause-sizes c =
+    let long = c.nodes.invariant.long in
+    let most = c.nodes.auto.index-end in
+    let end = c.nodes-test.false in
+    record {
+      places = omega (arith, long, most, end);
+      sizes = λ next there. c.nodes.invariant.sizes next (there.0, omega (arith, there.1, c.nodes-test.false));
     }

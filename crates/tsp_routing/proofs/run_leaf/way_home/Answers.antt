@@ -1,7 +1,8 @@
--- The goals of `way_home` in src/run_leaf.rt, which finds the least weight of a way home from a node: its loop.
-use Rattle.tsp_routing.proofs.Prelude.{◌≡◌, ◌≢◌, ◌+◌, ◌*◌, ℕ, ℤ, List, pos, neg_ℤ, ap, arith, rules, FitsSigned, to_z, inl, inr, ◌≤ℤ◌, ◌<ℤ◌, ◌⊎◌, ◌+ℤ◌, slice_index_or, w128, ints, to_z-of_z, least_at}
+-- The goals of `way_home` in src/run_leaf.rt, which finds the least weight of a way home from a node: its loop, what a
+-- call requires, and what it ensures.
+use Rattle.tsp_routing.proofs.Prelude.{◌≡◌, ◌≢◌, ◌+◌, ℕ, ℤ, List, pos, neg_ℤ, ap, sym, subst, arith, rules, FitsSigned, to_z, inl, inr, ◌≤ℤ◌, ◌<ℤ◌, ◌⊎◌, ◌+ℤ◌, slice_index_or, w128, ints, to_z-of_z, least_at, IsFromTo}
 use Rattle.tsp_routing.specs.PlanBounds.{most_link}
-use Rattle.tsp_routing.specs.states.RunTables.{link_in, IsWayMetTo}
+use Rattle.tsp_routing.specs.states.RunTables.{IsWayBelowTo, IsWayMetTo}
 use Rattle.tsp_routing.proofs.WaysHome.{below_by_one, met_by_one, size_by_one}
 use Rattle.tsp_routing.proofs.run_leaf.way_home.Goals as goal
 
@@ -35,3 +36,44 @@ nexts-preserved c =
           (elim met [ inl same ↦ inl same | inr on ↦ inr on.1 ]);
       most = let most = h.most in omega (arith, ints, keeps, most);
     })
+
+pub lesser_way-least-requires-clause-row : goal.lesser_way-least-requires-clause-row
+lesser_way-least-requires-clause-row c =
+    let places = c.row-row.ensures.places in
+    let less = c.nexts-test.true in omega (arith, places, less)
+
+pub lesser_way-least-requires-clause-onward : goal.lesser_way-least-requires-clause-onward
+lesser_way-least-requires-clause-onward c =
+    let places = c.requires.sizes.2.places in
+    let less = c.nexts-test.true in omega (arith, places, less)
+
+pub lesser_way-least-requires-clause-link : goal.lesser_way-least-requires-clause-link
+lesser_way-least-requires-clause-link c =
+    let next : ℕ = c.nexts.index + 1 in
+    subst (λ (xs : List ℤ). IsFromTo (neg_ℤ (pos most_link)) (pos most_link) (least_at xs next)) (sym c.row-row.ensures.value)
+    (c.args.run_nodes.now.links.sizes c.args.node next c.requires.node (omega arith, omega (arith, c.nexts-test.true)))
+
+pub lesser_way-least-requires-clause-size : goal.lesser_way-least-requires-clause-size
+lesser_way-least-requires-clause-size c =
+    let given = c.requires.sizes in
+    (given.0, given.1, given.2.sizes (c.nexts.index + 1) (omega arith, omega (arith, c.nexts-test.true)))
+
+pub returns-clause-below : goal.returns-clause-below
+returns-clause-below c =
+    let nodes = c.args.run_nodes.now in
+    let end : c.nexts.index ≡ nodes.nodes = omega (arith, c.nexts-test.false, c.nexts.auto.index-end) in
+    subst (λ (k : ℕ). IsWayBelowTo nodes.depot nodes.rows.now c.args.onward.now c.args.node k (to_z w128 c.nexts.least-bits)) end
+    c.nexts.invariant.below
+
+pub returns-clause-met : goal.returns-clause-met
+returns-clause-met c =
+    let nodes = c.args.run_nodes.now in
+    let end : c.nexts.index ≡ nodes.nodes = omega (arith, c.nexts-test.false, c.nexts.auto.index-end) in
+    subst (λ (k : ℕ). IsWayMetTo nodes.depot nodes.rows.now c.args.onward.now c.args.node k (to_z w128 c.nexts.least-bits)) end
+    c.nexts.invariant.met
+
+pub returns-clause-size : goal.returns-clause-size
+returns-clause-size c = c.nexts.invariant.size
+
+pub returns-clause-most : goal.returns-clause-most
+returns-clause-most c = c.nexts.invariant.most

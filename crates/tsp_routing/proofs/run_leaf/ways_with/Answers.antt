@@ -1,5 +1,5 @@
 -- The goals of `ways_with` in src/run_leaf.rt, which makes the row of the next load: its loop and what it ensures.
-use Rattle.tsp_routing.proofs.Prelude.{◌≡◌, ◌≤◌, ◌+◌, ◌*◌, ◌∙◌, ℕ, ℤ, List, [], ◌∷◌, ◌++◌, pos, neg_ℤ, length, get_or, ap, subst, sym, arith, rules, FitsSigned, length-append, w128, to_z-of_z, ◌≤ℤ◌}
+use Rattle.tsp_routing.proofs.Prelude.{◌≡◌, ◌+◌, ◌*◌, ◌∙◌, ℕ, ℤ, List, [], ◌∷◌, ◌++◌, pos, neg_ℤ, length, ap, subst, sym, arith, rules, FitsSigned, length-append, w128, to_z-of_z, ◌≤ℤ◌}
 use Rattle.tsp_routing.specs.PlanBounds.{most_link}
 use Rattle.tsp_routing.specs.KeptStates.{IsCompletion}
 use Rattle.tsp_routing.specs.states.RunTables.{rules_by, AreOnwards, AreOnwardsSized}
@@ -40,3 +40,29 @@ nodes-preserved c =
 pub returns-clause-exact : goal.returns-clause-exact
 returns-clause-exact c = λ near rows homes load node full customer.
     c.nodes.invariant.ways near rows homes node (customer.0.0, omega (arith, customer.0.1, c.nodes-test.false)) load full
+
+pub nodes-init : goal.nodes-init
+nodes-init c =
+    let pushed = ap (λ (xs : List ℤ). length xs) c.in_ok-push.ensures.items in
+    let none = ap (λ (xs : List ℤ). length xs) c.in_ok-next.ensures.items in
+    record {
+      long = omega (arith, length-append {A = ℤ}, pushed, none);
+      ways = λ near rows homes node there. absurd (omega (arith, there.0, there.1));
+      sizes = λ node there. absurd (omega (arith, there.0, there.1));
+    }
+
+pub onwards-requires-clause-sizes : goal.onwards-requires-clause-sizes
+onwards-requires-clause-sizes c = c.requires.sizes
+
+pub way_home-way-requires-clause-node : goal.way_home-way-requires-clause-node
+way_home-way-requires-clause-node c = (omega arith, omega (arith, c.nodes-test.true))
+
+pub returns-clause-sizes : goal.returns-clause-sizes
+returns-clause-sizes c =
+    let long = c.nodes.invariant.long in
+    let most = c.nodes.auto.index-end in
+    let end = c.nodes-test.false in
+    record {
+      places = omega (arith, long, most, end);
+      sizes = λ node there. c.nodes.invariant.sizes node (there.0, omega (arith, there.1, c.nodes-test.false));
+    }
