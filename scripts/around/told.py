@@ -198,7 +198,8 @@ class Told:
         """Which of its modules other crates may import."""
         public = [line.removeprefix("pub mod ") for line in file.lines if line.startswith("pub mod ")]
         private = [line.removeprefix("mod ") for line in file.lines if line.startswith("mod ")]
-        return [self.row("other crates may import", public), self.row("only this crate may import", private)]
+        rows = [("pub mod", public), ("mod", private)]
+        return [self.row(title, names) for title, names in rows if names]
 
     def users_of_definitions(self, file: Definitions) -> list[str]:
         names = self.users.names_imported(file)
