@@ -195,10 +195,14 @@ class Told:
                 self.row("callers", map(self.function, self.users.callers(function)))]
 
     def users_of_index(self, file: Definitions) -> list[str]:
-        """Which of its modules other crates may import."""
+        """Its modules: those that other crates import, other public ones, and private ones."""
         public = [line.removeprefix("pub mod ") for line in file.lines if line.startswith("pub mod ")]
         private = [line.removeprefix("mod ") for line in file.lines if line.startswith("mod ")]
-        rows = [("pub mod", public), ("mod", private)]
+        folder = self.path.parent / "states" if self.path.stem == "states" else self.path.parent
+        seen = [it.path.stem for it in (*self.crate.specs, *self.crate.lemmas) if it.path.parent == folder
+                and any(self.crate.folder not in path.parents for path in self.users.importers_of(it))]
+        rows = [("public, and imported by other crates", [name for name in public if name in seen]),
+                ("public, and not imported by other crates", [name for name in public if name not in seen]), ("private", private)]
         return [self.row(title, names) for title, names in rows if names]
 
     def users_of_definitions(self, file: Definitions) -> list[str]:
