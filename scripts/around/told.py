@@ -19,7 +19,7 @@ MOST_ROWS, MOST_NAMES = 7, 4
 TESTS = ("tsp_tests", "tsp_tests_no_memory", "example_check")
 LISTS = ("Lib.antt", "states.antt", "lib.rt")
 LOOK = "./check layout names style edits bodies cited trust evaluated walks"
-SENTENCE = re.compile(r"(?<=[^.\s][^.\s])\.(?:\s|$)")
+SENTENCE = re.compile(r"(?<!\b[A-Z])(?<=[^.\s])\.(?:\s|$)")  # (an initial, as in O. Borůvka, ends none)
 CIRCLES = re.compile(r"^Circles? [123][^.]*of docs/trust\.md\.\s*")
 
 
@@ -184,7 +184,7 @@ class Told:
             return []
         counts = [(walk.name, sum(it.path == self.path for it in walk.calls)) for walk in self.users.walks]
         passing = [f"{name} ({count})" for name, count in counts if count]
-        return [self.row("walks through it, each with how many of its functions", passing)] if passing or self.kind is Kind.CODE else []
+        return [self.row("walks (scripts/walk) through it, each with how many of its functions", passing)] if passing or self.kind is Kind.CODE else []
 
     def users_of_exports(self, code: Code) -> list[str]:
         found: dict[str, set[str]] = defaultdict(set)

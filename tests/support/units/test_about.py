@@ -114,6 +114,7 @@ class Words(unittest.TestCase):
 
     def test_first_sentences(self) -> None:
         self.assertEqual(sentence("Circle 1 of docs/trust.md.\nWhat is 1.5, as [`a`](b) says. More."), "What is 1.5, as `a` says")
+        self.assertEqual(sentence("In rounds (O. Borůvka). More."), "In rounds (O. Borůvka)")
 
     def test_few(self) -> None:
         self.assertEqual(few(["a", "b", "a", "c"], 2), "a, b and 1 more")
