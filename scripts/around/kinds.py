@@ -23,7 +23,7 @@ class Kind(Enum):
                                                      "means. Proceed as for a contract.")
     VALUES = ("examples for laws", "Laws evaluate definitions on them. Nothing else rests on them.")
     PRELUDE = ("names passed on", "It declares nothing. Add or drop a name as the files of this crate need it.")
-    INDEX = ("list of files", "It declares nothing. `pub mod` lets other crates import a file, so only what they import has it.")
+    INDEX = ("list of files", "It declares nothing. `pub mod` lets other crates import a file, and in specs/ also the proofs of this crate.")
     LEMMAS = ("lemmas", "No promise rests on the wording of a lemma. If you change a statement, mend the proofs that import it.")
     PROOF = ("proof of one function", "Change it freely, as long as the function is still proved: no other file rests on it.")
     TRIED = ("wrong edit that every check tries", "The prover has to refuse it. No promise changes if you change it.")

@@ -14,11 +14,12 @@ from .kinds import Kind, kind_of
 from .users import Users
 
 WIDTH = 118
+SCREEN = 42  # lines
 MOST_ROWS, MOST_NAMES = 7, 4
 TESTS = ("tsp_tests", "tsp_tests_no_memory", "example_check")
 LISTS = ("Lib.antt", "states.antt", "lib.rt")
 LOOK = "./check layout names style edits bodies cited trust evaluated walks"
-SENTENCE = re.compile(r"(?<=[^.\s][^.\s])\.(?:\s|$)")
+SENTENCE = re.compile(r"(?<!\b[A-Z])(?<=[^.\s])\.(?:\s|$)")  # (an initial, as in O. Borůvka, ends none)
 CIRCLES = re.compile(r"^Circles? [123][^.]*of docs/trust\.md\.\s*")
 
 
@@ -55,7 +56,13 @@ class Told:
         self.kind = kind
 
     def lines(self) -> list[str]:
-        """All parts."""
+        """All parts. Where they need more than a screen, fewer names are shown."""
+        found = self.all_parts()
+        for self.rows, self.names in ((4, 3), (3, 2)) if self.rows == MOST_ROWS else ():
+            found = found if len(found) <= SCREEN else self.all_parts()
+        return found
+
+    def all_parts(self) -> list[str]:
         parts = [("where", self.where()), ("users", self.who_uses()), ("uses", self.what_it_uses()),
                  ("rule", self.rule()), ("after a change", self.to_run())]
         found = [f"{self.path.relative_to(ROOT) if ROOT in self.path.parents else self.path}: {self.about_kind()}"]
@@ -166,8 +173,10 @@ class Told:
             return self.row(function.shown, map(self.function, others or found))
         if function.trait:
             return f"{function.shown}: called through the trait {function.trait}"
+        if any("no_mangle" in attribute for attribute in function.attributes):
+            return f"{function.shown}: called from C"
         is_law = function.is_law or function.changes_nothing
-        return f"{function.shown}: {'a law for readers, which no code calls' if is_law else 'no code calls it'}"
+        return f"{function.shown}: {'a law for readers, which no code calls' if is_law else 'no code in crates/ calls it'}"
 
     def walks(self) -> list[str]:
         """The walks that pass through the file."""
@@ -175,7 +184,7 @@ class Told:
             return []
         counts = [(walk.name, sum(it.path == self.path for it in walk.calls)) for walk in self.users.walks]
         passing = [f"{name} ({count})" for name, count in counts if count]
-        return [self.row("walks through it, each with how many of its functions", passing)] if passing or self.kind is Kind.CODE else []
+        return [self.row("walks (scripts/walk) through it, each with how many of its functions", passing)] if passing or self.kind is Kind.CODE else []
 
     def users_of_exports(self, code: Code) -> list[str]:
         found: dict[str, set[str]] = defaultdict(set)
@@ -191,14 +200,18 @@ class Told:
         function = self.users.proved_by(self.path)
         if not function:
             return ["no function has this proof"]
-        return [f"no other file: callers of {function.shown} see only its contract",
-                self.row("callers", map(self.function, self.users.callers(function)))]
+        return [f"no other file: callers of {function.shown} see only its contract", f"callers of {self.callers(function)}"]
 
     def users_of_index(self, file: Definitions) -> list[str]:
-        """Which of its modules other crates may import."""
+        """Its modules: those that other crates import, other public ones, and private ones."""
         public = [line.removeprefix("pub mod ") for line in file.lines if line.startswith("pub mod ")]
         private = [line.removeprefix("mod ") for line in file.lines if line.startswith("mod ")]
-        return [self.row("other crates may import", public), self.row("only this crate may import", private)]
+        folder = self.path.parent / "states" if self.path.stem == "states" else self.path.parent
+        seen = [it.path.stem for it in (*self.crate.specs, *self.crate.lemmas) if it.path.parent == folder
+                and any(self.crate.folder not in path.parents for path in self.users.importers_of(it))]
+        rows = [("public, and imported by other crates", [name for name in public if name in seen]),
+                ("public, and not imported by other crates", [name for name in public if name not in seen]), ("private", private)]
+        return [self.row(title, names) for title, names in rows if names]
 
     def users_of_definitions(self, file: Definitions) -> list[str]:
         names = self.users.names_imported(file)
@@ -244,8 +257,7 @@ class Told:
         folders = set(self.crate.folders_of(edit))
         alike = [it.path.stem for it in self.crate.edits if it.path != edit.path and folders & set(self.crate.folders_of(it))]
         found = [self.row("it changes", [*map(self.function, changed), *self.definitions_changed(edit)])]
-        found += [self.row("which is called by", map(self.function, (it for function in changed for it in self.users.callers(function))))] \
-            if changed else []
+        found += [f"callers of {self.callers(function)}" for function in dict.fromkeys(changed)]
         return [*found, *([self.row("other edits of it", alike)] if alike else [])]
 
     def definitions_changed(self, edit: Edit) -> list[str]:

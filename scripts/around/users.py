@@ -107,10 +107,11 @@ class Users:
 
     def importers_of(self, file: Definitions) -> set[Path]:
         """The files that import a file of definitions or lemmas; of a prelude, those that import what it passes on."""
-        module = module_of(self.crate_of(file.path), file.path)
-        if file.path.stem != "Prelude":
-            return self.imports.users[module]
         crate = self.crate_of(file.path)
+        module = module_of(crate, file.path)
+        if file.path.stem != "Prelude":
+            cited = f"crate::proofs::{file.path.stem}::"
+            return self.imports.users[module] | {code.path for code in crate.code if file in crate.lemmas and cited in code.text}
         every = [*((it.path, it.uses) for it in (*crate.specs, *crate.lemmas)), *((it.path, it.ghost_uses) for it in crate.code)]
         return {path for path, uses in every if any(source == module for source, _ in uses.values())}
 
@@ -177,9 +178,9 @@ class Users:
     # ---- proofs and wrong edits
 
     def proved_by(self, path: Path) -> Function | None:
-        """The function whose proof a file is part of."""
+        """The function whose proof a file is part of. One that calls itself has a `+` before its name."""
         crate = self.crate_of(path)
-        folder = str(path.parent.relative_to(crate.folder / "proofs"))
+        folder = str(path.parent.relative_to(crate.folder / "proofs")).replace("+", "")
         return next((it for it in crate.functions if crate.folder_of(it) == folder), None)
 
     def edits_of(self, crate: Crate, path: Path, folders: Iterable[str] = ()) -> list[Edit]:

@@ -12,7 +12,7 @@ from code_text import Function
 from crates_text import ROOT, crates
 from planted import plant
 
-MOST_LINES = 55  # that are printed of a file without --all
+MOST_LINES = 50  # that are printed of a file without --all
 FILES = {
     "low/specs/Prelude.antt": "-- Names.\npub use Rattle.low.specs.Shapes.{IsArea}\n",
     "low/proofs/Sums.antt": "-- Sums.\nuse Rattle.low.specs.Prelude.{IsArea}\n\npub sums : ℕ\nsums = 3\n",
@@ -72,7 +72,7 @@ class Planted(unittest.TestCase):
     def test_proofs(self) -> None:
         told = self.lines("low/proofs/shape/squared/Answers.antt")
         self.assertIn("the goals of squared (shape): The square of a number", told)
-        self.assertIn("callers: Circle::area (shape)", told)
+        self.assertIn("callers of squared: Circle::area (shape)", told)
         self.assertIn("cd crates/low && rt check --only shape::squared, then rt check", told)
         self.assertIn("low: proofs of squared", self.lines("low/proofs/Sums.antt"))
 
@@ -114,6 +114,7 @@ class Words(unittest.TestCase):
 
     def test_first_sentences(self) -> None:
         self.assertEqual(sentence("Circle 1 of docs/trust.md.\nWhat is 1.5, as [`a`](b) says. More."), "What is 1.5, as `a` says")
+        self.assertEqual(sentence("In rounds (O. Borůvka). More."), "In rounds (O. Borůvka)")
 
     def test_few(self) -> None:
         self.assertEqual(few(["a", "b", "a", "c"], 2), "a, b and 1 more")
