@@ -1,15 +1,14 @@
 #!/usr/bin/env python3
 """Tests of tsp-certify for a TSP or an ATSP: tours, bounds and gaps. cases.py CASE TSP_CERTIFY TSP; support.py says more."""
 
-import json
 import random
 import subprocess
 from itertools import permutations
 from math import dist
 from pathlib import Path
 
-from support import CERTIFY, PATIENCE, POINTS, SPACE, TSP, certify, judged, need, need_bounded, need_optimal, need_same_bytes, run
-from support import write, write_arcs, write_forms, write_layouts, write_matrix, write_points, write_small
+from support import CERTIFY, PATIENCE, POINTS, SPACE, TSP, certify, events, judged, need, need_bounded, need_optimal, need_same_bytes
+from support import run, write, write_arcs, write_forms, write_layouts, write_matrix, write_points, write_small, write_tour
 
 
 def weights():
@@ -78,7 +77,7 @@ def atsp_named_tour():
     """A bad tour that is named is made shorter; a reversed one is another tour."""
     chance = random.Random(22)
     write_arcs(40, lambda i, j: chance.randint(1, 1000))
-    Path("bad.tour").write_text("TYPE : TOUR\nTOUR_SECTION\n" + "\n".join(map(str, range(1, 41))) + "\n-1\nEOF\n")
+    write_tour("bad.tour", range(1, 41))
     certify("a.atsp", "bad.tour", "-o", "out.branches", "--tour-out", "out.tour")
     need("optimal" in judged("a.atsp"), "not optimal")
     need(int(judged("a.atsp", "bad.tour")["gap"]) > 0, "no bound of the bad tour")
@@ -97,7 +96,7 @@ def random_points():
 def named_tour():
     """A bad tour that is named is made shorter, and without --tour-out it is bounded."""
     write_points("a.tsp", "EUC_2D", 40, random.Random(8))
-    Path("bad.tour").write_text("TYPE : TOUR\nTOUR_SECTION\n" + "\n".join(map(str, range(1, 41))) + "\n-1\nEOF\n")
+    write_tour("bad.tour", range(1, 41))
     certify("a.tsp", "bad.tour", "-o", "out.branches", "--tour-out", "out.tour")
     report, bad = judged("a.tsp"), judged("a.tsp", "bad.tour")
     need("optimal" in report, f"not optimal: {report}")
@@ -161,8 +160,7 @@ def sparse():
         need_bounded("a.tsp", 0.97, *words)
         texts.append((Path("out.branches").read_bytes(), Path("out.tour").read_bytes()))
     need(texts[0] == texts[1], "the same seed gives other bytes")
-    events = [json.loads(line) for line in Path("out.log").read_text().splitlines()]
-    need(all(0 <= event["bound"] <= event["length"] for event in events), "a bound is above, or none")
+    need(all(0 <= event["bound"] <= event["length"] for event in events()), "a bound is above, or none")
     Path("named.tour").write_bytes(texts[0][1])
     said = certify("a.tsp", "named.tour", "-o", "out.branches", "--sparse")
     need("bound" in judged("a.tsp", "named.tour"), f"no bound of a named tour: {said}")

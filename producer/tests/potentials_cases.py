@@ -1,7 +1,6 @@
 #!/usr/bin/env python3
 """Tests of tsp-potentials. potentials_cases.py CASE TSP_POTENTIALS TSP; support.py says more."""
 
-import json
 import os
 import random
 import re
@@ -11,8 +10,8 @@ import time
 from pathlib import Path
 
 from support import CERTIFY as PROGRAM
-from support import PATIENCE, POINTS, SPACE, TSP, certify, need, need_installed, need_refused, run
-from support import write_arcs, write_faulty, write_forms, write_layouts, write_matrix, write_points, write_small
+from support import PATIENCE, POINTS, SPACE, TSP, certify, events, need, need_installed, need_refused, run
+from support import write_arcs, write_faulty, write_forms, write_layouts, write_matrix, write_points, write_small, write_tour
 
 OUT = ["-o", "out.potentials"]
 BOTH = [*OUT, "--tour-out", "out.tour"]
@@ -89,7 +88,7 @@ def atsp():
         write_arcs(nodes, lambda i, j, low=low, high=high: chance.randint(low, high))
         said = certify("a.atsp", *OUT)
         need(f"bound {judged('a.atsp', None)['bound']}," in said, f"another bound than that of tsp: {said}")
-    Path("a.tour").write_text("TYPE : TOUR\nTOUR_SECTION\n" + "\n".join(map(str, range(1, 31))) + "\n-1\nEOF\n")
+    write_tour("a.tour", range(1, 31))
     said = certify("a.atsp", "a.tour", *OUT)
     need(f"length {judged('a.atsp', 'a.tour')['length']}," in said, f"another length than that of tsp: {said}")
     write_points("points.atsp", "EUC_2D", 40, chance)
@@ -100,7 +99,7 @@ def atsp():
 def named_tour():
     """The gap of a tour that is named is told, and a bad one is made shorter."""
     write_points("a.tsp", "EUC_2D", 100, random.Random(8), side=10**5)
-    Path("bad.tour").write_text("TYPE : TOUR\nTOUR_SECTION\n" + "\n".join(map(str, range(1, 101))) + "\n-1\nEOF\n")
+    write_tour("bad.tour", range(1, 101))
     bad = int(judged_after(["a.tsp", "bad.tour", *OUT], "bad.tour")["length"])
     better = int(judged_after(["a.tsp", "bad.tour", *BOTH], "out.tour")["length"])
     need(better < bad / 3, f"length {better} after {bad}")
@@ -211,11 +210,11 @@ def log():
     """Each line is of JSON, and no bound is above its length."""
     write_points("a.tsp", "EUC_2D", 300, random.Random(5), side=10**6)
     certify("a.tsp", *BOTH, "--log", "out.log")
-    events = [json.loads(line) for line in Path("out.log").read_text().splitlines()]
-    need([event["event"] for event in events[-2:]] == ["tour", "end"], f"the last events: {events[-2:]}")
-    need(events[-1]["length"] == int(judged("a.tsp")["length"]), f"another length: {events[-1]}")
-    need(all(event["length"] - event["bound"] == event["gap"] >= 0 for event in events), "a bound is above, or none")
-    need([event["seconds"] for event in events] == sorted(event["seconds"] for event in events), "not in order")
+    told = events()
+    need([event["event"] for event in told[-2:]] == ["tour", "end"], f"the last events: {told[-2:]}")
+    need(told[-1]["length"] == int(judged("a.tsp")["length"]), f"another length: {told[-1]}")
+    need(all(event["length"] - event["bound"] == event["gap"] >= 0 for event in told), "a bound is above, or none")
+    need([event["seconds"] for event in told] == sorted(event["seconds"] for event in told), "not in order")
     certify("a.tsp", *OUT, "--log", "out.log")
     need("gap" not in Path("out.log").read_text(), "a gap without a tour")
     certify("a.tsp", *OUT, "--log", "no/folder/log", status=2)
@@ -230,7 +229,7 @@ def bad_input():
         + "".join(f"{v} {min(v - 1, 1)}\n" for v in range(1, 13)) + "DEPOT_SECTION\n1\n-1\nEOF\n")
     Path("pair.tsp").write_text(text.replace("EOF", "FIXED_EDGES_SECTION\n1 2\n-1\nEOF"))
     Path("no.form").write_text("hello world\n")
-    Path("other.tour").write_text("TYPE : TOUR\nTOUR_SECTION\n1 3 2 4 5 6 7 8 9 10 11 12 -1\nEOF\n")
+    write_tour("other.tour", [1, 3, 2, *range(4, 13)])
     faults = [
         (["routes.vrp", *OUT], "wrong kind: routes.vrp is of TYPE CVRP; the instance has to be of TYPE TSP or ATSP"),
         (["odd.tsp", *OUT], "symmetric"),

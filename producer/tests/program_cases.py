@@ -3,7 +3,6 @@
 TSP_CERTIFY TSP; support.py says more.
 """
 
-import json
 import os
 import random
 import shutil
@@ -13,8 +12,8 @@ import sys
 import time
 from pathlib import Path
 
-from support import CERTIFY, PATIENCE, TSP, certify, judged, need, need_bounded, need_installed, need_optimal, need_refused, run
-from support import write_faulty, write_points
+from support import CERTIFY, PATIENCE, TSP, certify, events, judged, need, need_bounded, need_installed, need_optimal, need_refused, run
+from support import write_faulty, write_points, write_tour
 
 
 def time_limit():
@@ -102,14 +101,14 @@ def log():
     """Each line is of JSON, and no bound is above its length."""
     write_points("a.tsp", "EUC_2D", 120, random.Random(5), side=10**6)  # more than one leaf
     certify("a.tsp", "-o", "out.branches", "--tour-out", "out.tour", "--log", "out.log")
-    events = [json.loads(line) for line in Path("out.log").read_text().splitlines()]
-    last = events[-1]
+    told = events()
+    last = told[-1]
     need(last["event"] == "end" and last["gap"] == 0, f"the last event: {last}")
     need(last["length"] == int(judged("a.tsp")["length"]), f"another length: {last}")
-    need(all(0 <= event["bound"] <= event["length"] for event in events), "a bound is above, or none")
-    need(all(event["cuts"]["combs"] >= 0 for event in events), "no cuts are told")
+    need(all(0 <= event["bound"] <= event["length"] for event in told), "a bound is above, or none")
+    need(all(event["cuts"]["combs"] >= 0 for event in told), "no cuts are told")
     for clock in ("seconds", "processor"):
-        need([event[clock] for event in events] == sorted(event[clock] for event in events), f"{clock}: not in order")
+        need([event[clock] for event in told] == sorted(event[clock] for event in told), f"{clock}: not in order")
     certify("a.tsp", "-o", "out.branches", "--tour-out", "out.tour", "--log", "no/folder/log", status=2)
 
 
@@ -123,7 +122,7 @@ def bad_input():
     Path("back.atsp").write_text(rows + "FIXED_EDGES_SECTION\n1 2\n2 1\n-1\nEOF\n")
     Path("one.atsp").write_text("TYPE:ATSP\nDIMENSION:1\n" + rows.partition("3\n")[2].replace("0 1 2 3 0 4 5 6 0", "0"))
     Path("cut.tsp").write_text(text[: len(text) // 2])
-    Path("long.tour").write_text("TYPE : TOUR\nTOUR_SECTION\n1 2 3 4 5 6 7 8 9 10 11 12 13 -1\nEOF\n")
+    write_tour("long.tour", range(1, 14))
     Path("no.form").write_text("hello world\n")
     Path("cut.json").write_text('{"tour": [0, 1')
     Path("one.txt").write_text("1\n")

@@ -4,7 +4,6 @@
 examples/recheck.py, which shares no code with the program TSP or the producer, judges some of what is made too.
 """
 
-import json
 import random
 import re
 import signal
@@ -16,9 +15,10 @@ from itertools import combinations, permutations
 from pathlib import Path
 
 import support
-from support import CERTIFY, PATIENCE, TSP, certify, need, need_joined, need_refused, run, write_points
+from support import CERTIFY, PATIENCE, TSP, certify, events, need, need_joined, need_refused, need_within, run, write_points, write_tour
 
 RECHECK = Path(__file__).resolve().parents[2] / "examples/recheck.py"
+BY_PROGRAM, BY_RECHECK = [TSP, "check"], [sys.executable, RECHECK]
 BOTH = ["-o", "out.branches", "--tour-out", "out.routes"]
 
 RECTANGLE = {"points": [(0, 0), (3, 0), (3, 4), (0, 4)], "demands": [0, 4, 4, 4], "capacity": 8}
@@ -52,24 +52,15 @@ def write_certificate(nodes, families, tree, more="", name="out.branches"):
     Path(name).write_text(f"TYPE : BRANCHES\nDIMENSION : {nodes}\n{more}\n{sets}BRANCH_SECTION\n{tree}\nEOF\n")
 
 
-def lines_by_program(instance, routes, certificate):
-    words = [TSP, "check", instance, routes, "--branches", certificate]
-    return subprocess.run(words, capture_output=True, text=True, timeout=200 * PATIENCE).stdout.splitlines()
-
-
-def lines_by_recheck(instance, routes, certificate):
-    words = [sys.executable, RECHECK, instance, routes, "--branches", certificate]
-    return subprocess.run(words, capture_output=True, text=True, timeout=200 * PATIENCE).stdout.splitlines()
-
-
-def judged(instance, routes="out.routes", certificate="out.branches", judge=lines_by_program):
+def judged(instance, routes="out.routes", certificate="out.branches", judge=BY_PROGRAM):
     """The lines of the report as a dictionary."""
-    lines = judge(instance, routes, certificate)
+    words = [*judge, instance, routes, "--branches", certificate]
+    lines = subprocess.run(words, capture_output=True, text=True, timeout=200 * PATIENCE).stdout.splitlines()
     need(lines and lines[-1] == "yes", f"{instance}: {lines}")
     return {line.partition(" ")[0]: line.partition(" ")[2] for line in lines}
 
 
-def need_optimal(instance, *words, judge=lines_by_program):
+def need_optimal(instance, *words, judge=BY_PROGRAM):
     said = certify(instance, *BOTH, *words)
     report = judged(instance, judge=judge)
     need("optimal" in report, f"{instance}: not optimal: {report} {said}")
@@ -123,7 +114,7 @@ def memory():
     write_uniform("a.vrp", 30, random.Random(9))
     texts = []
     for count in ("1", "4"):
-        need_optimal("a.vrp", "--memory", "--threads", count, "--seconds", "0", judge=lines_by_recheck)
+        need_optimal("a.vrp", "--memory", "--threads", count, "--seconds", "0", judge=BY_RECHECK)
         texts.append(Path("out.branches").read_bytes())
     need(texts[0] == texts[1], "another number of threads gives other bytes")
     need(b"MEMORY_SECTION" in texts[0], "the file has no memory")
@@ -137,7 +128,7 @@ def memory_limits():
     """A limit of time leaves a gap, and the bound is the reckoned one."""
     write_uniform("a.vrp", 60, random.Random(10), side=1000)
     said = certify("a.vrp", *BOTH, "--memory", "--seconds", "3")
-    report = judged("a.vrp", judge=lines_by_recheck)
+    report = judged("a.vrp", judge=BY_RECHECK)
     need(f"bound {report['bound']} as reckoned" in said, f"another bound was reckoned: {said} {report}")
 
 
@@ -162,7 +153,7 @@ def memory_states():
     write_uniform("a.vrp", 20, random.Random(9))
     words = ["a.vrp", *BOTH, "--memory", "--seconds", "0", "--threads", "1"]
     certify(*words, "--log", "out.log")
-    states = json.loads(Path("out.log").read_text().splitlines()[-1])["states"]
+    states = events()[-1]["states"]
     need(states_suffice(states) and not states_suffice(states - 1), f"the states of the largest leaf aren't {states}")
     most = states * 9 // 10
     said = certify(*words, "--states", str(most))
@@ -185,8 +176,7 @@ def memory_full():
 def ends_of(words):
     """The last events of the trees that a run builds, of which its log tells."""
     certify(*words)
-    events = map(json.loads, Path("out.log").read_text().splitlines())
-    return [event for event in events if event["event"] == "end"]
+    return [event for event in events() if event["event"] == "end"]
 
 
 def optimal():
@@ -238,7 +228,7 @@ def forms():
     tour = [1, *routes[0]]
     for copy, route in enumerate(routes[1:], 17):  # LKH-3 gives each further vehicle a depot of its own
         tour += [copy, *route]
-    Path("copies.tour").write_text("TYPE : TOUR\nTOUR_SECTION\n" + "\n".join(map(str, tour)) + "\n-1\nEOF\n")
+    write_tour("copies.tour", tour)
     for name in ("named.sol", "copies.tour"):
         said = certify("a.vrp", name, "-o", "out.branches")
         need("shorter tour" not in said, f"{name}: other routes are read: {said}")
@@ -264,7 +254,7 @@ def time_limit():
     need(time.monotonic() - begun < 100 * PATIENCE, "the limit isn't kept")
     report = judged("a.vrp")
     need("a gap of" in said and report.get("gap", "0") in said, f"the gap isn't told: {said}")
-    bounds = [json.loads(line)["bound"] for line in Path("out.log").read_text().splitlines()]
+    bounds = [event["bound"] for event in events()]
     need(max(bounds) == bounds[-1] == int(report["bound"]), f"a bound is lower at the end: {bounds}")
     need(f"bound {report['bound']} as reckoned" in said, f"another bound was reckoned: {said}")
     # A tree by other hands, whose scale has no common multiple with ours that a file may have.
@@ -302,16 +292,7 @@ def limits():
     write_uniform("a.vrp", 30, random.Random(9))
     for most in ((3, 10**6, 10**7, 10**6), (10**4, 60, 10**7, 10**6), (10**4, 10**6, 40, 10**6), (10**4, 10**6, 10**7, 1)):
         said = certify("a.vrp", *BOTH, "--seconds", "0", "--limits", *map(str, most))
-        text = Path("out.branches").read_text()
-        families = text.partition("COMB_SECTION\n")[2].partition("BRANCH_SECTION")[0].splitlines()[:-1]
-        steps = [line.split() for line in text.partition("BRANCH_SECTION\n")[2].splitlines()[:-1]]
-        found = (
-            sum(line == "-1" for line in families),
-            sum(len(line.split()) - 1 for line in families if line != "-1"),
-            sum(len(step) // 2 - 1 for step in steps if step[0] == "0"),
-            sum(step[0] != "0" for step in steps),
-        )
-        need(all(count <= limit for count, limit in zip(found, most)), f"{found}, past {most}")
+        need_within(most)
         report = judged("a.vrp")
         need(f"bound {report['bound']} as reckoned" in said, f"{most}: another bound was reckoned: {said}")
         need("optimal" in report or "are left open" in said, f"{most}: {report} {said}")
@@ -321,10 +302,10 @@ def log():
     """Each line is of JSON, and no bound is above its length."""
     write_uniform("a.vrp", 20, random.Random(12))
     certify("a.vrp", *BOTH, "--log", "out.log")
-    events = [json.loads(line) for line in Path("out.log").read_text().splitlines()]
-    need(events[-1]["event"] == "end" and events[-1]["gap"] == 0, f"the last event: {events[-1]}")
-    need(events[-1]["length"] == int(judged("a.vrp")["length"]), f"another length: {events[-1]}")
-    need(all(event["bound"] <= event["length"] and event["cuts"]["sets"] >= 1 for event in events), "a bound is above")
+    told = events()
+    need(told[-1]["event"] == "end" and told[-1]["gap"] == 0, f"the last event: {told[-1]}")
+    need(told[-1]["length"] == int(judged("a.vrp")["length"]), f"another length: {told[-1]}")
+    need(all(event["bound"] <= event["length"] and event["cuts"]["sets"] >= 1 for event in told), "a bound is above")
 
 
 def bad_input():

@@ -48,6 +48,31 @@ def judged(instance, tour="out.tour", certificate="out.branches", *more):
     return {line.partition(" ")[0]: line.partition(" ")[2] for line in done.stdout.splitlines()}
 
 
+def events():
+    """The events that out.log tells of."""
+    return [json.loads(line) for line in Path("out.log").read_text().splitlines()]
+
+
+def sets_of_cuts(path):
+    """The sets of each cut of a certificate, in the order of the file."""
+    section = Path(path).read_text().partition("COMB_SECTION\n")[2].partition("-1\n-1\nBRANCH_SECTION")[0]
+    return [[set(map(int, line.split()[:-1])) for line in cut.splitlines()] for cut in section.split("\n-1\n") if cut]
+
+
+def extent(path):
+    """How many families a certificate has, with how many nodes, and how many differences and branches."""
+    families = sets_of_cuts(path)
+    steps = [line.split() for line in Path(path).read_text().partition("BRANCH_SECTION\n")[2].splitlines()[:-1]]
+    leaves = [step for step in steps if step[0] == "0"]
+    nodes = sum(len(some) for sets in families for some in sets)
+    return [len(families), nodes, sum(len(leaf) // 2 - 1 for leaf in leaves), len(steps) - len(leaves)]
+
+
+def need_within(most, certificate="out.branches"):
+    found = extent(certificate)
+    need(all(count <= limit for count, limit in zip(found, most)), f"{certificate} has {found}, past {most}")
+
+
 def need_optimal(instance, *words):
     certify(instance, "-o", "out.branches", "--tour-out", "out.tour", *words)
     report = judged(instance)
@@ -168,22 +193,26 @@ def write_faulty():
     Path("star.tsp").write_text(text.replace("EOF", "FIXED_EDGES_SECTION\n1 2\n1 3\n1 4\n-1\nEOF"))
     Path("ring.tsp").write_text(text.replace("EOF", "FIXED_EDGES_SECTION\n1 2\n2 3\n3 1\n-1\nEOF"))
     Path("two.tsp").write_text("TYPE:TSP\nDIMENSION:2\nEDGE_WEIGHT_TYPE:EUC_2D\nNODE_COORD_SECTION\n1 0 0\n2 1 1\nEOF\n")
-    Path("short.tour").write_text("TYPE : TOUR\nTOUR_SECTION\n1 2 3 -1\nEOF\n")
+    write_tour("short.tour", [1, 2, 3])
     return text
+
+
+def write_tour(name, order):
+    Path(name).write_text("TYPE : TOUR\nTOUR_SECTION\n" + "".join(f"{v}\n" for v in order) + "-1\nEOF\n")
 
 
 def write_forms(order):
     """Writes a tour in several forms of `tsp solution`, by its nodes from 1 on. The names of the files, that of TYPE TOUR first."""
     from_zero = [v - 1 for v in order]
+    write_tour("named.tour", order)
     texts = {
-        "named.tour": "TYPE : TOUR\nTOUR_SECTION\n" + "\n".join(map(str, order)) + "\n-1\nEOF\n",
         "named.txt": "".join(f"{v}\n" for v in order),
         "named.json": json.dumps({"tour": from_zero}),
         "named.sol": f"{len(order)}\n" + " ".join(map(str, from_zero)) + "\n",
     }
     for name, text in texts.items():
         Path(name).write_text(text)
-    return list(texts)
+    return ["named.tour", *texts]
 
 
 def write_arcs(nodes, cost, *more):

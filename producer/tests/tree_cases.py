@@ -13,8 +13,8 @@ from math import dist
 from pathlib import Path
 
 import support
-from support import CERTIFY, PATIENCE, TSP, certify, judged, need, need_joined, need_optimal, need_refused, need_same_bytes
-from support import run, skip, write, write_arcs, write_points
+from support import CERTIFY, PATIENCE, TSP, certify, extent, judged, need, need_joined, need_optimal, need_refused, need_same_bytes
+from support import need_within, run, sets_of_cuts, skip, write, write_arcs, write_points
 
 GUIDE = Path(__file__).resolve().parents[2] / "docs/guide.md"
 EXAMPLE = Path(__file__).resolve().parents[2] / "bindings/python/examples/spread_leaves.py"
@@ -175,12 +175,6 @@ def short_file():
     need(size < 0.95 * len(long), f"the tree has {size} bytes, before {len(long)}")
 
 
-def sets_of_cuts(path):
-    """The sets of each cut of a certificate, in the order of the file."""
-    section = Path(path).read_text().partition("COMB_SECTION\n")[2].partition("-1\n-1\nBRANCH_SECTION")[0]
-    return [[set(map(int, line.split()[:-1])) for line in cut.splitlines()] for cut in section.split("\n-1\n") if cut]
-
-
 def is_comb(sets):
     handle, *teeth = sets
     across = all(tooth & handle and tooth - handle for tooth in teeth)
@@ -198,20 +192,6 @@ def families():
         need(need_optimal("a.tsp", *words) == 11, f"{words}: another length than 11")
         found = [sets for sets in sets_of_cuts("out.branches") if len(sets) > 1 and not is_comb(sets)]
         need(bool(found) == some, f"{words}: the families are {found}")
-
-
-def extent(path):
-    """How many families a certificate has, with how many nodes, and how many differences and branches."""
-    families = sets_of_cuts(path)
-    steps = [line.split() for line in Path(path).read_text().partition("BRANCH_SECTION\n")[2].splitlines()[:-1]]
-    leaves = [step for step in steps if step[0] == "0"]
-    nodes = sum(len(some) for sets in families for some in sets)
-    return [len(families), nodes, sum(len(leaf) // 2 - 1 for leaf in leaves), len(steps) - len(leaves)]
-
-
-def need_within(most, certificate="out.branches"):
-    found = extent(certificate)
-    need(all(count <= limit for count, limit in zip(found, most)), f"{certificate} has {found}, past {most}")
 
 
 def limited(families=10**4, nodes=10**6, differences=10**7, branches=10**6):

@@ -12,9 +12,8 @@ static const char REPORT[] = "type TSP\nnodes 4\nlength 15\nyes\n";
 static void texts(void) {
     size_t len = sizeof SHOWN - 1;
     for (size_t room = 0; room <= len + 2; room++) {
-        uint8_t out[64];
         memset(out, '#', sizeof out);
-        size_t written = 99;
+        written = 99;
         uint32_t status = tsp_show(TEXT(SQUARE), out, room, &written);
         expect(written == len, "the length of what is shown");
         if (room < len) {
@@ -25,20 +24,18 @@ static void texts(void) {
             expect(out[len] == '#' && memcmp(out + len, out + len + 1, sizeof out - len - 1) == 0, "the rest of the buffer");
         }
     }
-    uint8_t out[256];
-    size_t written = 0;
     expect(tsp_check(TEXT(SQUARE), TEXT(TOUR), TEXT(""), 0, 0, 0, out, sizeof REPORT - 2, &written) == TSP_TOO_SMALL
                && written == sizeof REPORT - 1, "a report that is one byte too long");
     expect(tsp_check(TEXT(SQUARE), TEXT(TOUR), TEXT(""), 0, 0, 0, out, sizeof REPORT - 1, &written) == TSP_YES
-               && written == sizeof REPORT - 1 && memcmp(out, REPORT, written) == 0, "a report that fits");
+               && says(REPORT), "a report that fits");
     expect(tsp_check(TEXT(TOUR), TEXT(SQUARE), TEXT(""), 0, 0, 0, out, sizeof out, &written) == TSP_FAULT
-               && written == 19 && memcmp(out, "file 1: wrong kind\n", 19) == 0, "files exchanged");
+               && says("file 1: wrong kind\n"), "files exchanged");
     expect(tsp_check(TEXT(SQUARE), TEXT(TOUR), TEXT(""), 3, 0, 0, out, sizeof out, &written) == TSP_REFUSED && written == 0,
            "no certificate has the number 3");
     expect(tsp_convert(TEXT(SQUARE), 10, out, sizeof out, &written) == TSP_REFUSED && written == 0,
            "no layout has the number 10");
     expect(tsp_convert(TEXT(SQUARE), TSP_LAYOUT_FULL_MATRIX, out, sizeof out, &written) == TSP_NO
-               && written == 22 && memcmp(out, "relayout: NotExplicit\n", 22) == 0, "points have no layout");
+               && says("relayout: NotExplicit\n"), "points have no layout");
 }
 
 static const char ROUTES[] = "Route #1: 1 3\nRoute #2: 2\n";
@@ -46,17 +43,15 @@ static const char WRITTEN[] = "TYPE : TOUR\nCOMMENT : Customer k of CVRPLIB is n
 
 /* Solutions in other forms. */
 static void solutions(void) {
-    uint8_t out[256];
-    size_t written = 0;
     size_t len = sizeof WRITTEN - 1;
     expect(tsp_solution(TEXT(ROUTES), TEXT(""), 0, 0, 0, out, len - 1, &written) == TSP_TOO_SMALL && written == len,
            "a solution that is one byte too long");
-    expect(tsp_solution(TEXT(ROUTES), TEXT(""), TSP_FORM_CVRPLIB, 0, 0, out, len, &written) == TSP_YES && written == len
-               && memcmp(out, WRITTEN, len) == 0, "a solution that fits");
-    expect(tsp_solution(TEXT(ROUTES), TEXT(TOUR), 0, 0, 0, out, sizeof out, &written) == TSP_FAULT && written == 37
-               && memcmp(out, "file 2: line 1 word 1: NotAnInstance\n", 37) == 0, "a tour in place of the instance");
-    expect(tsp_solution(TEXT("1 x"), TEXT(""), TSP_FORM_LIST, 0, 0, out, sizeof out, &written) == TSP_FAULT && written == 32
-               && memcmp(out, "file 1: line 1 word 2: NotANode\n", 32) == 0, "a word that is no node");
+    expect(tsp_solution(TEXT(ROUTES), TEXT(""), TSP_FORM_CVRPLIB, 0, 0, out, len, &written) == TSP_YES
+               && says(WRITTEN), "a solution that fits");
+    expect(tsp_solution(TEXT(ROUTES), TEXT(TOUR), 0, 0, 0, out, sizeof out, &written) == TSP_FAULT
+               && says("file 2: line 1 word 1: NotAnInstance\n"), "a tour in place of the instance");
+    expect(tsp_solution(TEXT("1 x"), TEXT(""), TSP_FORM_LIST, 0, 0, out, sizeof out, &written) == TSP_FAULT
+               && says("file 1: line 1 word 2: NotANode\n"), "a word that is no node");
     expect(tsp_solution(TEXT(ROUTES), TEXT(""), 11, 0, 0, out, sizeof out, &written) == TSP_REFUSED && written == 0,
            "no form has the number 11");
     expect(tsp_solution(TEXT(ROUTES), TEXT(""), 0, 3, 0, out, sizeof out, &written) == TSP_REFUSED && written == 0,
@@ -72,52 +67,43 @@ static const char EXPLAINED[] = "  a.tour:\n";
 
 /* Claimed lengths, bounds without a tour, and explanations. */
 static void answers(void) {
-    uint8_t out[512];
-    size_t written = 0;
     expect(tsp_check(TEXT(SQUARE), TEXT(TOUR), TEXT(""), 0, 15, 1, out, sizeof out, &written) == TSP_YES
-               && written == sizeof REPORT - 1 && memcmp(out, REPORT, written) == 0, "the claimed length");
-    static const char OTHER[] = "type TSP\nnodes 4\nno LengthClaimed 15\n";
+               && says(REPORT), "the claimed length");
     expect(tsp_check(TEXT(SQUARE), TEXT(TOUR), TEXT(""), 0, 14, TSP_CLAIMED, out, sizeof out, &written) == TSP_NO
-               && written == sizeof OTHER - 1 && memcmp(out, OTHER, written) == 0, "another length than the claimed one");
+               && says("type TSP\nnodes 4\nno LengthClaimed 15\n"), "another length than the claimed one");
     expect(tsp_check(TEXT(SQUARE), TEXT(TOUR), TEXT(""), 0, 14, 0, out, sizeof out, &written) == TSP_YES,
            "no length is claimed");
-    static const char LIMITED[] = "TYPE : TSP\nDISTANCE : 9\nDIMENSION : 4\nEDGE_WEIGHT_TYPE : EUC_2D\n"
-                                  "NODE_COORD_SECTION\n1 0 0\n2 3 0\n3 3 4\n4 0 4\nEOF\n";
     static const char UNJUDGED[] = "type TSP\nnodes 4\nnot judged DISTANCE\nno NotJudged DISTANCE\n";
-    static const char CLAIMED[] = "type TSP\nnodes 4\nnot judged DISTANCE\nno LengthClaimed 14\n";
-    static const char AROUND[] = "TYPE : TOUR\nTOUR_SECTION\n1 2 3 4 -1\nEOF\n";
     struct tsp_result told;
     expect(tsp_check_result(TEXT(LIMITED), TEXT(AROUND), TEXT(""), 0, 99, TSP_STRICT, &told, out, sizeof out, &written) == TSP_NO
-               && written == sizeof UNJUDGED - 1 && memcmp(out, UNJUDGED, written) == 0 && told.reason == TSP_NOT_JUDGED,
+               && says(UNJUDGED) && told.reason == TSP_NOT_JUDGED,
            "an unknown keyword as a reason");
     expect(tsp_check(TEXT(LIMITED), TEXT(AROUND), TEXT(""), 0, 14, TSP_CLAIMED | TSP_STRICT, out, sizeof out, &written) == TSP_NO
-               && written == sizeof UNJUDGED - 1 && memcmp(out, UNJUDGED, written) == 0, "beside the claimed length");
+               && says(UNJUDGED), "beside the claimed length");
     expect(tsp_check(TEXT(LIMITED), TEXT(AROUND), TEXT(""), 0, 15, 3, out, sizeof out, &written) == TSP_NO
-               && written == sizeof CLAIMED - 1 && memcmp(out, CLAIMED, written) == 0, "after another length");
+               && says("type TSP\nnodes 4\nnot judged DISTANCE\nno LengthClaimed 14\n"), "after another length");
     expect(tsp_check(TEXT(LIMITED), TEXT(AROUND), TEXT(""), 0, 14, 1, out, sizeof out, &written) == TSP_YES,
            "an unknown keyword that is no reason");
     expect(tsp_check(TEXT(SQUARE), TEXT(TOUR), TEXT(""), 0, 15, 3, out, sizeof out, &written) == TSP_YES
-               && written == sizeof REPORT - 1 && memcmp(out, REPORT, written) == 0, "no unknown keyword");
+               && says(REPORT), "no unknown keyword");
     expect(tsp_check(TEXT(SQUARE), TEXT(TOUR), TEXT(""), 0, 15, 4, out, sizeof out, &written) == TSP_REFUSED
                && written == 0, "flags are 0 to 3");
 
     expect(tsp_bound(TEXT(SQUARE), TEXT(ZEROS), TSP_BY_POTENTIALS, out, sizeof BOUND - 2, &written) == TSP_TOO_SMALL
                && written == sizeof BOUND - 1, "a bound's report that is one byte too long");
     expect(tsp_bound(TEXT(SQUARE), TEXT(ZEROS), TSP_BY_POTENTIALS, out, sizeof BOUND - 1, &written) == TSP_YES
-               && written == sizeof BOUND - 1 && memcmp(out, BOUND, written) == 0, "a bound's report that fits");
-    static const char REFUSED[] = "type TSP\nnodes 4\nno NotBranches\n";
+               && says(BOUND), "a bound's report that fits");
     expect(tsp_bound(TEXT(SQUARE), TEXT(ZEROS), TSP_BY_BRANCHES, out, sizeof out, &written) == TSP_NO
-               && written == sizeof REFUSED - 1 && memcmp(out, REFUSED, written) == 0, "potentials are no branches");
+               && says("type TSP\nnodes 4\nno NotBranches\n"), "potentials are no branches");
     expect(tsp_bound(TEXT(SQUARE), TEXT(ZEROS), 0, out, sizeof out, &written) == TSP_REFUSED && written == 0
                && tsp_bound(TEXT(SQUARE), TEXT(ZEROS), 5, out, sizeof out, &written) == TSP_REFUSED,
            "a bound is by 1 to 4");
     expect(tsp_bound(TEXT(LIMITED), TEXT(ZEROS), TSP_BY_POTENTIALS_STRICT, out, sizeof out, &written) == TSP_NO
-               && written == sizeof UNJUDGED - 1 && memcmp(out, UNJUDGED, written) == 0, "a bound with an unknown keyword");
+               && says(UNJUDGED), "a bound with an unknown keyword");
     expect(tsp_bound(TEXT(SQUARE), TEXT(ZEROS), TSP_BY_POTENTIALS_STRICT, out, sizeof out, &written) == TSP_YES
-               && written == sizeof BOUND - 1 && memcmp(out, BOUND, written) == 0, "a bound without one");
-    static const char FAULT[] = "file 2: end: Missing TYPE\n";
+               && says(BOUND), "a bound without one");
     expect(tsp_bound(TEXT(SQUARE), TEXT(""), TSP_BY_POTENTIALS, out, sizeof out, &written) == TSP_FAULT
-               && written == sizeof FAULT - 1 && memcmp(out, FAULT, written) == 0, "a certificate is file 2 of a bound");
+               && says("file 2: end: Missing TYPE\n"), "a certificate is file 2 of a bound");
 
     uint32_t status = tsp_explain(TSP_OF_CHECK, TEXT(SQUARE), TEXT(TWICE), TEXT(""), NAMES, 0, 0, 0, out, 16, &written);
     expect(status == TSP_TOO_SMALL && written > 16 && written < sizeof out, "an explanation that is too long");

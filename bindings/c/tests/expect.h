@@ -1,4 +1,4 @@
-/* The checks that buffers.c and handles.c count, and the texts that both share. */
+/* The checks that buffers.c and handles.c count, what their calls write, and the texts that both share. */
 #ifndef EXPECT_H
 #define EXPECT_H
 
@@ -26,6 +26,14 @@ static int counts(void) {
     return failed != 0;
 }
 
+static uint8_t out[512];
+static size_t written;
+
+/* Whether a call wrote this text. */
+static int says(const char *text) {
+    return written == strlen(text) && memcmp(out, text, written) == 0;
+}
+
 /* A text of the program, as the calls take it. */
 #define TEXT(text) (const uint8_t *)(text), sizeof(text) - 1
 
@@ -34,5 +42,8 @@ static const char SQUARE[] = "TYPE : TSP\nDIMENSION : 4\nEDGE_WEIGHT_TYPE : EUC_
 static const char TOUR[] = "TYPE : TOUR\nTOUR_SECTION\n1 2 3 4 -1\nEOF\n";
 static const char TWICE[] = "TYPE : TOUR\nTOUR_SECTION\n1 2 2 4 -1\nEOF\n";
 static const char ZEROS[] = "TYPE : POTENTIALS\nDIMENSION : 4\nNODE_POTENTIAL_SECTION\n1 0\n2 0\n3 0\n4 0\nEOF\n";
+static const char LIMITED[] = "TYPE : TSP\nDISTANCE : 9\nDIMENSION : 4\nEDGE_WEIGHT_TYPE : EUC_2D\n"
+                              "NODE_COORD_SECTION\n1 0 0\n2 3 0\n3 3 4\n4 0 4\nEOF\n";
+static const char AROUND[] = "TYPE : TOUR\nTOUR_SECTION\n1 2 3 4 -1\nEOF\n";
 
 #endif

@@ -4,7 +4,6 @@
 #include "../tsp.h"
 #include "files.h"
 
-#include <errno.h>
 #include <string.h>
 
 static const char *const LAYOUTS[] = {"FULL_MATRIX",    "UPPER_ROW", "LOWER_ROW", "UPPER_DIAG_ROW", "LOWER_DIAG_ROW",
@@ -59,51 +58,17 @@ static uint32_t form_of(const char *word) {
     exit(TSP_REFUSED);
 }
 
-static void no_length(void) {
-    fputs("not a length\n", stderr);
-    exit(TSP_REFUSED);
-}
-
-/* The whole number that a word is, as the reader reads it: "12.0" and "1.2e1" are 12. Exits where it is none. */
+/* The whole number that a word is, as the reader reads it: "12.0" and "1.2e1" are 12. Exits where it is none. A long double holds
+ * each number of 64 bits. */
 static int64_t length_of(const char *word) {
-    char digits[128] = {0};
-    size_t count = 1, before = 0, any = 0;
-    const char *at = word;
-    if (strlen(word) > 64)
-        no_length();
-    digits[0] = *at == '-' ? '-' : '+';
-    at += *at == '-' || *at == '+';
-    for (; *at >= '0' && *at <= '9'; at++, before++)
-        digits[count++] = *at;
-    any = before;
-    if (*at == '.')
-        for (at++; *at >= '0' && *at <= '9'; at++, any++)
-            digits[count++] = *at;
-    long shift = 0;
-    if (any > 0 && (*at == 'e' || *at == 'E')) {
-        const char *from = at + 1 + (at[1] == '-' || at[1] == '+');
-        char *end;
-        shift = strtol(at + 1, &end, 10);
-        at = *from >= '0' && *from <= '9' ? end : at;
+    char *end;
+    long double number = strtold(word, &end);
+    int is_decimal = end != word && *end == 0 && strlen(word) <= 64 && word[strspn(word, "+-.0123456789Ee")] == 0;
+    if (!is_decimal || number < -0x1p63L || number >= 0x1p63L || number != (long double)(int64_t)number) {
+        fputs("not a length\n", stderr);
+        exit(TSP_REFUSED);
     }
-    if (any == 0 || *at != 0)
-        no_length();
-    /* the point moves by shift digits; what is behind it has to be zeros */
-    if (strspn(digits + 1, "0") == any)
-        return 0;
-    long point = (long)before + shift;
-    if (point < 0 || point > 64)
-        no_length();
-    for (; count < (size_t)point + 1; count++)
-        digits[count] = '0';
-    if (strspn(digits + 1 + point, "0") != count - 1 - (size_t)point)
-        no_length();
-    digits[1 + point] = 0;
-    errno = 0;
-    long long number = point == 0 ? 0 : strtoll(digits, NULL, 10);
-    if (errno != 0)
-        no_length();
-    return number;
+    return (int64_t)number;
 }
 
 static struct call call_of(int count, char **words) {

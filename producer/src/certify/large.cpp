@@ -45,16 +45,11 @@ int certify_large(const Options& options, const std::string& tsp, std::unique_pt
   const Clock clock(options.limit);
   sparse::SparseSearch search(*problem, {given, options.seed, options.upper}, clock, progress);
   search.run();
-  write_certificate(options.certificate, search.certificate(), false);
-  if (options.tour_out) write_tour(*options.tour_out, problem->outward(search.tour()));
-  progress.end();
   Ending ending{search.length(), search.bound()};
   if (given) ending.given = std::llround(problem->length(*given));
   ending.rounded_away = are_apart(problem->points()) &&
                         is_rounded_away(search.tour(), [&](int i, int j) { return problem->cost(i, j); });
   const auto write = [&](const std::string& path) { write_tour(path, problem->outward(search.tour())); };
-  keep_shorter(options, write, ending);
-  report(options, ending);
-  return Clock::signal() ? 128 + *Clock::signal() : 0;
+  return end_run(options, {search.certificate(), {}, write}, progress, ending);
 }
 }  // namespace certify

@@ -62,21 +62,13 @@ int certify_instance(const Options& options) {
   Search search(instance, start, clock, progress,
                 {options.window, options.split, options.limits, options.short_file});
   search.run();
-  write_certificate(options.certificate, search.certificate(), options.split > 0, options.limits);
-  if (options.tour_out) write_tour(*options.tour_out, search.tour());
-  progress.end();
-  if (options.split > 0) {
-    for (const int leaf : search.open_leaves()) std::cout << leaf << "\n";
-  }
   Ending ending{length_of(instance.weights, search.tour()), search.bound(), search.leaves()};
   if (!given.empty()) ending.given = length_of(instance.weights, given);
   ending.rounded_away = instance.rounded &&
                         is_rounded_away(search.tour(), [&](int i, int j) { return instance.weights(i, j); });
   ending.limited = search.is_limited();
-  keep_shorter(
-      options, [&](const std::string& path) { write_tour(path, search.tour()); }, ending);
-  report(options, ending);
-  return Clock::signal() ? 128 + *Clock::signal() : 0;
+  const auto write = [&](const std::string& path) { write_tour(path, search.tour()); };
+  return end_run(options, {search.certificate(), search.open_leaves(), write}, progress, ending);
 }
 
 // Leaves whose parts are missing stay as they are, so that what is joined is always a certificate.

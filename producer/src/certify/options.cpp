@@ -44,20 +44,10 @@ void declare(CLI::App& app, Options& options) {
   app.add_option("-o", options.certificate, "where the certificate is written")
       ->required()
       ->type_name("CERTIFICATE");
-  CLI::Option* seconds =
-      app.add_option("--seconds", options.limit.seconds, "seconds to run by the clock, 0 for no limit")
-          ->type_name("S")
-          ->check(CLI::NonNegativeNumber)
-          ->capture_default_str();
-  app.add_option_function<double>(
-         "--cpu-seconds",
-         [&options](double most) {
-           options.limit = {most, true};
-         },
-         "processor seconds of all threads together, instead of --seconds")
-      ->type_name("S")
-      ->check(CLI::PositiveNumber)
-      ->excludes(seconds);
+  declare_limit(app, options.limit, "seconds to run by the clock, 0 for no limit",
+                "processor seconds of all threads together, instead of --seconds")
+      ->check(CLI::NonNegativeNumber)
+      ->capture_default_str();
   app.add_option("--upper", options.upper, "stop when the bound reaches L")->type_name("L");
   app.add_flag_callback(
       "--no-families", [&options] { options.families = false; },

@@ -15,16 +15,10 @@ std::string limits_of(const Extent& limits) {
          std::to_string(limits.differences) + " differences, " + std::to_string(limits.branches) +
          " branches";
 }
-}  // namespace
 
-void report_left_out(const Options& options, const std::vector<std::size_t>& parts) {
-  if (parts.empty()) return;
-  std::cerr << "tsp-certify: left out, since a file has at most " << limits_of(options.limits) << ":";
-  for (const std::size_t part : parts) std::cerr << " " << options.parts[part];
-  std::cerr << "\ntsp-certify: their leaves are open, and this goes on with them: tsp-certify "
-            << options.instance << " TOUR --tree " << options.certificate << " -o CERTIFICATE\n";
-}
-
+// Writes a tour where it is shorter than the named one and --tour-out is missing: beside the certificate, as
+// CERTIFICATE.tour, unless there is such a file. Where it can't be written, a line says why, and the run has
+// no fault: no word asks for it. That of a part isn't written: names of parts are often a pattern.
 void keep_shorter(const Options& options, const std::function<void(const std::string& path)>& write,
                   Ending& ending) {
   if (!ending.given || ending.length >= *ending.given || options.tour_out || options.leaf) return;
@@ -41,11 +35,6 @@ void keep_shorter(const Options& options, const std::function<void(const std::st
   } catch (const Refusal& fault) {
     std::cerr << "tsp-certify: " << fault.what() << "\n";
   }
-}
-
-void warn_of_lost_tour(const Options& options) {
-  if (!options.leaf || !options.tour || options.tour_out) return;
-  std::cerr << "tsp-certify: a shorter tour that a part finds is kept by --tour-out alone\n";
 }
 
 void report(const Options& options, const Ending& ending) {
@@ -79,5 +68,31 @@ void report(const Options& options, const Ending& ending) {
   const std::string tour = ending.kept ? *ending.kept : options.tour_out.value_or(named);
   std::cerr << "tsp-certify: this decides: tsp check " << options.instance << " " << tour << " --branches "
             << options.certificate << "\n";
+}
+}  // namespace
+
+void report_left_out(const Options& options, const std::vector<std::size_t>& parts) {
+  if (parts.empty()) return;
+  std::cerr << "tsp-certify: left out, since a file has at most " << limits_of(options.limits) << ":";
+  for (const std::size_t part : parts) std::cerr << " " << options.parts[part];
+  std::cerr << "\ntsp-certify: their leaves are open, and this goes on with them: tsp-certify "
+            << options.instance << " TOUR --tree " << options.certificate << " -o CERTIFICATE\n";
+}
+
+void warn_of_lost_tour(const Options& options) {
+  if (!options.leaf || !options.tour || options.tour_out) return;
+  std::cerr << "tsp-certify: a shorter tour that a part finds is kept by --tour-out alone\n";
+}
+
+int end_run(const Options& options, const Files& files, Progress& progress, Ending ending) {
+  write_certificate(options.certificate, files.certificate, options.split > 0, options.limits);
+  if (options.tour_out) files.write_tour(*options.tour_out);
+  progress.end();
+  if (options.split > 0) {
+    for (const int leaf : files.open_leaves) std::cout << leaf << "\n";
+  }
+  keep_shorter(options, files.write_tour, ending);
+  report(options, ending);
+  return Clock::signal() ? 128 + *Clock::signal() : 0;
 }
 }  // namespace certify

@@ -5,6 +5,7 @@
 
 #include "certify/options.h"
 #include "graphs/tour.h"
+#include "running/progress.h"
 
 namespace certify {
 struct Ending {
@@ -26,14 +27,16 @@ bool is_rounded_away(const Tour& tour, const CostOf& cost_of) {
   });
 }
 
-// Writes a tour where it is shorter than the named one and --tour-out is missing: beside the certificate, as
-// CERTIFICATE.tour, unless there is such a file. Where it can't be written, a line says why, and the run has
-// no fault: no word asks for it. That of a part isn't written: names of parts are often a pattern.
-void keep_shorter(const Options& options, const std::function<void(const std::string& path)>& write,
-                  Ending& ending);
 // Says so at the start, where a shorter tour would be lost.
 void warn_of_lost_tour(const Options& options);
-void report(const Options& options, const Ending& ending);
+// What a search found: its certificate, the numbers of the open leaves, and how its tour is written.
+struct Files {
+  const Certificate& certificate;
+  std::vector<int> open_leaves{};
+  std::function<void(const std::string& path)> write_tour;
+};
+// Writes the files, prints the open leaves of a split, and reports. The exit status.
+int end_run(const Options& options, const Files& files, Progress& progress, Ending ending);
 // Of the parts that aren't joined, by their places on the command line.
 void report_left_out(const Options& options, const std::vector<std::size_t>& parts);
 }  // namespace certify

@@ -18,23 +18,15 @@ Loads loads_for(const CvrpInstance& instance, const std::optional<Certificate>& 
   throw Refusal("the certificate's LOAD_UNIT gives too many loads");
 }
 
-// Writes the files of a search, and reports. Where the tree was split, the open leaves are listed.
+// Writes the files of a search, and reports.
 template <class Found>
 int end_search(const Options& options, const CvrpInstance& instance, const std::optional<Routes>& given,
                Found& search, const std::vector<int>& open, Progress& progress) {
-  write_certificate(options.certificate, search.certificate(), options.split > 0, options.limits);
-  if (options.tour_out) write_routes(*options.tour_out, instance, search.routes());
-  progress.end();
-  if (options.split > 0) {
-    for (const int leaf : open) std::cout << leaf << "\n";
-  }
   Ending ending{length_of(instance, search.routes()), search.bound(), search.leaves()};
   if (given) ending.given = length_of(instance, *given);
-  const auto write = [&](const std::string& path) { write_routes(path, instance, search.routes()); };
-  keep_shorter(options, write, ending);
   ending.limited = search.is_limited();
-  report(options, ending);
-  return Clock::signal() ? 128 + *Clock::signal() : 0;
+  const auto write = [&](const std::string& path) { write_routes(path, instance, search.routes()); };
+  return end_run(options, {search.certificate(), open, write}, progress, ending);
 }
 
 // Cases have memories of their own, which may be too much for the file together. Then all cases get that of

@@ -152,13 +152,7 @@ std::optional<Weight> RunBound::least_run(const RunLeaf& numbers, const Memory& 
 
 // The value but for the runs.
 Value RunBound::given_back(const RunLeaf& numbers, const std::vector<Limit>& limits) const {
-  Value sum = 0;
-  for (const int v : instance_.customers()) sum -= 2 * static_cast<Value>(numbers.potentials[v]);
-  const std::map<NodeSet, Crossings> limited = limited_crossings(instance_, limits);
-  for (const auto& [set, multiplier] : numbers.multipliers) {
-    const Crossings own = crossings_under(limited, instance_, set);
-    sum += static_cast<Value>(multiplier) * (multiplier > 0 ? own.low : own.high);
-  }
+  Value sum = routes::given_back(instance_, numbers, limits);
   for (const auto& [set, multiplier] : numbers.rows) {
     sum -= static_cast<Value>(multiplier) * static_cast<Value>(set.size() / 2);
   }

@@ -7,27 +7,19 @@
 
 namespace certify::routes {
 namespace {
-struct Candidate {
-  SetBranch branch;
-  double key;  // how far the crossings are from the middle of two even numbers; less is sooner
-  double score = 0;
-};
-
 class RunCandidates {
  public:
   RunCandidates(const SolvedRunCase& here, const Graph& support) : here_(here), support_(support) {}
   // Adds the set unless its crossings are too near an even number, or one of the cases is decided already.
+  // First its score is how near they are to the middle of two even numbers.
   void offer(const NodeSet& set, double sooner) {
     if (!met_.insert(set).second) return;
-    const double routes = crossings(set) / 2, part = routes - std::floor(routes);
+    const double routes = crossings_of(support_, set) / 2, part = routes - std::floor(routes);
     if (part < kRunBranching.margin / 2 || part > 1 - kRunBranching.margin / 2) return;
     const int t = static_cast<int>(std::floor(routes));
-    Crossings own = free_crossings(here_.instance, set);
-    for (const CrossedSet& other : here_.program.sets()) {
-      if (other.set == set) own = other.crossings;
-    }
+    const Crossings own = here_.program.crossings_under(set);
     if (2 * t < own.low || 2 * t + 2 > own.high) return;
-    list_.push_back({{set, t}, std::abs(2 * part - 1) - sooner});
+    list_.push_back({{set, t}, sooner - std::abs(2 * part - 1)});
   }
   void offer_pairs() {
     for (int v = 1; v < here_.instance.nodes(); v++) {
@@ -36,21 +28,13 @@ class RunCandidates {
       }
     }
   }
-  std::vector<Candidate>& list() { return list_; }
+  std::vector<BranchCandidate>& list() { return list_; }
 
  private:
-  double crossings(const NodeSet& set) const {
-    const std::vector<char> inside = marks_of(set, here_.instance.nodes());
-    double sum = 0;
-    for (const int v : set) {
-      for (const Edge& edge : support_[v]) sum += inside[edge.to] != 0 ? 0 : edge.value;
-    }
-    return sum;
-  }
   const SolvedRunCase& here_;
   const Graph& support_;
   std::set<NodeSet> met_;
-  std::vector<Candidate> list_;
+  std::vector<BranchCandidate> list_;
 };
 
 double score_of(const std::array<double, 2>& gains) {
@@ -58,19 +42,10 @@ double score_of(const std::array<double, 2>& gains) {
   return a * b + 1e-3 * std::min(a, b);
 }
 
-void keep_best(std::vector<Candidate>& list, std::size_t count) {
-  std::stable_sort(list.begin(), list.end(),
-                   [](const Candidate& a, const Candidate& b) { return a.score > b.score; });
-  list.resize(std::min(list.size(), count));
-}
-
 // By how much the program's value is higher in one case of a branch, after a few rounds of new runs.
 double gain_below(const SolvedRunCase& here, const SetBranch& branch, bool first, double enough) {
   RunProgram program(here.program);
-  Crossings own = free_crossings(here.instance, branch.set);
-  for (const CrossedSet& other : here.program.sets()) {
-    if (other.set == branch.set) own = other.crossings;
-  }
+  Crossings own = here.program.crossings_under(branch.set);
   if (first) {
     own.high = 2 * branch.t;
   } else {
@@ -80,17 +55,22 @@ double gain_below(const SolvedRunCase& here, const SetBranch& branch, bool first
   program.limit(branch.set, own);
   program.rebuild();
   for (int round = 0; round < kRunBranching.rounds; round++) {
-    const RunDuals duals = program.duals();
-    const MemoryWords<double> words = program.words(duals);
-    const LabelSearch::Found found = here.labels.find(links_under<double>(here.instance, duals, 1), words,
-                                                      {kRuns.first_labels, kRuns.few_links}, kRuns.at_once);
-    if (program.add_runs(found.runs) == 0 || found.least > -1e-2) break;
-    program.solve();
+    if (!add_light_runs(here, program, 1e-2)) break;
     if (program.value() - here.program.value() < 0) break;
   }
   return std::min(enough, program.value() - here.program.value());
 }
 }  // namespace
+
+bool add_light_runs(const SolvedRunCase& here, RunProgram& program, double least) {
+  const RunDuals duals = program.duals();
+  const MemoryWords<double> words = program.words(duals);
+  const LabelSearch::Found found = here.labels.find(links_under<double>(here.instance, duals, 1), words,
+                                                    {kRuns.first_labels, kRuns.few_links}, kRuns.at_once);
+  if (program.add_runs(found.runs) == 0 || found.least > -least) return false;
+  program.solve();
+  return true;
+}
 
 std::optional<SetBranch> choose_run_branch(const SolvedRunCase& here,
                                            const std::vector<CapacityCut>& between) {
@@ -101,17 +81,15 @@ std::optional<SetBranch> choose_run_branch(const SolvedRunCase& here,
     if (cut.set.size() > 2) candidates.offer(cut.set, 0.1);
   }
   candidates.offer_pairs();
-  std::vector<Candidate>& list = candidates.list();
+  std::vector<BranchCandidate>& list = candidates.list();
   if (list.empty()) return std::nullopt;
-  std::stable_sort(list.begin(), list.end(),
-                   [](const Candidate& a, const Candidate& b) { return a.key < b.key; });
-  list.resize(std::min(list.size(), kRunBranching.tried));
+  keep_best(list, kRunBranching.tried);
   const double enough = std::max(here.goal - here.program.value() + 1, 1.0);
-  for (Candidate& one : list) {
+  for (BranchCandidate& one : list) {
     one.score = score_of(here.program.gains(one.branch.set, one.branch.t, enough));
   }
   keep_best(list, kRunBranching.priced);
-  for (Candidate& one : list) {
+  for (BranchCandidate& one : list) {
     one.score =
         score_of({gain_below(here, one.branch, true, enough), gain_below(here, one.branch, false, enough)});
   }

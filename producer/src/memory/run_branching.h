@@ -19,6 +19,9 @@ struct SolvedRunCase {
   double goal;
 };
 
+// Runs join the program by few labels, and it is solved. False where none does, or the least one weighs
+// nearly 0.
+bool add_light_runs(const SolvedRunCase& here, RunProgram& program, double least);
 // Nothing where the solution crosses each such set an even number of times.
 std::optional<SetBranch> choose_run_branch(const SolvedRunCase& here,
                                            const std::vector<CapacityCut>& between);

@@ -11,18 +11,6 @@ bool is_elementary(Route run) {
   return std::adjacent_find(run.begin(), run.end()) == run.end();
 }
 
-// A few rounds of new runs by few labels.
-void price(const SolvedRunCase& here, RunProgram& program) {
-  for (int round = 0; round < kRunDiving.rounds; round++) {
-    const RunDuals duals = program.duals();
-    const MemoryWords<double> words = program.words(duals);
-    const LabelSearch::Found found = here.labels.find(links_under<double>(here.instance, duals, 1), words,
-                                                      {kRuns.first_labels, kRuns.few_links}, kRuns.at_once);
-    if (program.add_runs(found.runs) == 0 || found.least > -kRunDiving.least) return;
-    program.solve();
-  }
-}
-
 // The run that the solution uses most, but not wholly; below 0 where there is none.
 int most_used(const RunProgram& program) {
   int best = -1;
@@ -39,7 +27,8 @@ int most_used(const RunProgram& program) {
 std::optional<Routes> dive(const SolvedRunCase& here, Weight length, const std::function<bool()>& late) {
   RunProgram program(here.program);
   while (!late()) {
-    price(here, program);
+    int round = 0;
+    while (round < kRunDiving.rounds && add_light_runs(here, program, kRunDiving.least)) round++;
     if (program.value() > static_cast<double>(length) - 1 + kRunDiving.whole) return std::nullopt;
     const int run = most_used(program);
     if (run < 0) return program.plan();

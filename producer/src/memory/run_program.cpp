@@ -21,8 +21,12 @@ RunProgram::RunProgram(const CvrpInstance& instance, Memory memory)
   add_runs(alone);
 }
 
-bool RunProgram::has_set(const NodeSet& set) const {
-  return std::any_of(sets_.begin(), sets_.end(), [&](const CrossedSet& own) { return own.set == set; });
+std::vector<CrossedSet>::const_iterator RunProgram::place_of(const NodeSet& set) const {
+  return std::find_if(sets_.begin(), sets_.end(), [&](const CrossedSet& own) { return own.set == set; });
+}
+
+Crossings RunProgram::crossings_under(const NodeSet& set) const {
+  return has_set(set) ? place_of(set)->crossings : free_crossings(instance_, set);
 }
 
 void RunProgram::add_set(const NodeSet& set) {
@@ -32,10 +36,9 @@ void RunProgram::add_set(const NodeSet& set) {
 
 void RunProgram::limit(const NodeSet& set, const Crossings& crossings) {
   add_set(set);
-  const auto own =
-      std::find_if(sets_.begin(), sets_.end(), [&](const CrossedSet& other) { return other.set == set; });
-  own->crossings = crossings;
-  own->limited = true;
+  CrossedSet& own = sets_[place_of(set) - sets_.cbegin()];
+  own.crossings = crossings;
+  own.limited = true;
 }
 
 void RunProgram::list_run(const Route& run, Columns& columns) const {

@@ -25,7 +25,8 @@ class RunProgram : public RouteProgram {
   const Memory& memory() const { return memory_; }
   Memory& memory() { return memory_; }
   const std::vector<CrossedSet>& sets() const { return sets_; }
-  bool has_set(const NodeSet& set) const;
+  bool has_set(const NodeSet& set) const { return place_of(set) != sets_.end(); }
+  Crossings crossings_under(const NodeSet& set) const;
   void add_set(const NodeSet& set);
   void limit(const NodeSet& set, const Crossings& crossings);
   // Drops sets and rows that were slack in more solutions in a row, and runs that cost too much or that the
@@ -60,6 +61,7 @@ class RunProgram : public RouteProgram {
   std::array<double, 2> gains(const NodeSet& set, int t, double enough) const;
 
  private:
+  std::vector<CrossedSet>::const_iterator place_of(const NodeSet& set) const;
   struct RowState {
     int slack_solutions = 0;
     ClpSimplex::Status status = ClpSimplex::basic;

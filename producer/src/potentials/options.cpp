@@ -26,20 +26,11 @@ void declare(CLI::App& app, Options& options) {
   app.add_option("--kicks", options.kicks, "kicks of the search for a tour (5 for each node)")
       ->type_name("K")
       ->check(CLI::Range(0L, 100000000000L));
-  CLI::Option* seconds =
-      app.add_option("--seconds", options.limit.seconds,
-                     "seconds to run by the clock; the first steps and kicks are timed to see how many fit")
-          ->type_name("S")
-          ->check(CLI::PositiveNumber);
-  app.add_option_function<double>(
-         "--cpu-seconds",
-         [&options](double most) {
-           options.limit = {most, true};
-         },
-         "processor seconds, instead of --seconds")
-      ->type_name("S")
-      ->check(CLI::PositiveNumber)
-      ->excludes(seconds);
+  certify::declare_limit(
+      app, options.limit,
+      "seconds to run by the clock; the first steps and kicks are timed to see how many fit",
+      "processor seconds, instead of --seconds")
+      ->check(CLI::PositiveNumber);
   certify::declare_common(app, options);
   app.footer(kFooter);
 }

@@ -8,11 +8,6 @@
 
 namespace certify::routes {
 namespace {
-struct Candidate {
-  SetBranch branch;
-  double score = 0;
-};
-
 // Sets to try, each once.
 class Candidates {
  public:
@@ -24,11 +19,11 @@ class Candidates {
   // decided already: a solution may break decisions.
   void offer(const NodeSet& set, double margin) {
     if (!met_.insert(set).second) return;
-    const double routes = crossings(set) / 2, part = routes - std::floor(routes);
+    const double routes = crossings_of(support_, set) / 2, part = routes - std::floor(routes);
     if (part <= margin || part >= 1 - margin) return;
     const int t = static_cast<int>(std::floor(routes));
     const Crossings own = crossings_under(limited_, instance_, set);
-    if (2 * t >= own.low && 2 * t + 2 <= own.high) list_.push_back({{set, t}});
+    if (2 * t >= own.low && 2 * t + 2 <= own.high) list_.push_back({{set, t}, 0});
   }
   // Pairs by how near the use of their link is to a half.
   void offer_pairs(std::size_t most, double margin) {
@@ -55,33 +50,19 @@ class Candidates {
       if (cut.set.size() > 2) offer(cut.set, margin);
     }
   }
-  std::vector<Candidate>& list() { return list_; }
+  std::vector<BranchCandidate>& list() { return list_; }
 
  private:
-  double crossings(const NodeSet& set) const {
-    const std::vector<char> inside = marks_of(set, instance_.nodes());
-    double sum = 0;
-    for (const int v : set) {
-      for (const Edge& edge : support_[v]) sum += inside[edge.to] != 0 ? 0 : edge.value;
-    }
-    return sum;
-  }
   const CvrpInstance& instance_;
   const Graph& support_;
   const std::map<NodeSet, Crossings> limited_;
   std::set<NodeSet> met_;
-  std::vector<Candidate> list_;
+  std::vector<BranchCandidate> list_;
 };
 
 // What both cases of a branch gain, in parts of what is missing.
 double score_of(const std::array<double, 2>& gains, double gap) {
   return std::clamp(gains[0] / gap, 1e-3, 1.0) * std::clamp(gains[1] / gap, 1e-3, 1.0);
-}
-
-void keep_best(std::vector<Candidate>& list, std::size_t count) {
-  std::stable_sort(list.begin(), list.end(),
-                   [](const Candidate& a, const Candidate& b) { return a.score > b.score; });
-  list.resize(std::min(list.size(), count));
 }
 
 // The program's value in one case of a branch, after a few rounds of new walks.
@@ -94,13 +75,28 @@ double value_below(const SolvedCase& here, const SetBranch& branch, bool first) 
 }
 }  // namespace
 
+void keep_best(std::vector<BranchCandidate>& list, std::size_t count) {
+  std::stable_sort(list.begin(), list.end(),
+                   [](const BranchCandidate& a, const BranchCandidate& b) { return a.score > b.score; });
+  if (list.size() > count) list.erase(list.begin() + static_cast<std::ptrdiff_t>(count), list.end());
+}
+
+double crossings_of(const Graph& support, const NodeSet& set) {
+  const std::vector<char> inside = marks_of(set, static_cast<int>(support.size()));
+  double sum = 0;
+  for (const int v : set) {
+    for (const Edge& edge : support[v]) sum += inside[edge.to] != 0 ? 0 : edge.value;
+  }
+  return sum;
+}
+
 std::optional<SetBranch> choose_branch(const SolvedCase& here, const std::vector<CapacityCut>& between) {
   const Graph support = here.program.support();
   Candidates candidates(here, support);
   candidates.offer(here.instance.customers(), kSetBranching.margin);
   candidates.offer_pairs(kSetBranching.pairs, kSetBranching.margin);
   candidates.offer_sets(between, kSetBranching.sets, kSetBranching.margin);
-  std::vector<Candidate>& list = candidates.list();
+  std::vector<BranchCandidate>& list = candidates.list();
   if (list.empty()) candidates.offer_pairs(kSetBranching.pairs, kSetBranching.least_margin);
   if (list.empty()) return std::nullopt;
   if (list.size() == 1) return list[0].branch;

@@ -15,6 +15,16 @@ struct SetBranch {
   int t;
 };
 
+// A branch that may be taken. More is sooner.
+struct BranchCandidate {
+  SetBranch branch;
+  double score;
+};
+// The best ones, the first of which is the best one of all.
+void keep_best(std::vector<BranchCandidate>& list, std::size_t count);
+// How often a solution crosses a set.
+double crossings_of(const Graph& support, const NodeSet& set);
+
 // A case whose program is solved, and the value that is enough.
 struct SolvedCase {
   const CvrpInstance& instance;

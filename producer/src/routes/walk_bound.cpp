@@ -59,6 +59,17 @@ Duals duals_of(const CvrpInstance& instance, const LeafNumbers& numbers, Weight 
   return duals;
 }
 
+Value given_back(const CvrpInstance& instance, const LeafNumbers& numbers, const std::vector<Limit>& limits) {
+  Value sum = 0;
+  for (const int v : instance.customers()) sum -= 2 * static_cast<Value>(numbers.potentials[v]);
+  const std::map<NodeSet, Crossings> limited = limited_crossings(instance, limits);
+  for (const auto& [set, multiplier] : numbers.multipliers) {
+    const Crossings own = crossings_under(limited, instance, set);
+    sum += static_cast<Value>(multiplier) * (multiplier > 0 ? own.low : own.high);
+  }
+  return sum;
+}
+
 // Row by row: a node has the multipliers of the sets around it on all its links, less those of sets that both
 // ends are in.
 template <typename W>
@@ -108,16 +119,9 @@ Value WalkBound::value(const LeafNumbers& numbers, const std::vector<Limit>& lim
   const std::optional<Weight> least = least_walk(numbers);
   if (!least) return nothing();
   if (*least >= WalkTable<Weight>::none() / 2) return -nothing();
-  Value sum = 0;
-  for (const int v : instance_.customers()) sum -= 2 * static_cast<Value>(numbers.potentials[v]);
-  const std::map<NodeSet, Crossings> limited = limited_crossings(instance_, limits);
-  for (const auto& [set, multiplier] : numbers.multipliers) {
-    const Crossings own = crossings_under(limited, instance_, set);
-    sum += static_cast<Value>(multiplier) * (multiplier > 0 ? own.low : own.high);
-  }
   const Value route = static_cast<Value>(*least) - 2 * static_cast<Value>(numbers.potentials[0]);
   const int fewest = instance_.fewest_routes(instance_.demand_of(instance_.customers()));
-  return sum + std::min(fewest * route, (instance_.nodes() - 1) * route);
+  return given_back(instance_, numbers, limits) + std::min(fewest * route, (instance_.nodes() - 1) * route);
 }
 
 LeafNumbers WalkBound::rounded(const Duals& duals, Weight grid) {

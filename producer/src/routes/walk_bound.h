@@ -22,6 +22,10 @@ Weight largest_cost(const CvrpInstance& instance);
 double unit_of_costs(const CvrpInstance& instance);
 Duals duals_of(const CvrpInstance& instance, const LeafNumbers& numbers, Weight scale);
 
+// What potentials and multipliers give back: each customer is visited once, and sets are crossed as often as
+// decisions leave it.
+Value given_back(const CvrpInstance& instance, const LeafNumbers& numbers, const std::vector<Limit>& limits);
+
 // The weights of links, costs times a scale.
 template <typename W>
 Links<W> links_under(const CvrpInstance& instance, const SetNumbers<W>& numbers, W scale);

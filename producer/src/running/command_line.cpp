@@ -28,6 +28,20 @@ void declare_common(CLI::App& app, CommonOptions& options) {
   app.add_option("--log", options.log, "where each event is written as a line of JSON")->type_name("FILE");
 }
 
+CLI::Option* declare_limit(CLI::App& app, TimeLimit& limit, const char* seconds, const char* cpu_seconds) {
+  CLI::Option* const by_clock = app.add_option("--seconds", limit.seconds, seconds)->type_name("S");
+  app.add_option_function<double>(
+         "--cpu-seconds",
+         [&limit](double most) {
+           limit = {most, true};
+         },
+         cpu_seconds)
+      ->type_name("S")
+      ->check(CLI::PositiveNumber)
+      ->excludes(by_clock);
+  return by_clock;
+}
+
 std::optional<Help> take_words(CLI::App& app, int count, const char* const* words) {
   try {
     app.parse(count, words);

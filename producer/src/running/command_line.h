@@ -7,9 +7,12 @@
 #include <string_view>
 #include <vector>
 
+#include "running/clock.h"
+
 namespace CLI {
 class App;
-}
+class Option;
+}  // namespace CLI
 
 namespace certify {
 // The words that mean the same to both programs.
@@ -28,6 +31,8 @@ struct Help {
 void declare_files(CLI::App& app, CommonOptions& options, const char* why);
 // --tour-out, --tsp, --seed and --log.
 void declare_common(CLI::App& app, CommonOptions& options);
+// --seconds, which it returns, and --cpu-seconds. The texts say what they are.
+CLI::Option* declare_limit(CLI::App& app, TimeLimit& limit, const char* seconds, const char* cpu_seconds);
 // Takes the words. Throws Refusal where they are wrong.
 std::optional<Help> take_words(CLI::App& app, int count, const char* const* words);
 // The files that a run reads, but for those of other options.
