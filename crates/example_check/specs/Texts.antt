@@ -4,7 +4,7 @@ use Rattle.std.specs.Prelude.{ℕ, ◌⊎◌, List, None}
 use Rattle.tsp_file.specs.Fields.{Fields}
 use Rattle.tsp_text.specs.ParsesTo.{ParsesTo}
 use Rattle.tsp_report.specs.declared.verdict.Verdict.{Verdict}
-use Rattle.tsp_verdict.specs.Solutions.{IsTourVerdict}
+use Rattle.tsp_verdict.specs.SolutionReasons.{IsTourVerdict}
 use Rattle.tsp_judge.specs.Accepted.{IsAcceptedTour, AreAcceptedRoutes}
 
 -- the texts parse to files, and this is the verdict on the second one's tour of the first one's instance

@@ -1,5 +1,5 @@
--- For src/lists.rt: the twelve least links of each place, by one pass over all pairs, and the number that no unlisted
--- link is below.
+-- For src/all_pairs.rt: the twelve least links of each place, by one pass over all pairs, and the number that no
+-- unlisted link is below.
 use Rattle.tsp_bound.proofs.Prelude.{◌≡◌, ◌≢◌, ℕ, ◌+◌, ◌*◌, ◌<◌, ◌≤◌, List, Option, length, set, drop, take, get_or, ℤ, pos, ◌≤ℤ◌, ◌<ℤ◌, ◌⊎◌, inl, inr, refl, arith, ap, sym, subst, ◌∙◌, IfSome, w64, to_z, of_z, SFits, cases_eq, cases_lt, ints, to_z-of_z, get_or-set_same, get_or-set_other, get_or-take, get_or-drop, least_at}
 use Rattle.tsp_bound.specs.declared.search.Link.{Link}
 use Rattle.tsp_bound.specs.states.Components.{IsKeptLink, IsOffered, kept_at, empty_link, IsOwnLink, IsKnown, IsPut, IsTaken, IsSeen, AreOffered}

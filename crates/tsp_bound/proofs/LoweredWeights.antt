@@ -1,5 +1,5 @@
--- What the multipliers of pairs take off weights, by the table of src/by_node.rt, and the test of the duals row by row.
--- tsp_verdict imports it, too.
+-- What the multipliers of pairs take off weights, by the table of src/multipliers_by_node.rt, and the test of the duals
+-- row by row. tsp_verdict imports it, too.
 use Rattle.tsp_bound.proofs.Prelude.{◌≡◌, ◌≢◌, ℕ, zero, suc, ◌+◌, ◌<◌, ◌==◌, List, [], ◌∷◌, drop, length, map, get_or, ℤ, FitsSigned, inl, inr, refl, arith, ap, sym, ◌∙◌, drop-cons, add-one, ◌≤◌, ◌&&◌, ◌||◌, Bool, true, false, ◌++◌, take, ap₂, subst, below_more, set, length-set, cases_eq, eq-eqb, ne_eqb, cases_Bool, both_ways, and_from, or_left, or_right, eqb-true, ints, get_or-set_same, get_or-set_other, append-nil, append_assoc, take_more, recursion_from_All, All-from_recursion, w64, pos, neg_ℤ, ◌+ℤ◌, ◌-ℤ◌, ◌<ℤ◌, if◌then◌else◌, ◌≤ℤ◌, most_multiplier, IsNode, IsFromTo, most_64, moved_to, most_between, IsMultiplier, pair_of, is_same_pair, number_on, numbers_on, AreOnPairs, IsMoved}
 use Rattle.std.specs.Global.{Vec}
 use Rattle.std.specs.List.{AllPairs, AllByRecursion, All}

@@ -1,4 +1,4 @@
--- The tree of boxes (src/boxes.rt), its search (src/search.rt) and the lists of links (src/lists.rt): what a write
+-- The tree of boxes (src/boxes.rt), its search (src/search.rt) and the lists of links (src/all_pairs.rt): what a write
 -- changes, which boxes may be skipped, orders of 64-bit weights, and divisions by the scale.
 use Rattle.tsp_bound.proofs.Prelude.{◌≡◌, ◌≢◌, ℕ, zero, suc, ◌+◌, ◌*◌, ◌/◌, ◌<◌, ◌≤◌, Bool, true, List, length, Option, ℤ, pos, ◌≤ℤ◌, ◌⊎◌, inl, inr, refl, arith, ap, sym, ◌∙◌, subst, w64, to_z, of_z, SFits, false, negsuc, neg_ℤ, ◌+ℤ◌, ◌-ℤ◌, ◌*ℤ◌, ◌-◌, ◌^◌, set, cases_eq, ints, to_z-of_z, get_or-set_same, get_or-set_other, nat_abs, IsFromTo, scaled_up, same_scale, IsScale, most_number}
 use Rattle.std.proofs.lemmas.Nat.{div-add-mod', mod_below, mul-le, div_below}

@@ -1,5 +1,5 @@
 -- The weight of a minimum 1-tree, without saying which tree: a bound needs no more, so code may find any of them.
--- src/tree.rt promises it. In no circle of docs/trust.md. tsp_branch imports it, too.
+-- src/prim.rt promises it. In no circle of docs/trust.md. tsp_branch imports it, too.
 use Rattle.std.specs.Prelude.{◌≡◌, ℕ, List, ℤ}
 use Rattle.tsp_theory.specs.Tree.{weight_of, IsLeastOneTree}
 

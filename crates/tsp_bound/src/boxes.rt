@@ -1,6 +1,6 @@
 //! `Labelled` implements `Components` (`rounds.rt`) for nodes with points: a tree of boxes finds
 //! the nearest node outside a component, and a tag on each box says whether one component fills it.
-//! (Without points, `lists.rt` does this.) `IsNearest` pins the nodes found; how many boxes are
+//! (Without points, `all_pairs.rt` does this.) `IsNearest` pins the nodes found; how many boxes are
 //! looked at affects only speed. `BoxedWeights`, the public trait at the end, is what a box needs
 //! to know about weights; tsp_branch implements it, too.
 

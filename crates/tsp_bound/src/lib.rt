@@ -10,21 +10,21 @@
 //! ```
 #![tactic(auto)]
 
+mod all_pairs;
 mod area;
 mod assignment;
 mod bound;
 mod boxes;
-mod by_node;
-mod lists;
+mod multipliers_by_node;
 mod potentials;
+mod prim;
 mod rounds;
 mod search;
-mod tree;
 mod weights;
 
 pub use assignment::{Infeasible, dual_bound};
 pub use bound::{OneTree, least_one_tree, one_tree};
 pub use boxes::{BoxedWeights, NumberedSite};
 pub use potentials::{Duals, Multipliers, Potentials};
+pub use prim::{Growing, Grown, RootEdge, grow, least_weight, two_root_edges};
 pub use rounds::grow_in_rounds;
-pub use tree::{Growing, Grown, RootEdge, grow, least_weight, two_root_edges};

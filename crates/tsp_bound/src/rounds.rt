@@ -1,7 +1,7 @@
 //! Grows a minimum tree over the nodes 2 to n in rounds (O. Boruvka, 1926): in each round, every
 //! component takes its lightest edge. `bound.rt` and tsp_branch call it. `IsWholeForest` in
 //! tsp_theory pins that the tree is minimum; budgets and orders affect only speed, because past a
-//! budget the tree grows pair by pair (`tree.rt`).
+//! budget the tree grows pair by pair (`prim.rt`).
 
 ghost use Rattle.tsp_bound.specs.Prelude.{All, ℕ, length, slice_index_or, map, pos, neg_ℤ, IfOk, IfSome, true, false, MatchOption, ℤ, most_nodes, IsNode, IsFromTo, IsSumSized, IsInner, weight_of};
 ghost use Rattle.std.specs.Bool.{OnTrue};
@@ -10,10 +10,10 @@ ghost use Rattle.tsp_theory.specs.Forest.{IsWholeForest};
 ghost use Rattle.tsp_bound.specs.states.Boxes.{node_of, IsNumbering, on_both};
 ghost use Rattle.tsp_bound.specs.states.Components.{IsSpanning, IsWeighedForest, AreKept, AreLeast, AreLeaving, IsOffered, IsForest, label_at, IsKeptLink};
 
+use crate::all_pairs::Listed;
 use crate::boxes::{BoxedWeights, Labelled, own_labels};
-use crate::lists::Listed;
+use crate::prim::Grown;
 use crate::search::{Link, Placed};
-use crate::tree::Grown;
 use std::alloc::Global;
 use tsp_io::{Refused, filled, push, with_capacity};
 
@@ -44,7 +44,7 @@ pub fn grow_in_rounds<W: BoxedWeights>(
     if let Some(grown) = joined(alloc, w, row)? {
         return Ok(grown);
     }
-    crate::tree::grow(alloc, w, row)
+    crate::prim::grow(alloc, w, row)
 }
 
 /// The nodes from 2 on.

@@ -1,6 +1,6 @@
 //! The search for the nearest node in another component, by a tree of boxes over the nodes in an
 //! order (`Placed::nearest`, which only `boxes.rt` calls). `boxes.rt` also implements `Seen`, the
-//! tree. `lists.rt` and `rounds.rt` use `Placed` and `Link`, too. `IsNearest` in
+//! tree. `all_pairs.rt` and `rounds.rt` use `Placed` and `Link`, too. `IsNearest` in
 //! `specs/states/Components.antt` pins the link that is found.
 //!
 //! A place is the index of a node in the order. A node is outside if it isn't in the component of

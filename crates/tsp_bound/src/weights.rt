@@ -8,7 +8,7 @@ ghost use Rattle.tsp_bound.specs.states.ByNode.{lowered_by};
 ghost use Rattle.tsp_bound.specs.states.Potentials.{node_count, numbers_of, weight_under};
 
 use crate::boxes::{BoxedWeights, NumberedSite};
-use crate::by_node::ByNode;
+use crate::multipliers_by_node::ByNode;
 use crate::potentials::{Potentials, scaled};
 use std::alloc::Global;
 use tsp_io::Refused;

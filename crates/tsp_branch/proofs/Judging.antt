@@ -1,4 +1,4 @@
--- For src/verdict.rt: what judging the leaves finds is the verdict on the certificate, and bounds every cycle.
+-- For src/tour_verdict.rt: what judging the leaves finds is the verdict on the certificate, and bounds every cycle.
 -- tsp_verdict imports it, too.
 use Rattle.tsp_branch.proofs.Prelude.{◌≡◌, ◌∙◌, ℕ, ◌^◌, ◌≤◌, Bool, true, false, List, [], ◌∷◌, length, take, drop, ℤ, refl, sym, subst, arith, Option, None, Some, pos, neg_ℤ, All, ints, take-append-drop, most_potential, steps_of, are_whole, IsFromTo, IsScale, Family, IsFamily, Decision, decided_number, LeafNumbers, leaves_of, AreLeafNumbers, IsFoundAt, AreCostsFor, BoundsIfAny, CaseTreesBoundCycles, AreSmall, small_multipliers}
 use Rattle.std.proofs.Math.Logic.{∥∥₁_elim}

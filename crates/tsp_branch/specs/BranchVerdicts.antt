@@ -1,5 +1,5 @@
 -- The verdict on a branches file for a TSP or an ATSP: its bound, or the first reason against it (`IsBranchVerdict`),
--- which tsp_verdict puts into the report. `judge_branches` in src/verdict.rt promises it. In no circle of
+-- which tsp_verdict puts into the report. `judge_branches` in src/tour_verdict.rt promises it. In no circle of
 -- docs/trust.md: the bound that `yes` rests on is defined in tsp_cases.
 use Rattle.tsp_branch.specs.Prelude.{ℕ, List, ℤ, pos, length, Bool, None, Some, total, IsLeastBound, triples_total, least_of, leaf_weight, IsLeafBound, IsCaseTree, IsCaseTreeBound, BoundsIfAny, decided_number}
 use Rattle.std.specs.Prelude.{◌≡◌, ◌+ℤ◌, ◌-ℤ◌, ◌*ℤ◌}

@@ -204,7 +204,8 @@ impl<C: Costs> BoxedWeights for BoxedLeaf<'_, C> {
 /// The bound of a leaf of a TSP: by kept rows, by boxes, or by rows.
 ///
 /// Kept rows are used if there are any. Otherwise boxes are used if they suit the leaf's sets and
-/// its numbers aren't too large. The requirements are those of [`leaf_bound`](crate::leaf_bound).
+/// its numbers aren't too large. The requirements are those of
+/// [`tour_leaf_bound`](crate::tour_leaf_bound).
 ///
 /// # Errors
 ///
@@ -225,9 +226,9 @@ pub(crate) fn bound_of_trees<C: Costs>(
 {
     if leaf.kept.is_empty() && leaf.prefers_boxes() && leaf.are_exact() {
         let boxed = BoxedLeaf { leaf: &*leaf };
-        return leaf_bound(alloc, &boxed, row, sum.scale, sum.given_back);
+        return tour_leaf_bound(alloc, &boxed, row, sum.scale, sum.given_back);
     }
-    leaf_bound(alloc, leaf, row, sum.scale, sum.given_back)
+    tour_leaf_bound(alloc, leaf, row, sum.scale, sum.given_back)
 }
 
 // ---- the sets that two nodes are both in
@@ -303,7 +304,7 @@ pub(crate) fn are_few(multipliers: &Multipliers, places: &[SetPlace]) -> bool
 /// # Errors
 ///
 /// Out of memory. It allocates memory for each node.
-pub fn leaf_bound<W: Growing>(
+pub fn tour_leaf_bound<W: Growing>(
     alloc: Global,
     w: &W,
     row: &mut [i64],

@@ -1,5 +1,5 @@
 //! One leaf of a branches file for tours and its bound: a minimum 1-tree for a TSP, least arcs for
-//! an ATSP. `verdict.rt` makes a `CaseLeaf` for each leaf. `IsFoundAt` in tsp_cases (by
+//! an ATSP. `tour_verdict.rt` makes a `CaseLeaf` for each leaf. `IsFoundAt` in tsp_cases (by
 //! `IsLeafBound` and `IsRowLeafBound`) pins the bound.
 
 ghost use Rattle.tsp_branch.specs.Prelude.{All, filter, length, pos, neg_ℤ, ℕ, List, true, ℤ, IsNode, triples_total, total, IsScale, IsFromTo, least_at, IsMoved, multiplied, least_of, Allows, DecideOnce, on_taken, decided_number, AreFewCrossings, lent_in, good_in, marks_in, IsOnPlaces, IsChanged, change_of, changes, stack_of, IsOpenCase, decisions_in, bears_on};

@@ -11,7 +11,7 @@ ghost use Rattle.std.specs.Prelude.{◌≡◌};
 
 use crate::boxed::are_few;
 use crate::case_leaf::{CaseLeaf, change_row};
-use crate::verdict::prefers_boxes;
+use crate::tour_verdict::prefers_boxes;
 use std::alloc::Global;
 use tsp_bound::{Growing, Grown, grow};
 use tsp_cases::{

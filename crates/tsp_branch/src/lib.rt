@@ -13,7 +13,7 @@
 mod boxed;
 mod case_leaf;
 mod leaf_rows;
-mod verdict;
+mod tour_verdict;
 
-pub use boxed::leaf_bound;
-pub use verdict::{branch_bound, judge_branches};
+pub use boxed::tour_leaf_bound;
+pub use tour_verdict::{branch_bound, judge_branches};

@@ -8,7 +8,7 @@ use Rattle.tsp_verdict.specs.SolutionVerdict.{IsVerdictWith}
 use Rattle.tsp_verdict.specs.Strict.{strict_bound, strict_reason, strict_verdict}
 use Rattle.tsp_judge.proofs.Yeses.{few}
 use Rattle.tsp_judge.specs.declared.bound_run.Bounded.{Bounded}
-use Rattle.tsp_judge.specs.declared.check.Judged.{Judged}
+use Rattle.tsp_judge.specs.declared.check_run.Judged.{Judged}
 use Rattle.tsp_c.specs.declared.call_result.CallResult.{CallResult}
 use Rattle.tsp_c.specs.NumberCalls.{without_devices, bound_answer, EndsOnTexts}
 use Rattle.tsp_c.specs.Texts.{with_certificate}

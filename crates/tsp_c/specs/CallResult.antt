@@ -8,8 +8,8 @@ use Rattle.tsp_format.specs.declared.kinds.Kind.{Kind}
 use Rattle.tsp_format.specs.declared.kinds.Kind.TheVariants as kinds
 use Rattle.tsp_format.specs.declared.keyword.Field.{Field}
 use Rattle.tsp_format.specs.declared.keyword.Field.TheVariants as fields
-use Rattle.tsp_number.specs.declared.word.NumberFault.{NumberFault}
-use Rattle.tsp_number.specs.declared.word.NumberFault.TheVariants as number_faults
+use Rattle.tsp_number.specs.declared.number_word.NumberFault.{NumberFault}
+use Rattle.tsp_number.specs.declared.number_word.NumberFault.TheVariants as number_faults
 use Rattle.tsp_file.specs.declared.rules.EndFault.TheVariants as end_faults
 use Rattle.tsp_text.specs.declared.fault.LineFault.{LineFault}
 use Rattle.tsp_text.specs.declared.fault.LineFault.TheVariants as line_faults
@@ -22,7 +22,7 @@ use Rattle.tsp_report.specs.declared.verdict.Verdict.TheVariants as verdicts
 use Rattle.tsp_verdict.specs.Certified.{is_bounded}
 use Rattle.tsp_verdict.specs.SolutionVerdict.{is_judged, IsBoundAsked, IsVerdictAsked}
 use Rattle.tsp_judge.specs.declared.bound_run.Bounded.{Bounded}
-use Rattle.tsp_judge.specs.declared.check.Judged.{Judged}
+use Rattle.tsp_judge.specs.declared.check_run.Judged.{Judged}
 use Rattle.tsp_c.specs.declared.call_result.CallResult.{CallResult}
 use Rattle.tsp_c.specs.NumberCalls.{nth}
 use Rattle.tsp_c.specs.Texts.{GivenText, AreSpelled, IsUnchecked, IsUnbounded, with_certificate, certificates, claim_of, strict_of}

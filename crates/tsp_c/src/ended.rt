@@ -7,7 +7,7 @@ ghost use Rattle.std.specs.Prelude.{◌≡◌, ◌≢◌, IsErr, MatchResult, []
 ghost use Rattle.tsp_io.specs.states.Output.{writer_of};
 ghost use Rattle.tsp_c.specs.CallResult.{blank_result};
 ghost use Rattle.tsp_c.specs.NumberCalls.{EndsOnTexts, IsPlaced, IsPrinted, without_devices, fault_line};
-ghost use Rattle.tsp_c.specs.Solutions.{EndsSolving, solving_line};
+ghost use Rattle.tsp_c.specs.SolutionCall.{EndsSolving, solving_line};
 ghost use Rattle.tsp_c.specs.Texts.{IsRefusedNumber};
 
 use crate::call_end::TOO_SMALL;

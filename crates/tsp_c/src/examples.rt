@@ -5,7 +5,7 @@
 
 ghost use Rattle.tsp_c.specs.Prelude.{ℕ, ℤ, pos, List, [], Err, true, false, negsuc, None, Some, codes, map, Point, cost, Fields, nodes_of, CertificateKind, IsNotJudged, IsUnbound, IsUnopened, Open, status_of_fault, RunFault, Ok};
 ghost use Rattle.std.specs.Prelude.{◌∷◌, ◌≡◌, ◌++◌, ◌+◌, ◌-◌, ◌^◌};
-ghost use Rattle.tsp_number.specs.declared.word.NumberFault.TheVariants as number_faults;
+ghost use Rattle.tsp_number.specs.declared.number_word.NumberFault.TheVariants as number_faults;
 ghost use Rattle.tsp_format.specs.Words.{layouts};
 ghost use Rattle.tsp_format.specs.declared.keyword.Field.TheVariants as fields;
 ghost use Rattle.tsp_format.specs.declared.kinds.Kind.TheVariants as kinds;
@@ -26,11 +26,11 @@ ghost use Rattle.tsp_solution.specs.declared.fault.FormFault.TheVariants as form
 ghost use Rattle.tsp_solution.specs.declared.fault.SolutionFault.TheVariants as solution_faults;
 ghost use Rattle.tsp_solution.specs.declared.form.Form.TheVariants as forms;
 ghost use Rattle.tsp_solution.specs.declared.hints.Numbering.TheVariants as numbering;
-ghost use Rattle.tsp_solution.specs.declared.run.SolutionRunFault.TheVariants as solution_ends;
+ghost use Rattle.tsp_solution.specs.declared.solution_writer.SolutionRunFault.TheVariants as solution_ends;
 ghost use Rattle.tsp_c.specs.CallResult.{blank_result, high_half, low_half, result_of_bound, result_of_fault, result_of_verdict, field_number, first_number, kind_number, line_fault_number, number_fault_number, read_fault_number, second_number, field_of_fault, number_of_fault, result_of_instance};
 ghost use Rattle.tsp_c.specs.NumberCalls.{IsPlaced, fault_line, nth, without_devices, EndsBuffer, distance_kinds, lists_in, pair_cost, row_cost, row_count, EndsPoints, coordinate, section_points};
 ghost use Rattle.tsp_c.specs.Opened.{EndsSection};
-ghost use Rattle.tsp_c.specs.Solutions.{depot_by, known_instance, numberings, solving_line, status_of_solving};
+ghost use Rattle.tsp_c.specs.SolutionCall.{depot_by, known_instance, numberings, solving_line, status_of_solving};
 ghost use Rattle.tsp_c.specs.Texts.{IsExplained, bounds_asked, certificates, claim_of, strict_of};
 ghost use Rattle.tsp_c.specs.declared.call_result.CallResult.{CallResult};
 

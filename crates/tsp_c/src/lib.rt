@@ -14,7 +14,7 @@ ghost use Rattle.tsp_number.specs.declared.decimal.Point.{Point};
 ghost use Rattle.tsp_c.specs.CallResult.{TellsBoundBy, TellsBy};
 ghost use Rattle.tsp_c.specs.NumberCalls.{PlacesText, nth, EndsCount, EndsLengths, EndsMatrix, EndsWeights, FillsCount, FillsLengths, FillsMatrix, FillsPoints, FillsWeights, GivesDistance};
 ghost use Rattle.tsp_c.specs.Opened.{BindsText, ChecksHeld, EndsSection, OfHeld, OpensText};
-ghost use Rattle.tsp_c.specs.Solutions.{SolvesBy};
+ghost use Rattle.tsp_c.specs.SolutionCall.{SolvesBy};
 ghost use Rattle.tsp_c.specs.Texts.{BoundsBy, ChecksBy, ConvertsBy, ExplainsTexts, ShowsText, bounds_asked, certificates};
 
 mod call_end;

@@ -14,8 +14,8 @@ use crate::call_result::CallResult;
 use crate::ended::{Answer, ended};
 use std::alloc::Global;
 use tsp_judge::{
-    Bounded, CertificateKind, Judged, Layout, Output, RunError, Watched, convert_file, run,
-    run_bound, show_file, verdicts_mean_reports,
+    Bounded, CertificateKind, Judged, Layout, Output, RunError, Watched, check_solution,
+    convert_file, run_bound, show_file, verdicts_mean_reports,
 };
 
 /// What a check asks for, apart from the verdict. `flags` is a sum: 1 for a claimed length, 2 if a
@@ -183,7 +183,7 @@ fn checked(
     let mut second = Watched::new(solution);
     let mut named = named_reader(by, certificate);
     let mut report = Output::new(Vec::new(alloc));
-    let judged = run(
+    let judged = check_solution(
         alloc,
         &mut first,
         &mut second,

@@ -1,9 +1,9 @@
 //! The C call `tsp_solution`: reads a solution in any form, given by the numbers of
-//! `bindings/c/tsp.h`. `lib.rt` exports it. `specs/Solutions.antt` pins what each number means, and
-//! the numbers never change.
+//! `bindings/c/tsp.h`. `lib.rt` exports it. `specs/SolutionCall.antt` pins what each number means,
+//! and the numbers never change.
 
 ghost use Rattle.std.specs.Prelude.{◌≡◌, option_map};
-ghost use Rattle.tsp_c.specs.Solutions.{SolvesBy, SolvesText, depot_by, hints_by, known_instance, numberings, status_of_solving};
+ghost use Rattle.tsp_c.specs.SolutionCall.{SolvesBy, SolvesText, depot_by, hints_by, known_instance, numberings, status_of_solving};
 ghost use Rattle.tsp_c.specs.NumberCalls.{nth};
 ghost use Rattle.tsp_solution.specs.Forms.{all_forms};
 

@@ -9,7 +9,7 @@ pub mod Solutions
 pub mod CaseLaws
 pub mod CaseTrees
 pub mod FamilyCrossings
-pub mod SmallTrees
+pub mod SmallCaseTrees
 pub mod SetSums
 pub mod OpenCases
 pub mod Passes

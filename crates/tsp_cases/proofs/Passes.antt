@@ -1,5 +1,5 @@
--- One pass over the steps of a tree of cases (src/tree.rt), and what it finds at a branch, at a leaf and at the end.
--- Crates above import it, too.
+-- One pass over the steps of a tree of cases (src/case_tree.rt), and what it finds at a branch, at a leaf and at the
+-- end. Crates above import it, too.
 use Rattle.tsp_cases.proofs.Prelude.{◌≡◌, ◌∙◌, ℕ, ◌+◌, ◌<◌, List, ◌∷◌, ◌++◌, length, take, drop, get_or, sym, ap, subst, arith, drop-cons, add-one, zero, suc, ◌-◌, Bool, true, false, [], ℤ, inl, inr, ◌≤ℤ◌, refl, ◌≤◌, both_ways, ints, get_or-map, length-map, take-append-le, take_all, drop_all, recursion_from_All, All-from_recursion, All, Any, AllByRecursion, ◌⊎◌, Option, Some, None, IfSome, are_whole, TreeStep, step_of, steps_of, IsBoundSized}
 use Rattle.tsp_format.specs.Steps as listed
 use Rattle.tsp_theory.specs.First.{IsFirst}

@@ -7,7 +7,7 @@ use Rattle.tsp_format.specs.Words.{IsSymmetric}
 use Rattle.tsp_cases.proofs.CaseTrees.{leaf_even}
 use Rattle.tsp_cases.proofs.Divisions.{same_least}
 use Rattle.tsp_cases.proofs.PartWalks.{run_range, cycle_from}
-use Rattle.tsp_cases.proofs.SmallTrees.{of_six, near_one, grows_well, least_tree}
+use Rattle.tsp_cases.proofs.SmallCaseTrees.{of_six, near_one, grows_well, least_tree}
 use Rattle.tsp_cases.specs.CaseTrees.{leaf_weight, IsLeafBoundOf, IsLeafBound, multiplied, AreLeafNumbers, IsFoundAt, IsAbove}
 use Rattle.tsp_cases.specs.Cases.{LeafNumbers, Branch, Leaf}
 use Rattle.tsp_cases.specs.Crossings.{has, AreAlike, AreUnlike, AreTooMany, ArePartsOf, UnlikeNodesNeedParts, sets_of, IsLeastLength}
@@ -285,7 +285,7 @@ node_twice good = good.once 0 [] (omega arith) 0 2 0 (omega arith) (omega arith)
 costs_even : (rows : List (List ℕ)) → IsSymmetric (cost_in rows)
 costs_even rows = λ i j other. ap₂ (λ a b. pos (slice_index (slice_index_or rows (a - 1) []) (b - a - 1))) (min_comm i j) (max_comm i j)
 
--- the bound of a leaf, whose minimum 1-tree SmallTrees.antt tests
+-- the bound of a leaf, whose minimum 1-tree SmallCaseTrees.antt tests
 leaf_bound : (n : ℕ) (rows : List (List ℕ)) (scale : ℤ) (potentials : List ℤ) (taken avoided : List (ℕ × ℕ × ℤ)) (families : List (Family × ℤ)) (bound : ℤ) (first second : ℕ) (added : List (ℕ × ℕ))
     → 3 ≤ n → 2 + length added ≡ n
     → near_one n (leaf_weight scale potentials taken avoided families (cost_in rows)) first second ≡ true

@@ -1,5 +1,5 @@
--- For src/tree.rt: one pass over the branches of a tree finds the first that is out of range, or the first on a pair
--- that is decided already. tsp_routing imports it, too.
+-- For src/case_tree.rt: one pass over the branches of a tree finds the first that is out of range, or the first on a
+-- pair that is decided already. tsp_routing imports it, too.
 use Rattle.tsp_cases.proofs.Prelude.{◌≡◌, ◌∙◌, ℕ, suc, ◌+◌, ◌<◌, ◌≤◌, Bool, true, false, List, [], ◌∷◌, ◌++◌, drop, length, get_or, ℤ, inl, inr, refl, ap, ap₂, sym, subst, add-one, ◌-◌, arith, ◌*◌, ◌^◌, FitsSigned, to_z, of_z, drop-cons, set, both_ways, cases_Bool, cases_eq, ints, drop_all, length-append, get_or_append_left, append_assoc, append-nil, get_or-set_same, get_or-set_other, All-from_recursion, recursion_from_All, list_any_at, AllPairs-cons, w64, w128, All, AllByRecursion, None, Some, pos, neg_ℤ, ◌+ℤ◌, IsFromTo, TreeStep, step_of, steps_of}
 use Rattle.std.proofs.Math.Seq.{get_or-append_seam}
 use Rattle.tsp_format.specs.Steps as listed

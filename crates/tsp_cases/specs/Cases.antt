@@ -1,6 +1,6 @@
 -- Circle 3 of docs/trust.md.
 -- Trees of cases: a branch divides the first open case by a decision on a pair, and a leaf closes a case by its
--- numbers. src/tree.rt goes through the cases in this order, and bounds in CaseTrees.antt and in tsp_routing are
+-- numbers. src/case_tree.rt goes through the cases in this order, and bounds in CaseTrees.antt and in tsp_routing are
 -- defined by them. Every tour keeps the decisions of some leaf, so the least bound of a leaf is a bound for all tours.
 -- tsp_branch and tsp_verdict import it, too.
 use Rattle.tsp_cases.specs.Prelude.{All, AllPairs, ℕ, Bool, true, false, List, [], length, map, ℤ, pos, zero, suc, Option, None, Some, IsSymmetric, IsScale, most_number, pair_of, is_same_pair, IsAdjustedBound, IsCycle, Uses, length_of, Problem, BoundsTours}

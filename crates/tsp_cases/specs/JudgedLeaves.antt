@@ -1,5 +1,5 @@
 -- The judgement on the leaves of a tree, whatever gives a leaf its bound: the least bound, or the first bad leaf.
--- src/tree.rt promises it, for tours and routes; tsp_branch and tsp_routing say what is found for one leaf. In no
+-- src/case_tree.rt promises it, for tours and routes; tsp_branch and tsp_routing say what is found for one leaf. In no
 -- circle of docs/trust.md. tsp_verdict imports it, too.
 use Rattle.tsp_cases.specs.Prelude.{All, Option, Some, None, ℤ, ℕ, List, [], IfSome, IsBoundSized}
 use Rattle.std.specs.Prelude.{◌≡◌, ◌⊎◌, ◌≤ℤ◌, ◌∷◌}

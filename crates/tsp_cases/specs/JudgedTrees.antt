@@ -1,6 +1,6 @@
 -- The judgement on the branches of a tree: all of them, as `CheckedTree`, or the first bad one, or the first on a pair
--- that is decided already. src/tree.rt promises it; ListedCases.antt defines which branches are bad. tsp_branch imports
--- it, too.
+-- that is decided already. src/case_tree.rt promises it; ListedCases.antt defines which branches are bad. tsp_branch
+-- imports it, too.
 use Rattle.std.specs.Prelude.{◌≡◌, ℕ, Bool, List, ℤ, Some, None}
 use Rattle.tsp_format.specs.declared.steps.TreeStep.{TreeStep}
 use Rattle.tsp_format.specs.states.TreeSteps.{steps_of}

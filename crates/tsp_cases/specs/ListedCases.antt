@@ -1,7 +1,7 @@
 -- Circle 3 of docs/trust.md.
 -- A tree of cases as BRANCH_SECTION lists it, and what makes it good: the numbers of its leaves, branches on nodes of
--- the instance, and no pair decided twice. src/tree.rt finds the first bad branch or leaf, counted in this list, and a
--- user sees its number. Crates above import it, too.
+-- the instance, and no pair decided twice. src/case_tree.rt finds the first bad branch or leaf, counted in this list,
+-- and a user sees its number. Crates above import it, too.
 use Rattle.tsp_cases.specs.Prelude.{All, list_any, ℕ, true, List, length, ℤ, pos, [], take, drop, replicate, slice_set, slice_index_or, Bool, false, Option, None, Some, IsNode, ArePotentials, entry}
 use Rattle.std.specs.Prelude.{◌≡◌, ◌≤ℤ◌, ◌≢◌, ◌+◌, ◌-◌, ◌^◌, ◌<◌, ◌≤◌, ◌∷◌, ◌+ℤ◌}
 use Rattle.tsp_format.specs.Steps as listed

@@ -1,6 +1,6 @@
 //! `Families`: the families of a certificate, all found good, with the crossings of each.
-//! `good_families.rt` makes them for tours, and `verdict.rt` in tsp_routing for routes. Because later
-//! code takes this type, it never tests a family again.
+//! `good_families.rt` makes them for tours, and `plan_verdict.rt` in tsp_routing for routes.
+//! Because later code takes this type, it never tests a family again.
 //!
 //! The crossings of a family are the least number of times that a cycle crosses its sets, and the
 //! most of them that one edge crosses. Held and Karp's dynamic programme (1962) finds the first as a

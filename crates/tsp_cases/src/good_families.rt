@@ -9,10 +9,10 @@ ghost use Rattle.tsp_cases.specs.Crossings.{has, AreSetsOf, lists_of};
 ghost use Rattle.tsp_cases.specs.JudgedSets.{AreFamiliesJudged};
 ghost use Rattle.tsp_cases.specs.states.GoodFamilies.{AreFamilyNumbers, IsSmall, is_marked, AreUnmarked, HavePlaces, AddsNoOther, AreTeeth, AreNew, AreMarked};
 
+use crate::case_tree::BranchingCertificate;
 use crate::family::{Crossings, Families, NodeSets, family_crossings};
 use crate::judged::JudgedFamilies;
 use crate::laws::most_costs_are_unique;
-use crate::tree::BranchingCertificate;
 use std::alloc::Global;
 use tsp_io::{Refused, filled, push};
 use tsp_theory::Costs;

@@ -13,6 +13,7 @@
 //! ```
 #![tactic(auto)]
 
+mod case_tree;
 mod decision;
 mod examples;
 mod family;
@@ -22,8 +23,11 @@ mod kept;
 mod laws;
 mod open_case;
 mod sets;
-mod tree;
 
+pub use case_tree::{
+    BranchingCertificate, LeafJudge, WholeTree, add_differences, copy_within, first_bad_branch,
+    judge_cases, judge_leaves, judge_numbers, lower, sum_with,
+};
 pub use decision::{DECIDED, Decision};
 pub use examples::{
     examples_of_arcs, examples_of_bad_branches, examples_of_bounds, examples_of_cases,
@@ -49,8 +53,4 @@ pub use open_case::{NodeDecisions, OpenCase};
 pub use sets::{
     MultipliedFamilies, Multipliers, SetPlace, add_sets, fill_moved, fill_shifted, scale_row,
     sets_by_node, shift_row, sum_left, take_multipliers,
-};
-pub use tree::{
-    BranchingCertificate, LeafJudge, WholeTree, add_differences, copy_within, first_bad_branch,
-    judge_cases, judge_leaves, judge_numbers, lower, sum_with,
 };

@@ -1,4 +1,4 @@
-//! `OpenCase`: the case that is open while `tree.rt` goes over the steps of a tree, as the
+//! `OpenCase`: the case that is open while `case_tree.rt` goes over the steps of a tree, as the
 //! decisions above it, in a stack and by node. `next` goes from a leaf to the next case, in the
 //! order of BRANCH_SECTION, which `specs/Cases.antt` pins.
 

@@ -1,4 +1,4 @@
--- For src/compared.rt: what a comparison has written after each solution; and for src/laws.rt, what its lines mean.
+-- For src/compare_run.rt: what a comparison has written after each solution; and for src/laws.rt, what its lines mean.
 use Rattle.tsp_judge.proofs.Prelude.{◌≡◌, ◌||◌, ℕ, suc, ◌+◌, ◌<◌, ◌≤◌, List, [], ◌∷◌, ◌++◌, length, take, Option, true, false, Bool, refl, sym, ap, subst, ◌∙◌, append_assoc, append-nil, arith, inl, inr, add-one, ◌⊎◌, Appends-nil, Appends-trans, Appends-kept, max, Result, Ok, Err, IfOk, slice_index_or, Some, None, ℤ, IsTrue, ReadTrace, Sink, IsUnwritten, HasWritten, HasStopped, Writes, output_failed, sink_of, writer_of, read_trace_of, watched, has_failed, Fields, HasReads, IsReadOn, IsFile, most_taken, ReadFault, IsProblem, problem_of, routing_of, solution_line, IsSized, report_of, head_of, is_clear, is_yes, CertificateKind, AppliesToTouring, AppliesToRouting, AppliesToInstanceBy, AppliesToCertificate, HasNoSolutionBy, IsCertifiedTourVerdict, IsCertifiedRoutesVerdict, IsCertifiedVerdictBy, IsCertifiedVerdict, IsKnownBound, IsVerdictFrom, IsJudgedWhole, strict_reason, IsKnownBoundAsked, IsFoundWith, IsVerdictBy, IsVerdictWith}
 use Rattle.std.proofs.lemmas.Bool.{false≢true}
 use Rattle.std.specs.Io.KnownBytes.{Appends}
@@ -16,15 +16,15 @@ use Rattle.tsp_report.specs.declared.verdict.KnownBound.{KnownBound}
 use Rattle.tsp_report.specs.declared.verdict.Reason.{Reason}
 use Rattle.tsp_report.specs.declared.verdict.Verdict.{Verdict}
 use Rattle.tsp_report.specs.declared.verdict.Verdict.TheVariants as verdicts
-use Rattle.tsp_verdict.specs.Solutions.{tours_of}
+use Rattle.tsp_verdict.specs.SolutionReasons.{tours_of}
 use Rattle.tsp_judge.proofs.Yeses.{sized, accepted, IsTspOrAtsp, type_of_tours, one_tour, only_routes}
 use Rattle.tsp_verdict.proofs.KnownBounds.{against_tour, against_routes}
 use Rattle.tsp_verdict.proofs.Unjudged.{clear_before, judged_whole}
 use Rattle.tsp_judge.specs.Accepted.{IsAccepted, IsBoundedTour, AreBoundedRoutes}
 use Rattle.tsp_judge.specs.CheckRun.{Given, IsUnreadIn, IsFileIn, ReadsFile, ReadsGiven}
 use Rattle.tsp_judge.specs.CompareRun.{IsReadTraceAt, IsFoundIn, Finds, result_of, status_of_found, ComparesOne, AreFound, all_solution_lines, largest_status, ComparesAll, ComparesBy, ComparesOn, LacksKnownBound, AreReadOnce, EndsCompare, AreReported, most_reported}
-use Rattle.tsp_judge.specs.declared.compared.ComparisonContext.{ComparisonContext}
-use Rattle.tsp_judge.specs.declared.compared.Found.{Found}
+use Rattle.tsp_judge.specs.declared.compare_run.ComparisonContext.{ComparisonContext}
+use Rattle.tsp_judge.specs.declared.compare_run.Found.{Found}
 use Rattle.tsp_judge.specs.declared.run_status.RunFault.{RunFault}
 use Rattle.tsp_judge.specs.declared.run_status.RunFault.TheVariants.{File, WrongKind, Write, OutOfMemory, Relayout}
 

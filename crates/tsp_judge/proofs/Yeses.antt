@@ -1,5 +1,5 @@
--- For src/check.rt and src/bound_run.rt: what a run that ends with `yes` means for the files that it has read. tsp_c
--- imports it, too.
+-- For src/check_run.rt and src/bound_run.rt: what a run that ends with `yes` means for the files that it has read.
+-- tsp_c imports it, too.
 use Rattle.tsp_judge.proofs.Prelude.{◌≡◌, Result, Ok, ℕ, [], length, Bool, true, false, Option, Some, None, Err, refl, sym, subst, inl, inr, arith, ◌≢◌, ◌<◌, eqb, List, ◌∷◌, ap, ◌∙◌, ℤ, pos, negsuc, ◌≤◌, ◌^◌, unsigned_abs, ◌⊎◌, ◌≤ℤ◌, IsTrue, unwrap_or, if◌then◌else◌, ReadTrace, IsUnread, Sink, IsUnwritten, Fields, nodes_of, IsFile, most_taken, IsProblem, depot_of, problem_of, routing_of, depots_of, IsGapSized, IsSized, report_of, is_yes, CertificateKind, is_bounded, IsBoundFitting, IsCertifiedTourVerdict, IsCertifiedRoutesVerdict, IsCertifiedVerdictBy, kind_of, AppliesToCertificateBy, AppliesToCertificate, IsCertifiedVerdict, is_judged, IsVerdictBy, IsUnclaimedVerdict, IsVerdictWith, strict_verdict, IsVerdictAsked, HasLength, IsAsClaimed, strict_reason}
 use Rattle.std.proofs.lemmas.Bool.{false≢true, cases_lt}
 use Rattle.std.proofs.lemmas.Bool.Decides.{eqb_tells}
@@ -14,10 +14,10 @@ use Rattle.tsp_report.specs.declared.verdict.Reason.{Reason}
 use Rattle.tsp_report.specs.declared.verdict.Reason.TheVariants.{NotASolution, TooFewNodes, DepotCount, NotPotentials, NotBranches}
 use Rattle.tsp_report.specs.declared.verdict.Verdict.{Verdict}
 use Rattle.tsp_report.specs.declared.verdict.Verdict.TheVariants as verdicts
-use Rattle.tsp_verdict.specs.Solutions.{tours_of, AppliesToRoutes, IsPlanned, IsRoutesVerdict, IsTourVerdict}
+use Rattle.tsp_verdict.specs.SolutionReasons.{tours_of, AppliesToRoutes, IsPlanned, IsRoutesVerdict, IsTourVerdict}
 use Rattle.tsp_judge.specs.Accepted.{IsAcceptedTour, AreOnlyRoutes, AreAcceptedRoutes, IsTourWithBound, AreRoutesWithBound, IsAccepted}
 use Rattle.tsp_judge.specs.CheckRun.{ReadsFile, Given, IsUnreadIn, IsFileIn, ReadsGiven, AreRead, JudgesFiles, EndsWithout, IsRun, acceptance, SaysYes, IsRunOf}
-use Rattle.tsp_judge.specs.declared.check.Judged.{Judged}
+use Rattle.tsp_judge.specs.declared.check_run.Judged.{Judged}
 use Rattle.tsp_judge.specs.declared.run_status.RunFault.{RunFault}
 use Rattle.tsp_judge.specs.declared.run_status.RunFault.TheVariants.{File, WrongKind, Write, OutOfMemory, Relayout}
 use Rattle.tsp_verdict.proofs.Unjudged.{accepted_before, judged_whole}

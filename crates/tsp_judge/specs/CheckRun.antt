@@ -1,11 +1,11 @@
 -- Circle 2 of docs/trust.md.
 -- A run of `tsp check`: the files that are read, the verdict, the report, and what its line `yes` means (`SaysYes`).
--- `run` in src/check.rt promises `IsRunOf`. Crates above import it, too.
+-- `check_solution` in src/check_run.rt promises `IsRunOf`. Crates above import it, too.
 use Rattle.tsp_judge.specs.Prelude.{ℕ, List, Bool, true, false, Result, Ok, Err, Option, None, Some, IsTrue, ℤ, ReadTrace, IsUnread, Sink, IsUnwritten, HasWritten, HasStopped, Fields, IsFile, StopsAt, report_of, is_yes, CertificateKind, Verdict, is_judged, NoneBeforeRepeatsOn, IsVerdictAsked, TakesAtMost, read_trace_of, most_taken, IsReadOn, IsJudgedWhole}
 use Rattle.std.specs.Prelude.{◌≡◌, ◌⊎◌}
 use Rattle.tsp_io.specs.declared.piece.WriteFault.TheVariants as write_faults
 use Rattle.tsp_read.specs.declared.ReadFault.{ReadFault}
-use Rattle.tsp_judge.specs.declared.check.Judged.{Judged}
+use Rattle.tsp_judge.specs.declared.check_run.Judged.{Judged}
 use Rattle.tsp_judge.specs.declared.run_status.RunFault.{RunFault}
 use Rattle.tsp_judge.specs.declared.run_status.RunFault.TheVariants.{File, WrongKind, Write, OutOfMemory}
 use Rattle.std.specs.declared.io.Error.{Error}

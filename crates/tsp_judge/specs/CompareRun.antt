@@ -1,5 +1,5 @@
 -- A run of `tsp compare`: an instance and a certificate that are read once, solutions that are opened, judged and
--- reported one after the other, and the lines that a follower gets. src/compared.rt promises it. In no circle of
+-- reported one after the other, and the lines that a follower gets. src/compare_run.rt promises it. In no circle of
 -- docs/trust.md: what `optimal` in a line means is in Accepted.antt, and laws tie the two. tsp_tool imports it, too.
 use Rattle.tsp_judge.specs.Prelude.{ℕ, suc, max, Bool, true, false, List, [], length, Option, None, Some, Result, Ok, Err, IsTrue, slice_index_or, zero, ReadTrace, Sink, IsUnwritten, HasWritten, HasStopped, Fields, HasReads, IsFile, StopsAt, most_taken, IsProblem, head_of, solution_line, report_of, is_yes, is_clear, CertificateKind, Verdict, NoneOfKnownBoundWithoutMemory, HasKnownBound, is_judged, NoneBeforeRepeatsOn, IsVerdictWith, IsKnownBoundAsked}
 use Rattle.std.specs.Prelude.{◌≡◌, ◌≢◌, ◌⊎◌, ◌<◌, ◌≤◌, ◌∷◌, ◌++◌, ◌-◌}
@@ -11,10 +11,10 @@ use Rattle.tsp_read.specs.declared.ReadFault.TheVariants as read_faults
 use Rattle.tsp_judge.specs.Accepted.{IsAccepted}
 use Rattle.tsp_judge.specs.CheckRun.{Given, IsUnreadIn, IsFileIn, IsSomeFile}
 use Rattle.tsp_judge.specs.RunStatus.{status_of}
-use Rattle.tsp_judge.specs.declared.compared.ComparisonContext.{ComparisonContext}
-use Rattle.tsp_judge.specs.declared.compared.Compared.{Compared}
-use Rattle.tsp_judge.specs.declared.compared.Found.{Found}
-use Rattle.tsp_judge.specs.declared.compared.Found.TheVariants as founds
+use Rattle.tsp_judge.specs.declared.compare_run.ComparisonContext.{ComparisonContext}
+use Rattle.tsp_judge.specs.declared.compare_run.Compared.{Compared}
+use Rattle.tsp_judge.specs.declared.compare_run.Found.{Found}
+use Rattle.tsp_judge.specs.declared.compare_run.Found.TheVariants as founds
 use Rattle.tsp_judge.specs.declared.run_status.RunFault.{RunFault}
 use Rattle.tsp_judge.specs.declared.run_status.RunFault.TheVariants.{File, WrongKind, Write, OutOfMemory}
 

@@ -3,7 +3,7 @@
 use Rattle.tsp_judge.specs.Prelude.{ℕ, List, Bool, true, Result, Ok, Err, Option, Sink, is_yes, TakesAtMost, read_trace_of, most_taken, IsReadOn, is_ok}
 use Rattle.std.specs.Prelude.{◌≡◌}
 use Rattle.tsp_judge.specs.declared.bound_run.Bounded.{Bounded}
-use Rattle.tsp_judge.specs.declared.check.Judged.{Judged}
+use Rattle.tsp_judge.specs.declared.check_run.Judged.{Judged}
 use Rattle.tsp_judge.specs.declared.run_status.RunFault.{RunFault}
 use Rattle.std.specs.declared.alloc.AllocError.{AllocError}
 use Rattle.std.specs.declared.io.Error.{Error}
@@ -13,7 +13,7 @@ use Rattle.tsp_report.specs.declared.task.FileTask.{FileTask}
 use Rattle.tsp_report.specs.declared.task.FileTask.TheVariants.{Show, Convert, Check, Bound}
 use Rattle.tsp_judge.specs.BoundRun.{IsBoundRunOf}
 use Rattle.tsp_judge.specs.CompareRun.{IsCompareRun}
-use Rattle.tsp_judge.specs.declared.compared.Compared.{Compared}
+use Rattle.tsp_judge.specs.declared.compare_run.Compared.{Compared}
 use Rattle.tsp_judge.specs.declared.task_run.Outcome.{Outcome}
 use Rattle.tsp_judge.specs.declared.task_run.Outcome.TheVariants as outcomes
 use Rattle.tsp_judge.specs.CheckRun.{TakesNamed, IsNamedReadOn, IsRunOf}

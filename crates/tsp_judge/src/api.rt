@@ -1,5 +1,5 @@
 //! Calls for other Rattle programs, such as `run_check`. Each is a special case of a verb's run,
-//! such as `run` in `check.rt`, and returns its fault as a plain `RunFault`.
+//! such as `check_solution` in `check_run.rt`, and returns its fault as a plain `RunFault`.
 
 ghost use Rattle.tsp_judge.specs.Prelude.{None, Some, false, TakesAtMost, FailsByWrite, sink_of, read_trace_of, IsReadOn, most_taken};
 ghost use Rattle.std.specs.Prelude.{◌≡◌};
@@ -7,7 +7,7 @@ ghost use Rattle.tsp_report.specs.declared.task.CertificateKind.TheVariants as c
 ghost use Rattle.tsp_judge.specs.CheckRun.{acceptance, IsCheck, IsCheckBy, IsRunOf};
 ghost use Rattle.tsp_judge.specs.ConvertRun.{IsConvertRun, IsShowRun};
 
-use crate::check::{Judged, judge_read, read_file, run};
+use crate::check_run::{Judged, check_solution, judge_read, read_file};
 use crate::convert_run::{convert_file, show_file};
 use crate::run_status::{RunError, RunFault};
 use std::alloc::Global;
@@ -41,7 +41,7 @@ pub fn run_check<I: Gives, S: Gives, W: Takes>(
     ensures cause { FailsByWrite W.takes out.new }
 {
     let mut none: Option<(CertificateKind, Watched<&[u8]>)> = None;
-    acceptance(run(alloc, inst, sol, &mut none, None, false, out))
+    acceptance(check_solution(alloc, inst, sol, &mut none, None, false, out))
 }
 
 /// Judges a tour for a TSP or an ATSP with a potentials file, and writes the report.
@@ -178,11 +178,12 @@ fn acceptance(ended: Result<Judged, RunError>) -> Result<bool, RunFault>
     Ok(answer)
 }
 
-/// Does what `run` does, for a borrowed reader of the certificate, and without a claimed length.
+/// Does what `check_solution` does, for a borrowed reader of the certificate, and without a claimed
+/// length.
 ///
 /// # Errors
 ///
-/// Those of `run`.
+/// Those of `check_solution`.
 fn run_by<I: Gives, S: Gives, C: Gives, W: Takes>(
     alloc: Global,
     inst: &mut Watched<I>,

@@ -5,7 +5,7 @@
 ghost use Rattle.tsp_judge.specs.Prelude.{ReadTrace, TakesAtMost, FailsByWrite, sink_of, read_trace_of, IsReadOn, IsFile, most_taken};
 ghost use Rattle.tsp_judge.specs.BoundRun.{BoundsFiles, IsBoundRunOf};
 
-use crate::check::read_file;
+use crate::check_run::read_file;
 use crate::run_status::RunError;
 use std::alloc::Global;
 use tsp_cost::Instance;

@@ -4,7 +4,7 @@
 ghost use Rattle.tsp_judge.specs.Prelude.{TakesAtMost, FailsByWrite, sink_of, read_trace_of, IsReadOn, most_taken};
 ghost use Rattle.tsp_judge.specs.ConvertRun.{Becomes, IsConvertRun, IsShowRun};
 
-use crate::check::read_file;
+use crate::check_run::read_file;
 use crate::run_status::RunError;
 use std::alloc::Global;
 use tsp_file::{File, RelayoutFault, write_file};

@@ -3,7 +3,7 @@
 
 ghost use Rattle.std.specs.Io.{StartsWith};
 
-use crate::compared::ComparisonContext;
+use crate::compare_run::ComparisonContext;
 use crate::run_status::RunFault;
 use crate::task_run::Outcome;
 use std::alloc::{AllocError, Global};

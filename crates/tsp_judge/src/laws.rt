@@ -11,10 +11,10 @@ ghost use Rattle.tsp_report.specs.declared.verdict.Verdict.TheVariants as verdic
 ghost use Rattle.tsp_judge.specs.Accepted.{IsAccepted, IsBoundedTour, AreBoundedRoutes};
 ghost use Rattle.tsp_judge.specs.CheckRun.{Given};
 ghost use Rattle.tsp_judge.specs.CompareRun.{IsCompareRun, IsFoundIn};
-ghost use Rattle.tsp_judge.specs.declared.compared.Compared.{Compared};
-ghost use Rattle.tsp_judge.specs.declared.compared.ComparisonContext.{ComparisonContext};
+ghost use Rattle.tsp_judge.specs.declared.compare_run.Compared.{Compared};
+ghost use Rattle.tsp_judge.specs.declared.compare_run.ComparisonContext.{ComparisonContext};
 
-use crate::compared::Solutions;
+use crate::compare_run::Solutions;
 use tsp_io::Gives;
 
 /// With a certificate, a line with a length and `optimal` means that its solution is one tour of

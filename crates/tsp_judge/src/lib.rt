@@ -20,8 +20,8 @@
 
 mod api;
 mod bound_run;
-mod check;
-mod compared;
+mod check_run;
+mod compare_run;
 mod convert_run;
 mod examples;
 mod explanation;
@@ -32,8 +32,8 @@ mod task_run;
 
 pub use api::{run_bound_check, run_branch_check, run_check, run_convert, run_show};
 pub use bound_run::{Bounded, run_bound};
-pub use check::{Judged, report_verdict, run};
-pub use compared::{Compared, ComparisonContext, Follow, Found, Solutions, run_compare};
+pub use check_run::{Judged, check_solution, report_verdict};
+pub use compare_run::{Compared, ComparisonContext, Follow, Found, Solutions, run_compare};
 pub use convert_run::{convert_file, show_file};
 pub use examples::{
     examples_of_answers, examples_of_asked_readers, examples_of_certificates,

@@ -7,8 +7,8 @@ ghost use Rattle.tsp_judge.specs.CompareRun.{IsFollowed};
 ghost use Rattle.tsp_judge.specs.TaskRun.{AreComparedOn, AreReadOn, IsCompared, IsDone, is_yes_outcome, outcome_of_writing, outcome_of_check, outcome_of_bound};
 
 use crate::bound_run::{Bounded, run_bound};
-use crate::check::{Judged, run};
-use crate::compared::{Compared, Follow, Solutions, run_compare};
+use crate::check_run::{Judged, check_solution};
+use crate::compare_run::{Compared, Follow, Solutions, run_compare};
 use crate::convert_run::{convert_file, show_file};
 use crate::run_status::RunError;
 use std::alloc::Global;
@@ -43,7 +43,7 @@ pub fn is_yes_outcome(outcome: &Outcome) -> bool
 ///
 /// # Errors
 ///
-/// Those of the run: `show_file`, `convert_file`, `run` or `run_bound`.
+/// Those of the run: `show_file`, `convert_file`, `check_solution` or `run_bound`.
 pub fn perform<R: Gives, W: Takes>(
     alloc: Global,
     task: &mut FileTask<Watched<R>>,
@@ -64,7 +64,7 @@ pub fn perform<R: Gives, W: Takes>(
             strict,
         } => {
             let claimed = *claimed;
-            let ended = run(
+            let ended = check_solution(
                 alloc,
                 instance,
                 solution,

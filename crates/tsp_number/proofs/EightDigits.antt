@@ -1,5 +1,5 @@
--- Eight digits read at once, as lanes of a 64-bit word (`front_of_eight` in src/word.rt): each multiplication and mask,
--- and the number that comes of them.
+-- Eight digits read at once, as lanes of a 64-bit word (`front_of_eight` in src/number_word.rt): each multiplication
+-- and mask, and the number that comes of them.
 use Rattle.tsp_number.proofs.Prelude.{◌≡◌, ℕ, ◌+◌, ◌-◌, ◌%◌, ◌^◌, ◌<◌, leb, Bool, not, cond, List, [], ◌∷◌, map, length, replicate, Fits, w8, refl, arith, ap, sym, ◌∙◌, zero, suc, ◌*◌, ◌/◌, ◌≤◌, true, false, ◌++◌, take, drop, get_or, subst, bit_and, w64, length-append, take-append-drop, pow-add, pow-suc, pow-zero, add-mul-mod_self_left, mod-eq_of_lt, mul-lt-mul_of_pos_right, mul-le-mul_left, one-le-pow, agree_below_at, nat_tests, length-map, drop_all, length-replicate, length-take-le, replicate-append-replicate, le_bytes_8, from_le_bytes-to_le_bytes_8, mul-mod_first, and_block, and_mask, div-mul-add, digit_value_digit, is_ascii_digit, digit_value, from_le_bytes, to_le_bytes, prefix_len, AllDigits, digits_value}
 use Rattle.std.proofs.lemmas.Int.Digits.{digits_value_is}
 use Rattle.std.proofs.lemmas.Simd.{zip2_splat, zip2_splat_left, map-map, mask_l-mod, leading_from_mask_l, trailing_mask_l}

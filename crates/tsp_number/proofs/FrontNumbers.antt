@@ -1,5 +1,5 @@
--- The shortcuts of src/word.rt, digit by digit: a number at the beginning of some bytes is the one that the grammar
--- reads there.
+-- The shortcuts of src/number_word.rt, digit by digit: a number at the beginning of some bytes is the one that the
+-- grammar reads there.
 use Rattle.tsp_number.proofs.Prelude.{◌≡◌, ℕ, zero, suc, ◌+◌, ◌<◌, ◌≤◌, Bool, true, false, cond, List, [], ◌∷◌, length, take, drop, ap, arith, ◌*◌, ◌-◌, ◌^◌, ◌≢◌, None, Some, ◌++◌, ℤ, pos, ◌*ℤ◌, ◌≤ℤ◌, ◌<ℤ◌, ◌⊎◌, Ok, Err, unsigned_abs, inl, inr, ⊎_elim, refl, sym, ◌∙◌, subst, pow-add, add-one, append_assoc, append-nil, length-drop, pow-suc, pow-le-pow_right, mul-le-mul, nat_tests, ints, length-take-le, take-take, digit_value_digit, is_ascii_digit, prefix_len, min, slice_index_or as get_or, nat_le, nat_lt, ◌&&◌, AllDigits, digits_value}
 use Rattle.std.proofs.Math.Seq.{take-add, take-suc, take-length}
 use Rattle.std.proofs.lemmas.Grind.{common_steps}
@@ -9,7 +9,7 @@ use Rattle.tsp_number.proofs.NumberGrammar.{to_signed}
 use Rattle.tsp_number.proofs.Scaling.{digits_value-append, AllDigits-append}
 use Rattle.tsp_number.specs.Decimal.{unit, most_count}
 use Rattle.tsp_number.specs.NumberWord.{IsShort, ReadsDecimal, ReadsWhole, point, IsSign, IsFraction, Numeral, StandsFor, IsShifted, with_sign, mantissa, digits_of, shift_of}
-use Rattle.tsp_number.specs.declared.word.NumberFault.TheVariants.{OutOfRange}
+use Rattle.tsp_number.specs.declared.number_word.NumberFault.TheVariants.{OutOfRange}
 use Rattle.tsp_number.specs.states.Digits.{BeginsWithNumber, sign_count, digit_count, end_of_digits, end_with_point, few_end, decimal_end}
 
 -- of the first m elements as many pass as of all, but no more than m

@@ -1,5 +1,5 @@
 -- The grammar of NumberWord.antt read from the left, as code scans it, against its definition by parts of a word. For
--- src/word.rt, and for the reader's proofs in tsp_read.
+-- src/number_word.rt, and for the reader's proofs in tsp_read.
 use Rattle.tsp_number.proofs.Prelude.{◌≡◌, ◌≢◌, ℕ, ◌+◌, ◌<◌, Bool, true, false, ◌==◌, ◌||◌, ◌&&◌, List, [], ◌∷◌, ◌++◌, length, Option, Some, None, ℤ, ◌⊎◌, inl, inr, refl, arith, ap, sym, ◌∙◌, subst, append-nil, nat_lt, if◌then◌else◌, ◌*◌, ◌^◌, ◌≤◌, pos, negsuc, ◌+ℤ◌, ◌*ℤ◌, suc, zero, unsigned_abs, pow-add, FitsSigned, w64, ◌<ℤ◌, mul-le-mul, eq_of_mul-eq-mul_right, cases_eq, nat_tests, ints, digit_value, is_ascii_digit, option_map, AllDigits, digits_value}
 use Rattle.std.proofs.lemmas.Str.Parse.{digit_from_value}
 use Rattle.tsp_number.proofs.Scaling.{AllDigits-front_digits, if_above_zero, front_digits-all, pow_above_zero}

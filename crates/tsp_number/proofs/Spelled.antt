@@ -11,7 +11,7 @@ use Rattle.tsp_number.proofs.WordLaws.{decimal_once}
 use Rattle.tsp_number.specs.Decimal.{unit, most_count}
 use Rattle.tsp_number.specs.NumberWord.{decimals, three_digits, minus, point, IsSign, IsFraction, Numeral, StandsFor, IsShifted, with_sign, mantissa, digits_of, shift_of, ReadsDecimal, fraction_spelling, size_spelling, spelling}
 use Rattle.tsp_number.specs.declared.spelling.TheConstants.{PAIRS}
-use Rattle.tsp_number.specs.declared.word.NumberFault.{NumberFault}
+use Rattle.tsp_number.specs.declared.number_word.NumberFault.{NumberFault}
 
 pub decimals-suc : (places rest : ℕ) → 0 < rest
     → decimals (suc places) rest ≡ (48 + rest / 10 ^ places) ∷ decimals places (rest % 10 ^ places)

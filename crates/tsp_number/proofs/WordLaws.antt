@@ -1,8 +1,8 @@
 -- A number word means at most one number, and reading it gives exactly one answer, which `decimal_of` and `whole_of`
--- compute. For src/word.rt, and for the laws on number words. tsp_read imports it, too.
+-- compute. For src/number_word.rt, and for the laws on number words. tsp_read imports it, too.
 use Rattle.tsp_number.proofs.Prelude.{◌≡◌, ◌≢◌, ℕ, ◌+◌, ◌*◌, ◌/◌, ◌%◌, ◌^◌, ◌==◌, ◌&&◌, Bool, true, false, List, length, Option, Some, None, Result, Ok, Err, if◌then◌else◌, ℤ, pos, negsuc, ◌*ℤ◌, ◌≤ℤ◌, ◌<ℤ◌, ◌⊎◌, inl, inr, refl, arith, ap, sym, ◌∙◌, subst, unsigned_abs, nat_le, int_le, eq_of_mul-eq-mul_right, mul-mod_left, div-add-mod', MatchBool, nat_tests, ints, option_map}
-use Rattle.tsp_number.specs.declared.word.NumberFault.{NumberFault}
-use Rattle.tsp_number.specs.declared.word.NumberFault.TheVariants.{LongWord, BadNumber, TooFine, OutOfRange, NotWhole}
+use Rattle.tsp_number.specs.declared.number_word.NumberFault.{NumberFault}
+use Rattle.tsp_number.specs.declared.number_word.NumberFault.TheVariants.{LongWord, BadNumber, TooFine, OutOfRange, NotWhole}
 use Rattle.tsp_number.specs.Decimal.{unit, most_count}
 use Rattle.tsp_number.specs.NumberWord.{Numeral, IsNumberWord, StandsFor, IsShort, with_sign, digits_of, shift_of, ReadsDecimal, ReadsWhole, shifted_size, number_in, decimal_within, decimal_from, decimal_of, whole_within, whole_from, whole_of, numeral_in}
 use Rattle.tsp_number.specs.states.Digits.{IsShiftedSize}

@@ -4,7 +4,7 @@ use Rattle.std.specs.Prelude.{ℕ, ℤ, pos, negsuc, ◌*ℤ◌, ◌≡◌, List
 use Rattle.tsp_number.specs.Distances.{on_plane}
 use Rattle.tsp_number.specs.NumberWord.{decimal_of, whole_of, spelling}
 use Rattle.tsp_number.specs.declared.decimal.Point.{Point}
-use Rattle.tsp_number.specs.declared.word.NumberFault.{NumberFault}
+use Rattle.tsp_number.specs.declared.number_word.NumberFault.{NumberFault}
 
 -- the point with these coordinates in thousandths
 abbrev pub thousandths : ℤ → ℤ → Point

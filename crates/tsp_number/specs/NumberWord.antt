@@ -1,15 +1,15 @@
 -- Circle 2 of docs/trust.md.
 -- The grammar of number words: the number that a word means, or its fault, and the one way in which a decimal is
--- spelled. src/word.rt and src/spelling.rt promise it. Which files can be read, and the digits in canonical texts,
--- follow from here. Crates above import it, too.
+-- spelled. src/number_word.rt and src/spelling.rt promise it. Which files can be read, and the digits in canonical
+-- texts, follow from here. Crates above import it, too.
 use Rattle.std.specs.Char.{is_ascii_digit}
 use Rattle.std.specs.Fmt.{decimal}
 use Rattle.std.specs.Option.{option_map}
 use Rattle.std.specs.Prelude.{◌≡◌, ◌≢◌, ℕ, ◌+◌, ◌^◌, ◌<◌, ◌≤◌, Bool, true, false, List, [], ◌∷◌, ◌++◌, length, ◌⊎◌, Result, Ok, Err, if◌then◌else◌, ℤ, pos, negsuc, ◌+ℤ◌, ◌-ℤ◌, ◌*ℤ◌, neg_ℤ, ◌≤ℤ◌, ◌<ℤ◌, unsigned_abs, zero, suc, ◌/◌, ◌%◌, ◌==◌, ◌&&◌, ◌||◌, nat_lt, Option, Some, None, codes, ◌*◌, nat_le, int_le}
 use Rattle.std.specs.Str.Parse.{AllDigits, digits_value}
 use Rattle.tsp_number.specs.Decimal.{unit, most_count}
-use Rattle.tsp_number.specs.declared.word.NumberFault.{NumberFault}
-use Rattle.tsp_number.specs.declared.word.NumberFault.TheVariants.{LongWord, BadNumber, TooFine, OutOfRange, NotWhole}
+use Rattle.tsp_number.specs.declared.number_word.NumberFault.{NumberFault}
+use Rattle.tsp_number.specs.declared.number_word.NumberFault.TheVariants.{LongWord, BadNumber, TooFine, OutOfRange, NotWhole}
 
 -- ---- the bytes of `+`, `-`, `.`, `e` and `E`
 

@@ -6,7 +6,7 @@ ghost use Rattle.std.specs.Prelude.{pos, negsuc, ◌≡◌, Some, None, codes, �
 ghost use Rattle.tsp_number.specs.Distances.{IsEuc2d, IsCeil2d, IsMan2d, IsMax2d, IsAtt, IsEuc3d, IsMan3d, IsMax3d};
 ghost use Rattle.tsp_number.specs.Examples.{FromZero, FromZeroToSpace, FromLeastToLargest, IsDecimalCount, IsNoDecimal, WholeIs, WholeIsRefused, IsSpelled};
 ghost use Rattle.tsp_number.specs.NumberWord.{number_fault_text};
-ghost use Rattle.tsp_number.specs.declared.word.NumberFault.TheVariants.{LongWord, BadNumber, TooFine, OutOfRange, NotWhole};
+ghost use Rattle.tsp_number.specs.declared.number_word.NumberFault.TheVariants.{LongWord, BadNumber, TooFine, OutOfRange, NotWhole};
 ghost use Rattle.tsp_number.specs.states.Digits.{whole_end, decimal_end, few_end};
 
 /// Distances between the point (0, 0) and others, with coordinates in thousandths: at the points

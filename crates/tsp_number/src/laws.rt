@@ -6,7 +6,7 @@ ghost use Rattle.std.specs.Prelude.{◌≡◌, ◌≤◌, ℕ, ℤ, List, Result
 ghost use Rattle.tsp_number.specs.Decimal.{most_count};
 ghost use Rattle.tsp_number.specs.Distances.{IsEuc2d, IsCeil2d, IsMan2d, IsMax2d, IsAtt, IsEuc3d, IsMan3d, IsMax3d, euc_2d_of, ceil_2d_of, man_2d_of, max_2d_of, att_of, euc_3d_of, man_3d_of, max_3d_of, IsDistance, IsDistanceInSpace, IsMonotone};
 ghost use Rattle.tsp_number.specs.NumberWord.{StandsFor, ReadsDecimal, ReadsWhole, decimal_of, whole_of, spelling};
-ghost use Rattle.tsp_number.specs.declared.word.NumberFault.{NumberFault};
+ghost use Rattle.tsp_number.specs.declared.number_word.NumberFault.{NumberFault};
 
 /// Each distance is exactly one number for any two points. It is symmetric, 0 between equal points,
 /// and at most 4 * 10^9 in the plane and 6 * 10^9 in space.

@@ -17,11 +17,11 @@ mod decimal;
 mod distance;
 mod examples;
 mod laws;
+mod number_word;
 mod root;
 mod scan;
 mod shift;
 mod spelling;
-mod word;
 
 pub use at_least::{is_att_at_least, is_ceil_2d_at_least, is_euc_2d_at_least, is_euc_3d_at_least};
 pub use decimal::{Decimal, InSpace, PlanePoint, Point, UNIT};
@@ -31,5 +31,7 @@ pub use examples::{
     examples_of_fault_texts, examples_of_fronts, examples_of_spellings, examples_of_whole_numbers,
 };
 pub use laws::{distance_laws, monotone_laws, number_word_laws, spelling_laws};
+pub use number_word::{
+    NumberFault, front_decimal, front_few, front_whole, parse_decimal, parse_whole,
+};
 pub use spelling::{MOST_SPELLING, write_decimal, write_pair, write_spelling};
-pub use word::{NumberFault, front_decimal, front_few, front_whole, parse_decimal, parse_whole};

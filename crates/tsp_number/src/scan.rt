@@ -1,5 +1,5 @@
 //! The first half of reading any number word: cuts it into sign, digits, point and exponent.
-//! `word.rt` comes here with words that its shortcuts can't read. `numeral_in` in
+//! `number_word.rt` comes here with words that its shortcuts can't read. `numeral_in` in
 //! `specs/NumberWord.antt` pins the parts.
 
 ghost use Rattle.std.specs.Prelude.{◌≡◌, ◌+◌, ◌<◌, ◌≤◌, length, MatchOption, ℕ, None, Some};

@@ -1,5 +1,5 @@
 //! The second half of reading any number word: shifts its digits by its exponent, in integers, so
-//! nothing is rounded. A value past 64 bits becomes `u64::MAX`, which `word.rt`, the caller,
+//! nothing is rounded. A value past 64 bits becomes `u64::MAX`, which `number_word.rt`, the caller,
 //! refuses as out of range.
 
 ghost use Rattle.std.specs.Prelude.{◌≡◌, ◌+◌, ◌*◌, ◌^◌, ◌<◌, ◌≤◌, ◌++◌, length, ◌==◌, pos, ◌+ℤ◌, ◌-ℤ◌};

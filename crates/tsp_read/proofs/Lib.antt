@@ -5,7 +5,7 @@ pub mod ListSteps
 pub mod SectionLists
 pub mod GroupSteps
 pub mod CoordSteps
-pub mod RunSteps
+pub mod PlainNumbers
 pub mod TextSteps
 pub mod KeywordSteps
 pub mod LeftSteps

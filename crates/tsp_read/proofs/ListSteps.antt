@@ -1,5 +1,5 @@
 -- One word more of a list of nodes that -1 ends, or of pairs and triples, and lines that are scanned for a value. For
--- src/lists.rt and src/section_builder.rt.
+-- src/list_sections.rt and src/section_builder.rt.
 use Rattle.tsp_read.proofs.Prelude.{◌≡◌, ℕ, suc, List, [], ◌∷◌, ◌++◌, length, map, get_or, refl, ap, Option, None, Some, Ok, ◌+◌, ◌<◌, Bool, true, false, sym, ◌∙◌, arith, ◌≢◌, ◌≤◌, subst, ap₂, cond, drop, lt-leb, false_from_ne_true, ltb-true, ltb-false, nat_tests, Decides-int_eq, map_push, length_push, prefix_len-le-length, cond_some, list_any, prefix_len, position, position_or_len, option_map, int_eq, ℤ, Result, pos, negsuc, nat_abs, nat_le, ◌==◌, is_some, not, NumberFault, most_depots, most_fixed, Words, goes_on, group_ends, firsts_begin, firsts_on, firsts_kept, groups_kept, groups_none, word_fault, when, first_row, place_of_depot, groups_in, begun_in, firsts_in, place_in_list, fixed_pair, place_in_pair, place_of_fixed, number, node_or_end, is_end, is_minus_one, Place, PastEnd, DepotAfter, node, FirstAfter, SecondOf, wants_more, LineFault}
 use Rattle.std.proofs.Math.Bool.{and-false}
 use Rattle.tsp_text.proofs.ValidKeywords.{any_kept, any_push, before_kept, before_none, before_end, before_push}

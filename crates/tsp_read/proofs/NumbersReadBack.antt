@@ -9,7 +9,7 @@ use Rattle.std.proofs.lemmas.Str.Parse.{digit_from_value}
 use Rattle.std.specs.Char.{digit_value}
 use Rattle.std.specs.Str.Parse.{AllDigits, digits_value}
 use Rattle.tsp_number.proofs.Scaling.{pow_above_zero}
-use Rattle.tsp_number.specs.declared.word.NumberFault.TheVariants.{OutOfRange}
+use Rattle.tsp_number.specs.declared.number_word.NumberFault.TheVariants.{OutOfRange}
 use Rattle.tsp_text.proofs.ValidKeywords.{any_push}
 use Rattle.tsp_text.specs.declared.fault.LineFault.TheVariants as row
 use Rattle.tsp_read.proofs.Onto.{AllTaken, taken-append}

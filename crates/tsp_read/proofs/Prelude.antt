@@ -35,7 +35,7 @@ pub use Rattle.tsp_number.specs.Decimal.{most_count, unit}
 pub use Rattle.tsp_number.specs.NumberWord.{IsExponent, IsFraction, IsSign, Numeral, ReadsDecimal, ReadsWhole, SpellsNumeral, StandsFor, fraction_spelling, lower_e, minus, plus, point, shift_of, size_spelling, spelling, upper_e, with_sign}
 unfoldable pub use Rattle.tsp_number.specs.NumberWord.{decimal_of, decimals, whole_of}
 pub use Rattle.tsp_number.specs.declared.decimal.Point.{Point}
-pub use Rattle.tsp_number.specs.declared.word.NumberFault.{NumberFault}
+pub use Rattle.tsp_number.specs.declared.number_word.NumberFault.{NumberFault}
 pub use Rattle.tsp_text.proofs.GroupWords.{Words, all_groups, begun_append, begun_short, first_of, firsts_begin, firsts_kept, firsts_on, goes_on, group_ends, groups_append, groups_kept, groups_none, length_groups, nodes_read}
 pub use Rattle.tsp_text.proofs.SettledFaults.{clean_more, ended_kept, ended_stays, fault_kept, fault_stays, long_fault, long_row, part_kept, part_long, part_short, same_fault, settled_kept}
 pub use Rattle.tsp_text.proofs.SettledItems.{start_blank, start_filled, words_blank}

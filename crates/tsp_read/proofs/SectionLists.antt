@@ -1,5 +1,5 @@
 -- One word more of sections whose words come in groups: points, triples, tours, weights and the steps of trees. For
--- src/section_builder.rt and the lists in src/lists.rt, src/memory_lists.rt and src/tree.rt.
+-- src/section_builder.rt and the lists in src/list_sections.rt, src/memory_lists.rt and src/tree_sections.rt.
 use Rattle.tsp_read.proofs.Prelude.{◌≡◌, ◌≢◌, ℕ, ◌+◌, ◌-◌, ◌<◌, ◌≤◌, Bool, true, false, cond, ◌||◌, List, [], ◌∷◌, ◌++◌, length, set, refl, sym, ap, ◌∙◌, Option, None, Some, Ok, Err, inl, inr, arith, rules, get_or-set_other, get_or-set_same, ap₂, subst, map, Result, ◌*◌, false_from_ne_true, Decides-int_eq, same_from_decides, nat_tests, ints, length-set, length_push, length-replicate, get_or-replicate, ext_get_or, map_push, length-map, fold-append, list_any, slice_split, onto_first, filter, int_eq, ℤ, pos, negsuc, nat_abs, ◌⊎◌, replicate, slice_index_or, is_some, unwrap_or, ◌==◌, nat_le, not, MatchResult, OnOk, neg_ℤ, whole_of, NumberFault, most_multiplier, most_nodes, most_tour_nodes, most_weight, most_difference, Words, word_fault, entry_of, nodes_of_groups, by_node, place_in_group, fixed_triple, place_in_triple, place_of_triple, node, reads_as, IsWhole, Place, NodeAfter, number, node_or_end, Amount, TourNode, ends_tour, tour_node, place_of_tour, whole_of_size, Weight, place_of_weight, TreeSoFar, no_steps, with_tree_word, tree_after, place_in_tree, place_of_step, wants_more, LineFault}
 use Rattle.std.proofs.Math.Bool.{and-false}
 use Rattle.std.proofs.lemmas.List.FromFn.{length-map-range_with_len, get_or-map-range_with_len}
@@ -8,7 +8,7 @@ use Rattle.tsp_format.specs.Nodes.{nodes_to}
 use Rattle.tsp_text.specs.declared.fault.LineFault.TheVariants as row
 use Rattle.tsp_read.proofs.ListSteps.{HasNodes, one_begun, place_open, second_same as second_same_of, second_clean, group_goes_on, group_taken}
 use Rattle.tsp_read.proofs.NumbersReadBack.{no_zero}
-use Rattle.tsp_read.specs.declared.lists.TourList.{TourList}
+use Rattle.tsp_read.specs.declared.list_sections.TourList.{TourList}
 use Rattle.tsp_read.specs.states.HeldParts.{HoldsTours, EndsRunOf}
 use Rattle.tsp_read.specs.states.Parts.{IsNodeOf, IsNewNode, NodesHold, AreReadAs, TriplesHold, WeightsHold}
 

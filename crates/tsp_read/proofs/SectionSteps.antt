@@ -4,14 +4,14 @@ use Rattle.tsp_read.proofs.Prelude.{◌≡◌, ℕ, Bool, true, false, List, [],
 use Rattle.tsp_text.specs.declared.fault.LineFault.TheVariants as row
 use Rattle.tsp_read.specs.declared.section_builder.SectionBuilder.{SectionBuilder}
 use Rattle.tsp_read.specs.declared.section_builder.SectionBuilder.TheVariants as parts
-use Rattle.tsp_read.specs.declared.by_node.NumberList.{NumberList}
-use Rattle.tsp_read.specs.declared.by_node.PointList.{PointList}
-use Rattle.tsp_read.specs.declared.lists.FixedList.{FixedList}
+use Rattle.tsp_read.specs.declared.node_sections.NumberList.{NumberList}
+use Rattle.tsp_read.specs.declared.node_sections.PointList.{PointList}
+use Rattle.tsp_read.specs.declared.list_sections.FixedList.{FixedList}
 use Rattle.tsp_read.specs.declared.section_builder.TripleList.{TripleList}
 use Rattle.tsp_read.specs.declared.memory_lists.MemoryList.{MemoryList}
 use Rattle.tsp_read.specs.declared.memory_lists.RowList.{RowList}
-use Rattle.tsp_read.specs.declared.tree.FamilyList.{FamilyList}
-use Rattle.tsp_read.specs.declared.tree.TreeList.{TreeList}
+use Rattle.tsp_read.specs.declared.tree_sections.FamilyList.{FamilyList}
+use Rattle.tsp_read.specs.declared.tree_sections.TreeList.{TreeList}
 use Rattle.tsp_read.specs.states.Holds.{MayOpen, HoldsSection, with_words, with_section, first_of, fields_there, OpenHolds, Holds, Closed}
 use Rattle.tsp_read.specs.states.Parts.{are_in_space}
 use Rattle.tsp_read.specs.states.HeldParts.{HoldsNumbers, HoldsPoints, HoldsFixed, HoldsTriples, HoldsFamilies, HoldsMemories, HoldsSubsetRows, HoldsTree, shape_of_points, shape_by, HoldsPart, HoldsShape}

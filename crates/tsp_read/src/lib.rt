@@ -13,35 +13,35 @@
 #![tactic(auto)]
 
 mod api;
-mod by_node;
 mod examples;
 mod feed;
 mod items;
 mod line;
-mod lists;
+mod list_sections;
 mod memory_lists;
+mod node_sections;
+mod plain_numbers;
 mod reading;
 mod round_trip;
-mod runs;
 mod section_builder;
 mod step_fault;
-mod tree;
+mod tree_sections;
 
 pub use api::{file_of_bytes, file_of_reader, read_bytes, read_from};
-pub use by_node::{NumberList, PointList};
 pub use examples::examples_of_reading;
 pub use feed::Feed;
 pub use line::{
     CutLine, add_comment, add_other, may_open, number_of, says_space, set_name, set_named,
     without_start,
 };
-pub use lists::{DepotList, FixedList, Gathered, GatheredNodes, TourList, WeightList};
+pub use list_sections::{DepotList, FixedList, Gathered, GatheredNodes, TourList, WeightList};
 pub use memory_lists::{MemoryList, RowList};
+pub use node_sections::{NumberList, PointList};
+pub use plain_numbers::PlainNumberList;
 pub use reading::ReadError;
 pub use round_trip::{canonical_texts_are_read_back, written_numbers_are_read_back};
-pub use runs::RunList;
 pub use section_builder::{SectionBuilder, TripleList};
 pub use step_fault::StepFault;
-pub use tree::{FamilyList, TreeList};
+pub use tree_sections::{FamilyList, TreeList};
 pub use tsp_file::EndFault;
 pub use tsp_text::{LineFault, ReadFault};

@@ -1,17 +1,17 @@
 //! `SectionBuilder`, the list that the open section fills: a variant for each shape of section, and
-//! the one `match` by which `reading.rt` and `runs.rt` pass words on. Also reading a word as a node
-//! or an index, which all lists share, and the list for FIXED_EDGE_POTENTIAL_SECTION. Contracts
-//! here and in `specs/states/Parts.antt` pin the lists.
+//! the one `match` by which `reading.rt` and `plain_numbers.rt` pass words on. Also reading a word
+//! as a node or an index, which all lists share, and the list for FIXED_EDGE_POTENTIAL_SECTION.
+//! Contracts here and in `specs/states/Parts.antt` pin the lists.
 
 ghost use Rattle.tsp_read.specs.Prelude.{ForSome, [], ℕ, List, IfOk, IfErr, pos, true, false, length, slice_index_or, Ok, None, IfSome, MatchResult, Some, whole_of, node, node_or_end, is_minus_one, IsWhole};
 ghost use Rattle.std.specs.Prelude.{◌≡◌, ◌≤◌, ◌∷◌, ◌++◌, ◌<◌, ◌-◌, ◌^◌};
 ghost use Rattle.tsp_read.specs.states.Parts.{as_number, as_node_or_end, as_index_or_leaf, IsNodeOf, IsNewNode};
 
-use crate::by_node::{NumberList, PointList};
-use crate::lists::{DepotList, FixedList, TourList, WeightList};
+use crate::list_sections::{DepotList, FixedList, TourList, WeightList};
 use crate::memory_lists::{MemoryList, RowList};
+use crate::node_sections::{NumberList, PointList};
 use crate::step_fault::StepFault;
-use crate::tree::{FamilyList, TreeList};
+use crate::tree_sections::{FamilyList, TreeList};
 use std::alloc::Global;
 use std::mem;
 use tsp_format::{MOST_MATRIX_NODES, MOST_MULTIPLIER, MOST_MULTIPLIERS, MOST_NODES, Shape};

@@ -6,7 +6,7 @@
 ghost use Rattle.std.specs.Fmt.{signed_decimal};
 ghost use Rattle.std.specs.List.{All};
 ghost use Rattle.std.specs.Prelude.{◌≡◌, ◌++◌, None, Some, Ok, Err, pos, negsuc, codes, ℕ, List, [], ◌∷◌, decimal, ◌+◌, Bool, true, false, ℤ, Option, map};
-ghost use Rattle.tsp_number.specs.declared.word.NumberFault.TheVariants as number_faults;
+ghost use Rattle.tsp_number.specs.declared.number_word.NumberFault.TheVariants as number_faults;
 ghost use Rattle.tsp_format.specs.Steps.{Branch, Leaf};
 ghost use Rattle.tsp_format.specs.declared.keyword.Field.TheVariants as fields;
 ghost use Rattle.tsp_format.specs.declared.kinds.Kind.TheVariants as kinds;

@@ -1,5 +1,5 @@
--- For src/verdict.rt and src/run_verdict.rt: the verdict on a certificate for routes, by that on its leaves, and the
--- plans that it bounds.
+-- For src/plan_verdict.rt and src/run_verdict.rt: the verdict on a certificate for routes, by that on its leaves, and
+-- the plans that it bounds.
 use Rattle.tsp_routing.proofs.Prelude.{◌≡◌, ◌∙◌, ℕ, ◌+◌, ◌≤◌, ◌<◌, ◌*◌, Bool, true, false, List, [], ◌∷◌, length, refl, sym, ap, subst, arith, ℤ, Option, Some, None, recursion_from_All, are_whole, IsScale, RoutingProblem, families_with, listed_steps, no_numbers_of, whole_trees, Crossings, CaseStep, LeafNumbers, leaves_of, Decision}
 use Rattle.std.proofs.Math.Logic.{∥∥₁_elim}
 use Rattle.std.proofs.Props.{props}

@@ -1,6 +1,6 @@
 -- Circle 3 of docs/trust.md.
--- What makes a certificate for routes good (its sets, branches and leaves), and its bound by q-routes. src/verdict.rt
--- judges by it. RunVerdicts.antt has the whole verdict. tsp_verdict imports it, too.
+-- What makes a certificate for routes good (its sets, branches and leaves), and its bound by q-routes.
+-- src/plan_verdict.rt judges by it. RunVerdicts.antt has the whole verdict. tsp_verdict imports it, too.
 use Rattle.tsp_routing.specs.Prelude.{All, ℕ, List, unsigned_abs, length, ℤ, pos, [], slice_index_or, Option, Step, ArePotentials, sum_int_by, RoutingProblem, IsCustomer, demand_of, LeafNumbers, families_with, HasEachOnce, BeginsWithin, branch_pairs, IsFirstBadBranch, AreGoodLeavesBy, IsFirstBadLeafBy, listed_steps}
 use Rattle.std.specs.Prelude.{◌+◌, ◌-◌, ◌≡◌, ◌≤ℤ◌, ◌≢◌, ◌≤◌, ◌<◌, ◌∷◌, ◌*◌}
 use Rattle.tsp_theory.specs.First.{IsFirstBad}

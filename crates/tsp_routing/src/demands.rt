@@ -1,5 +1,5 @@
 //! The depot, demands and capacity of a CVRP: how many routes a set of customers needs, and the
-//! load of each customer in a certificate's unit. `verdict.rt` asks for both. `IsCapacityCut`,
+//! load of each customer in a certificate's unit. `plan_verdict.rt` asks for both. `IsCapacityCut`,
 //! `IsFewest` and `RoutesFitCapacity` in `specs/PlanLinks.antt` pin them: no number of routes may
 //! be too large, and demands are rounded down to units, so that a larger unit gives smaller tables
 //! and weaker bounds.

@@ -1,6 +1,6 @@
-//! Judges the memories and subset rows that a certificate for routes lists. `verdict.rt` calls it
-//! before any leaf is judged. The first fault becomes the reason in the report, so keep the order
-//! of the tests (`AreMemoriesJudged` in `specs/states/JudgedMemory.antt`).
+//! Judges the memories and subset rows that a certificate for routes lists. `plan_verdict.rt` calls
+//! it before any leaf is judged. The first fault becomes the reason in the report, so keep the
+//! order of the tests (`AreMemoriesJudged` in `specs/states/JudgedMemory.antt`).
 
 ghost use Rattle.tsp_routing.specs.Prelude.{ℕ, List, [], map, take, drop, length, slice_index_or, All, Vec, IfOk, IsTrue, IsNode, IsCustomer, HasEachOnce, has, most_nodes};
 ghost use Rattle.std.specs.Prelude.{◌≡◌, ◌≤◌, ◌<◌, ◌+◌, ◌++◌, ◌↔◌, if◌then◌else◌};

@@ -1,6 +1,6 @@
 //! The theorems on routes: how often plans cross sets, that routes are walks and runs, what rows
-//! charge, and that no plan is shorter than the bound of a tree of cases. `verdict.rt` calls the
-//! two laws on trees (`plan_trees_bound_plans`, `run_trees_bound_plans`), and tsp_verdict calls
+//! charge, and that no plan is shorter than the bound of a tree of cases. `plan_verdict.rt` calls
+//! the two laws on trees (`plan_trees_bound_plans`, `run_trees_bound_plans`), and tsp_verdict calls
 //! `plan_bounds_are_unique`. The statements are defined in `specs/`.
 
 ghost use Rattle.tsp_routing.specs.KeptStates.{CompletionsTellKeptStates, CompletionsAreBelowRests, RunsBelowAreKept, KeptStartsGiveLeastRuns, EqualStatesGoOnAlike};

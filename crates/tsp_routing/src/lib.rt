@@ -37,12 +37,12 @@ mod least_q_route;
 mod memories;
 mod plan_leaf;
 mod plan_tree;
+mod plan_verdict;
 mod run_bound;
 mod run_leaf;
 mod run_steps;
 mod run_verdict;
 mod sums;
-mod verdict;
 
 pub use examples::{
     examples_of_bounds, examples_of_branches, examples_of_full_memories, examples_of_good_lists,
@@ -58,4 +58,4 @@ pub use laws::{
     run_bounds_bound_plans, run_trees_bound_plans, starts_are_told_from_both_ends,
 };
 pub use plan_tree::PlanTree;
-pub use verdict::judge_plans;
+pub use plan_verdict::judge_plans;

@@ -1,6 +1,6 @@
 //! The bound of a leaf for routes by q-routes: from the least weight of a q-route, what the
-//! multipliers give back within the limits of the case, and the number of routes. `verdict.rt` asks
-//! for it if there are no memories and no subset rows; bounds by runs use the sums, too.
+//! multipliers give back within the limits of the case, and the number of routes. `plan_verdict.rt`
+//! asks for it if there are no memories and no subset rows; bounds by runs use the sums, too.
 //! `IsPlanBound` in `specs/PlanBounds.antt` pins the bound, and `ArePlanNumbers` in
 //! `specs/PlanVerdicts.antt` the limits of potentials and multipliers.
 
@@ -47,7 +47,7 @@ pub(crate) struct PlanLeaf<'a, C: Costs> {
 /// # Errors
 ///
 /// Out of memory.
-pub(crate) fn leaf_bound<C: Costs>(
+pub(crate) fn plan_leaf_bound<C: Costs>(
     alloc: Global,
     leaf: &PlanLeaf<C>,
     case: &OpenCase,
@@ -375,7 +375,7 @@ const MOST_MULTIPLIERS: i64 = 300_000_000_000_000_000;
 /// Copies the numbers of a leaf (of the nodes, then of the families) if they are good, and returns
 /// whether they are: no potential is above 10^15 in size, and the sizes of the multipliers sum to
 /// at most 3 * 10^17.
-pub(crate) fn judge_numbers(
+pub(crate) fn judge_plan_numbers(
     numbers: &[i128],
     potentials: &mut [i64],
     multipliers: &mut [i64],

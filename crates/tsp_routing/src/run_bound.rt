@@ -103,14 +103,14 @@ pub(crate) fn leaf_run_bound<C: Costs>(
         own: leaf.potentials[context.demands.depot as usize - 1],
         fewest: context.demands.fewest(),
     };
-    Ok(Some(run_bound(sum, each)))
+    Ok(Some(bound_of_runs(sum, each)))
 }
 
 // ---- from the least weight of a run to the bound of a leaf
 
 /// The bound of a leaf if each route weighs at least `each`, which is at most twice the potential
 /// of the depot. `sum` doesn't include what the rows give back.
-fn run_bound(sum: LeafSum, each: i128) -> i128
+fn bound_of_runs(sum: LeafSum, each: i128) -> i128
     requires { IsFromTo (neg_ℤ (pos (2 ^ 83))) (pos (2 ^ 83)) each }
     ensures bound { (problem : RoutingProblem) (unit light : ℕ) (families : List Family) (case : List Decision) (numbers : LeafNumbers)
         (near : ℕ → List ℕ) (rows : List (SubsetRow × ℤ)) → problem.nodes ≡ sum.nodes

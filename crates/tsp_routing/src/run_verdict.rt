@@ -1,7 +1,8 @@
 //! The verdict on the leaves of a certificate for routes that lists memories or subset rows.
-//! `verdict.rt` comes here once families, memories and branches are good. The numbers of all leaves
-//! are judged before any bound, in two passes over the tree, each with its own `LeafJudge` of
-//! tsp_cases. This order decides the reason in the report, so keep it (`specs/RunVerdicts.antt`).
+//! `plan_verdict.rt` comes here once families, memories and branches are good. The numbers of all
+//! leaves are judged before any bound, in two passes over the tree, each with its own `LeafJudge`
+//! of tsp_cases. This order decides the reason in the report, so keep it
+//! (`specs/RunVerdicts.antt`).
 
 ghost use Rattle.std.specs.Prelude.{◌≡◌, ◌<◌, ◌≤◌, ◌+◌, ◌^◌, ◌∷◌, ◌↔◌, ◌≤ℤ◌};
 ghost use Rattle.tsp_format.specs.states.TreeSteps.{steps_of, subset_row_of, step_of};
@@ -15,10 +16,10 @@ ghost use Rattle.tsp_routing.specs.states.RunJudged.{IsSmallRow, IsRunScratch, t
 ghost use Rattle.tsp_routing.specs.states.RunTables.{item_lists};
 
 use crate::memories::{Memories, memories_of};
-use crate::plan_leaf::{PlanLeaf, judge_numbers, moved_of};
+use crate::plan_leaf::{PlanLeaf, judge_plan_numbers, moved_of};
 use crate::plan_tree::{PlanContext, PlanTree};
+use crate::plan_verdict::{MOST_ENTRIES, entries};
 use crate::run_bound::{PricedRows, leaf_run_bound};
-use crate::verdict::{MOST_ENTRIES, entries};
 use std::alloc::Global;
 use tsp_cases::{Decision, JudgedLeaf, LeafJudge, OpenCase, TreeVerdict, WholeTree, judge_leaves};
 use tsp_format::TreeStep;
@@ -325,7 +326,7 @@ fn judge_run_numbers(families: usize, numbers: &[i128], room: &mut RunScratch) -
     ensures potentials_len { length room.new.potentials.items ≡ length room.old.potentials.items }
     ensures multipliers_len { length room.new.multipliers.items ≡ length room.old.multipliers.items }
 {
-    if !judge_numbers(numbers, &mut room.potentials, &mut room.multipliers) {
+    if !judge_plan_numbers(numbers, &mut room.potentials, &mut room.multipliers) {
         return false;
     }
     are_charges(&room.multipliers[families..])

@@ -1,5 +1,5 @@
--- For src/run.rt: the reader of an instance that may be missing, and how the parts of a run of `tsp solution` make its
--- result.
+-- For src/solution_writer.rt: the reader of an instance that may be missing, and how the parts of a run of `tsp
+-- solution` make its result.
 use Rattle.std.proofs.Common.{ℕ, List, Option, None, Some, Result, Ok, Err, inr}
 use Rattle.tsp_io.specs.Streams.{ReadTrace, Sink}
 use Rattle.tsp_io.specs.declared.piece.WriteFault.TheVariants as write_faults
@@ -7,8 +7,8 @@ use Rattle.tsp_io.specs.declared.watched.Watched.{Watched}
 use Rattle.tsp_io.specs.states.Watched.{read_trace_of}
 use Rattle.tsp_solution.specs.SolutionRun.{GivesHints, IsReadWhole, IsSolutionRun, TakesInstance, WritesRead}
 use Rattle.tsp_solution.specs.declared.hints.Hints.{Hints}
-use Rattle.tsp_solution.specs.declared.run.SolutionRunFault.{SolutionRunFault}
-use Rattle.tsp_solution.specs.declared.run.SolutionRunFault.TheVariants.{File, Write}
+use Rattle.tsp_solution.specs.declared.solution_writer.SolutionRunFault.{SolutionRunFault}
+use Rattle.tsp_solution.specs.declared.solution_writer.SolutionRunFault.TheVariants.{File, Write}
 
 -- what holds for the read trace of the instance's reader may be weakened
 pub takes_also : {R : Type 0} (remaining : R → Option (List ℕ)) (old new : Option (Watched R)) (P Q : Option ReadTrace → Type 0)

@@ -6,8 +6,8 @@ use Rattle.tsp_solution.specs.declared.fault.FormFault.{FormFault}
 use Rattle.tsp_solution.specs.declared.fault.FormFault.TheVariants.{NoForm, Ambiguous, NoInstance, NotATour, NotAnInstance, NotANode, OutOfRange, TooManyNodes, NoNodes, UnknownLine, NotClosed, WrongCount, NotTwoEdges, SeveralCycles, TooManyColumns, NoDepot, BadJson, TooDeep, NoList, SeveralLists}
 use Rattle.tsp_solution.specs.declared.fault.SolutionFault.{SolutionFault}
 use Rattle.tsp_solution.specs.declared.fault.SolutionFault.TheVariants.{Place, File, OutOfMemory}
-use Rattle.tsp_solution.specs.declared.run.SolutionRunFault.{SolutionRunFault}
-use Rattle.tsp_solution.specs.declared.run.SolutionRunFault.TheVariants as runs
+use Rattle.tsp_solution.specs.declared.solution_writer.SolutionRunFault.{SolutionRunFault}
+use Rattle.tsp_solution.specs.declared.solution_writer.SolutionRunFault.TheVariants as runs
 
 -- the name of a fault at a word
 abbrev pub form_fault_text : FormFault → List ℕ

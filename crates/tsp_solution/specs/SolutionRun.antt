@@ -1,5 +1,5 @@
--- How a text is read as a solution, and the run of `tsp solution`. For src/run.rt. Which tours another form lists is
--- left open here, and tested. tsp_c and tsp_tool import it, too.
+-- How a text is read as a solution, and the run of `tsp solution`. For src/solution_writer.rt. Which tours another form
+-- lists is left open here, and tested. tsp_c and tsp_tool import it, too.
 use Rattle.std.specs.Prelude.{◌≡◌, ◌⊎◌, ◌<◌, ℕ, Bool, true, List, [], ◌∷◌, length, Result, Ok, Err, Option, None, Some, IfSome, nat_le}
 use Rattle.std.specs.List.{list_all}
 use Rattle.std.specs.declared.io.Error.{Error}
@@ -22,8 +22,8 @@ use Rattle.tsp_solution.specs.declared.fault.SolutionFault.TheVariants as faults
 use Rattle.tsp_solution.specs.declared.form.Form.TheVariants as forms
 use Rattle.tsp_solution.specs.declared.hints.Hints.{Hints}
 use Rattle.tsp_solution.specs.declared.hints.InstanceShape.{InstanceShape}
-use Rattle.tsp_solution.specs.declared.run.SolutionRunFault.{SolutionRunFault}
-use Rattle.tsp_solution.specs.declared.run.SolutionRunFault.TheVariants.{File, Write}
+use Rattle.tsp_solution.specs.declared.solution_writer.SolutionRunFault.{SolutionRunFault}
+use Rattle.tsp_solution.specs.declared.solution_writer.SolutionRunFault.TheVariants.{File, Write}
 
 -- ---- what an instance says of its solutions
 

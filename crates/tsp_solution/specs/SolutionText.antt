@@ -11,8 +11,8 @@ use Rattle.tsp_solution.specs.SolutionRun.{GivesShape, IsReadAs, IsRefusedText, 
 use Rattle.tsp_solution.specs.declared.fault.SolutionFault.{SolutionFault}
 use Rattle.tsp_solution.specs.declared.fault.SolutionFault.TheVariants as faults
 use Rattle.tsp_solution.specs.declared.hints.Hints.{Hints}
-use Rattle.tsp_solution.specs.declared.run.SolutionRunFault.{SolutionRunFault}
-use Rattle.tsp_solution.specs.declared.run.SolutionRunFault.TheVariants.{File, Write}
+use Rattle.tsp_solution.specs.declared.solution_writer.SolutionRunFault.{SolutionRunFault}
+use Rattle.tsp_solution.specs.declared.solution_writer.SolutionRunFault.TheVariants.{File, Write}
 
 -- The hints with the shape of the instance that a text is, or why there are none. Without an instance they stay.
 abbrev pub GivesHintsOf : Hints → Option (List ℕ) → Result Hints SolutionFault → Type 0

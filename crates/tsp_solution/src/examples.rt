@@ -10,7 +10,7 @@ ghost use Rattle.tsp_solution.specs.SolutionRun.{instance_shape_by, shape};
 ghost use Rattle.tsp_solution.specs.declared.fault.FormFault.TheVariants as form_faults;
 ghost use Rattle.tsp_solution.specs.declared.fault.SolutionFault.TheVariants as solution_faults;
 ghost use Rattle.tsp_solution.specs.declared.form.Form.TheVariants as forms;
-ghost use Rattle.tsp_solution.specs.declared.run.SolutionRunFault.TheVariants as run_faults;
+ghost use Rattle.tsp_solution.specs.declared.solution_writer.SolutionRunFault.TheVariants as run_faults;
 ghost use Rattle.tsp_io.specs.declared.piece.WriteFault.TheVariants as write_faults;
 ghost use Rattle.tsp_text.specs.declared.fault.ReadFault.TheVariants as reads;
 

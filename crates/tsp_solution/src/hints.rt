@@ -1,7 +1,7 @@
 //! `Hints`: what is known about a solution besides its text, such as its form, how nodes are
-//! counted, and the shape of its instance. tsp_tool and tsp_c fill it in, `run.rt` and `in_memory.rt`
-//! add the shape, and `by_form.rt`, `meaning.rt` and `tour_file.rt` read it. What a hint means for
-//! the nodes of a solution is tested, not proved.
+//! counted, and the shape of its instance. tsp_tool and tsp_c fill it in, `solution_writer.rt` and
+//! `in_memory.rt` add the shape, and `by_form.rt`, `meaning.rt` and `tour_file.rt` read it. What a
+//! hint means for the nodes of a solution is tested, not proved.
 
 ghost use Rattle.std.specs.Prelude.{◌≡◌, option_map};
 ghost use Rattle.tsp_solution.specs.SolutionRun.{GivesShape, first_depot, no_hints, instance_shape_of};

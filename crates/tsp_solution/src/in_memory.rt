@@ -6,7 +6,7 @@ ghost use Rattle.tsp_solution.specs.SolutionText.{GivesHintsOf, IsSolutionText};
 
 use crate::fault::{FormFault, SolutionFault};
 use crate::hints::{Hints, InstanceShape};
-use crate::run::{SolutionRunFault, write_read};
+use crate::solution_writer::{SolutionRunFault, write_read};
 use crate::word_place::Place;
 use std::alloc::Global;
 use tsp_format::MOST_FILE_BYTES;

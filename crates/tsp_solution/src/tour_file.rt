@@ -1,6 +1,6 @@
-//! `solution_of`: the file of TYPE TOUR as which a text is read. `run.rt` calls it. By its
-//! contract, a file of TYPE TOUR stays unchanged, unless it has LKH-3's copies of the depot; that
-//! other forms are understood correctly is only tested.
+//! `solution_of`: the file of TYPE TOUR as which a text is read. `solution_writer.rt` calls it. By
+//! its contract, a file of TYPE TOUR stays unchanged, unless it has LKH-3's copies of the depot;
+//! that other forms are understood correctly is only tested.
 
 ghost use Rattle.std.specs.Prelude.{◌≡◌, ◌⊎◌, IfOk, IfSome, Some, None, Err, Ok, true, nat_le};
 ghost use Rattle.std.specs.List.{list_all};

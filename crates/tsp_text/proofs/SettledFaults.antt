@@ -5,7 +5,7 @@ use Rattle.std.proofs.Math.Seq.{take-append-add}
 use Rattle.std.proofs.lemmas.Option.{none-some, same_Some}
 use Rattle.std.proofs.lemmas.Slice.Eq.{bytes_eq-Decides}
 use Rattle.tsp_number.specs.NumberWord.{numeral_in, whole_from, whole_of, decimal_from, decimal_of}
-use Rattle.tsp_number.specs.declared.word.NumberFault.TheVariants.{LongWord}
+use Rattle.tsp_number.specs.declared.number_word.NumberFault.TheVariants.{LongWord}
 use Rattle.tsp_file.specs.Fields.{Fields}
 use Rattle.tsp_file.specs.declared.rules.EndFault.{EndFault}
 use Rattle.tsp_text.proofs.SettledItems.{AreLong, Stay, longer, items_stay, items_settled}

@@ -8,8 +8,8 @@ use Rattle.std.specs.Ordering.{int_eq}
 use Rattle.std.specs.Str.{bytes_eq}
 use Rattle.tsp_number.specs.Decimal.{most_count}
 use Rattle.tsp_number.specs.NumberWord.{Numeral, numeral_in, number_in, decimal_within, decimal_from, decimal_of, whole_within, whole_from, whole_of}
-use Rattle.tsp_number.specs.declared.word.NumberFault.{NumberFault}
-use Rattle.tsp_number.specs.declared.word.NumberFault.TheVariants.{LongWord, OutOfRange}
+use Rattle.tsp_number.specs.declared.number_word.NumberFault.{NumberFault}
+use Rattle.tsp_number.specs.declared.number_word.NumberFault.TheVariants.{LongWord, OutOfRange}
 use Rattle.tsp_format.proofs.Pairs.{found_passes}
 use Rattle.tsp_format.specs.Nodes.{nodes_to}
 use Rattle.tsp_format.specs.declared.keyword.Keyword.{Keyword}

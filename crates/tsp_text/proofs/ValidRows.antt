@@ -5,7 +5,7 @@ use Rattle.std.proofs.Math.Bool.{or-false, or_comm}
 use Rattle.std.proofs.lemmas.Option.{none-some, same_Some, cond_some}
 use Rattle.std.proofs.lemmas.Slice.Eq.{bytes_eq-Decides}
 use Rattle.std.specs.Str.{bytes_eq}
-use Rattle.tsp_number.specs.declared.word.NumberFault.{NumberFault}
+use Rattle.tsp_number.specs.declared.number_word.NumberFault.{NumberFault}
 use Rattle.tsp_format.proofs.Basics.{none_or, none_map}
 use Rattle.tsp_format.specs.declared.keyword.Keyword.{Keyword}
 use Rattle.tsp_text.specs.Earlier.{same_field, has_line, open_section, words_of, read_as, dimension_of, dimension_in, spatial_after, place_in, is_key, opened_by, is_open, value_at, named_at, coord_kind_named, weight_kind_named, says_space}

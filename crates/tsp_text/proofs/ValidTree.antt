@@ -3,7 +3,7 @@
 use Rattle.tsp_text.proofs.Prelude.{◌≡◌, ℕ, zero, suc, ◌+◌, ◌-◌, ◌≤◌, Bool, true, false, cond, List, [], ◌∷◌, ◌++◌, length, refl, sym, ap, subst, ◌∙◌, Option, None, Some, Result, Ok, Err, arith, not, ◌==◌, ◌&&◌, ℤ, pos, negsuc, neg_ℤ, nat_le, nat_abs, int_le, list_all, result_err, true≢false, false≢true, and_from, and_parts, not_from_false, le-leb, leb-false, nat_tests, append_assoc, append-nil, length_push, BranchPart, most_families, most_rows, most_branches, most_changes, most_difference, is_from_to, is_within, is_node, is_branch_of, is_change, is_step, are_tree_steps}
 use Rattle.std.specs.Ordering.{int_eq}
 use Rattle.std.proofs.lemmas.List.Sums.{fold-append}
-use Rattle.tsp_number.specs.declared.word.NumberFault.{NumberFault}
+use Rattle.tsp_number.specs.declared.number_word.NumberFault.{NumberFault}
 use Rattle.tsp_format.specs.Steps.{Step, Branch, Leaf, are_whole, branch_count, change_count}
 use Rattle.tsp_text.proofs.ValidCuts.{all_push}
 use Rattle.tsp_text.specs.Items.{Item}

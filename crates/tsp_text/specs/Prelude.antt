@@ -7,4 +7,4 @@ pub use Rattle.tsp_format.specs.declared.keyword.Field.{Field}
 pub use Rattle.tsp_format.specs.declared.keyword.Field.TheVariants.{BranchPart, CapacityKey, ColumnPotentialPart, CommentKey, DemandPart, DepotPart, DimensionKey, DisplayDataPart, DisplayDataTypeKey, EdgeWeightFormatKey, EdgeWeightPart, EdgeWeightTypeKey, FamilyPart, FixedEdgePotentialPart, FixedEdgesPart, LoadUnitKey, MemoryPart, NameKey, NodeCoordPart, NodeCoordTypeKey, NodePotentialPart, OtherKey, RowPotentialPart, ScaleKey, SubsetRowPart, TourPart, TypeKey}
 pub use Rattle.tsp_number.specs.NumberWord.{IsShort, number_fault_text}
 unfoldable pub use Rattle.tsp_number.specs.NumberWord.{decimal_of, whole_of}
-pub use Rattle.tsp_number.specs.declared.word.NumberFault.{NumberFault}
+pub use Rattle.tsp_number.specs.declared.number_word.NumberFault.{NumberFault}

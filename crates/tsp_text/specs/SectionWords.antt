@@ -1,13 +1,13 @@
 -- Circle 2 of docs/trust.md.
 -- The words of a section one by one: what may come at each place, and the numbers that the words are read as. Here for
--- tours, weights, and the steps of a tree, which src/lists.rt and src/tree.rt in tsp_read promise to read so.
--- FaultRows.antt says what is a fault.
+-- tours, weights, and the steps of a tree, which src/list_sections.rt and src/tree_sections.rt in tsp_read promise to
+-- read so. FaultRows.antt says what is a fault.
 use Rattle.tsp_text.specs.Prelude.{slice_split, filter, fold, ℕ, ℤ, Bool, List, false, cond, Result, Ok, Err, pos, negsuc, neg_ℤ, codes, not, length, map, nat_abs, nat_le, true, [], Option, None, Some, whole_of, NumberFault, most_nodes, most_weight, most_families, most_rows, most_difference}
 use Rattle.std.specs.Ordering.{int_eq}
 use Rattle.std.specs.Prelude.{◌≡◌, ◌≤ℤ◌, ◌*◌, ◌+◌, ◌-◌, ◌==◌, ◌∷◌, ◌++◌}
 use Rattle.std.specs.Result.{result_unwrap_or}
 use Rattle.std.specs.Str.{bytes_eq}
-use Rattle.tsp_number.specs.declared.word.NumberFault.TheVariants.{OutOfRange}
+use Rattle.tsp_number.specs.declared.number_word.NumberFault.TheVariants.{OutOfRange}
 use Rattle.tsp_format.specs.Steps.{Step, Branch, Leaf}
 use Rattle.tsp_text.specs.Items.{is_not_empty}
 

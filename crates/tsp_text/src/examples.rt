@@ -6,7 +6,7 @@
 ghost use Rattle.tsp_text.specs.Prelude.{[], codes, decimal, ℕ, List, filter, length, replicate, IsTrue, true, false, IsShort, most_coordinate, most_word_bytes};
 ghost use Rattle.std.specs.Prelude.{◌≡◌, ◌≤◌, ◌∷◌, ◌++◌, None, Some, pos};
 ghost use Rattle.tsp_number.specs.Decimal.{most_count};
-ghost use Rattle.tsp_number.specs.declared.word.NumberFault.TheVariants as numbers;
+ghost use Rattle.tsp_number.specs.declared.number_word.NumberFault.TheVariants as numbers;
 ghost use Rattle.tsp_format.specs.Words.{fields_in_order};
 ghost use Rattle.tsp_format.specs.declared.keyword.Field.TheVariants as fields;
 ghost use Rattle.tsp_format.specs.declared.keyword.Shape.TheVariants as shapes;

@@ -1,6 +1,6 @@
 -- Circle 3 of docs/trust.md.
 -- Trees and 1-trees over the nodes of a problem, their weights, and what a minimum 1-tree is (`IsLeastOneTree`), on
--- which the bounds rest. src/bound.rt and src/tree.rt in tsp_bound promise to find one. Further down, a tree that grows
+-- which the bounds rest. src/bound.rt and src/prim.rt in tsp_bound promise to find one. Further down, a tree that grows
 -- from a node: only proofs and tsp_bound's way to a minimum tree rest on it, no bound. Crates above import it, too.
 use Rattle.std.specs.List.{All, list_any, filter}
 use Rattle.std.specs.Prelude.{◌≡◌, ◌≢◌, ℕ, ◌==◌, ◌<◌, ◌≤◌, Bool, true, false, not, if◌then◌else◌, List, [], ◌∷◌, length, ℤ, pos, ◌≤ℤ◌, ◌+◌, ◌||◌, map, nat_lt}

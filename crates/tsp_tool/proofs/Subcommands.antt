@@ -9,8 +9,8 @@ use Rattle.std.specs.Box.{box_value}
 use Rattle.std.specs.Fmt.{digits, digits_onto, digit_glyph}
 use Rattle.std.specs.Str.{bytes_eq}
 use Rattle.tsp_number.specs.NumberWord.{number_fault_text}
-use Rattle.tsp_number.specs.declared.word.NumberFault.{NumberFault}
-use Rattle.tsp_number.specs.declared.word.NumberFault.TheVariants as numbers
+use Rattle.tsp_number.specs.declared.number_word.NumberFault.{NumberFault}
+use Rattle.tsp_number.specs.declared.number_word.NumberFault.TheVariants as numbers
 use Rattle.tsp_io.specs.Streams.{write_fault_text}
 use Rattle.tsp_format.specs.Words.{field_word}
 use Rattle.tsp_format.specs.declared.keyword.Field.{Field}

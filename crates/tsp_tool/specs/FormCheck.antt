@@ -15,7 +15,7 @@ use Rattle.tsp_report.specs.declared.task.Task.TheVariants as tasks
 use Rattle.tsp_judge.specs.CheckRun.{TakesNamed, IsNamedReadOn, IsRunOf}
 use Rattle.tsp_judge.specs.TaskRun.{outcome_of_check}
 use Rattle.tsp_judge.specs.declared.Watched.{Watched}
-use Rattle.tsp_judge.specs.declared.check.Judged.{Judged}
+use Rattle.tsp_judge.specs.declared.check_run.Judged.{Judged}
 use Rattle.tsp_judge.specs.declared.run_status.RunFault.{RunFault}
 use Rattle.tsp_judge.specs.declared.task_run.Outcome.{Outcome}
 use Rattle.tsp_solution.specs.SolutionRun.{IsReadAs, IsReadWhole, StopsText, no_hints}
@@ -23,10 +23,10 @@ use Rattle.tsp_solution.specs.SolutionText.{GivesHintsOf, IsFaultOfText}
 use Rattle.tsp_solution.specs.declared.fault.SolutionFault.{SolutionFault}
 use Rattle.tsp_solution.specs.declared.form.Form.{Form}
 use Rattle.tsp_solution.specs.declared.hints.Hints.{Hints}
-use Rattle.tsp_solution.specs.declared.run.SolutionRunFault.{SolutionRunFault}
-use Rattle.tsp_solution.specs.declared.run.SolutionRunFault.TheVariants.{File, Write}
-use Rattle.tsp_tool.specs.Solutions.{GivesForm}
-use Rattle.tsp_tool.specs.Tasks.{GivesTask}
+use Rattle.tsp_solution.specs.declared.solution_writer.SolutionRunFault.{SolutionRunFault}
+use Rattle.tsp_solution.specs.declared.solution_writer.SolutionRunFault.TheVariants.{File, Write}
+use Rattle.tsp_tool.specs.SolutionJobs.{GivesForm}
+use Rattle.tsp_tool.specs.JobTasks.{GivesTask}
 use Rattle.tsp_tool.specs.declared.form_check.FormCheck.{FormCheck}
 use Rattle.tsp_tool.specs.declared.job.InputPath.{InputPath}
 use Rattle.tsp_tool.specs.declared.job.Job.{Job}

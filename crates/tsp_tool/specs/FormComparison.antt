@@ -14,18 +14,18 @@ use Rattle.tsp_report.specs.declared.task.Task.TheVariants as tasks
 use Rattle.tsp_judge.specs.CheckRun.{TakesNamed, IsNamedReadOn}
 use Rattle.tsp_judge.specs.CompareRun.{IsCompareRun}
 use Rattle.tsp_judge.specs.declared.Watched.{Watched}
-use Rattle.tsp_judge.specs.declared.compared.Compared.{Compared}
+use Rattle.tsp_judge.specs.declared.compare_run.Compared.{Compared}
 use Rattle.tsp_judge.specs.declared.run_status.RunFault.{RunFault}
 use Rattle.tsp_solution.specs.SolutionText.{GivesHintsOf, IsFaultOfText}
 use Rattle.tsp_solution.specs.declared.fault.SolutionFault.{SolutionFault}
 use Rattle.tsp_solution.specs.declared.fault.SolutionFault.TheVariants as faults
 use Rattle.tsp_solution.specs.declared.form.Form.{Form}
 use Rattle.tsp_solution.specs.declared.hints.Hints.{Hints}
-use Rattle.tsp_solution.specs.declared.run.SolutionRunFault.{SolutionRunFault}
-use Rattle.tsp_solution.specs.declared.run.SolutionRunFault.TheVariants.{File}
+use Rattle.tsp_solution.specs.declared.solution_writer.SolutionRunFault.{SolutionRunFault}
+use Rattle.tsp_solution.specs.declared.solution_writer.SolutionRunFault.TheVariants.{File}
 use Rattle.tsp_tool.specs.FormCheck.{GivesWhole, IsTurnOn, IsWrittenBy, LacksBytes, form_hints}
-use Rattle.tsp_tool.specs.Solutions.{GivesForm}
-use Rattle.tsp_tool.specs.Tasks.{GivesTask, IsInputPathAt}
+use Rattle.tsp_tool.specs.SolutionJobs.{GivesForm}
+use Rattle.tsp_tool.specs.JobTasks.{GivesTask, IsInputPathAt}
 use Rattle.tsp_tool.specs.states.HeldText.{fails_of, held_remaining, rest_of}
 use Rattle.tsp_tool.specs.declared.held_text.HeldText.{HeldText}
 use Rattle.tsp_tool.specs.declared.job.InputPath.{InputPath}

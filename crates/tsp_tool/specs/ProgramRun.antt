@@ -16,10 +16,10 @@ use Rattle.tsp_report.specs.declared.task.FileTask.{FileTask}
 use Rattle.tsp_report.specs.declared.task.Task.{Task}
 use Rattle.tsp_report.specs.declared.task.Task.TheVariants as tasks
 use Rattle.tsp_solution.specs.declared.form.Form.{Form}
-use Rattle.tsp_solution.specs.declared.run.SolutionRunFault.{SolutionRunFault}
+use Rattle.tsp_solution.specs.declared.solution_writer.SolutionRunFault.{SolutionRunFault}
 use Rattle.tsp_judge.specs.TaskRun.{AreComparedOn, IsCompared, AreReadOn, IsDone}
 use Rattle.tsp_judge.specs.declared.Watched.{Watched}
-use Rattle.tsp_judge.specs.declared.compared.Compared.{Compared}
+use Rattle.tsp_judge.specs.declared.compare_run.Compared.{Compared}
 use Rattle.tsp_judge.specs.declared.run_status.RunFault.{RunFault}
 use Rattle.tsp_judge.specs.declared.task_run.Outcome.{Outcome}
 use Rattle.clap.specs.Words.{Text, kind_of}
@@ -27,10 +27,10 @@ use Rattle.clap.specs.declared.error.Error.{Error as Refusal}
 use Rattle.clap.specs.declared.error.kind.ErrorKind.TheVariants as kinds
 use Rattle.tsp_tool.specs.Grammar.{GivesJob, IsOtherRefusal}
 use Rattle.tsp_tool.specs.RunEnd.{status_of_run_end, TellsAll, Prints, PrintsSome, version_text}
-use Rattle.tsp_tool.specs.Tasks.{IsInputPathAt, GivesTask}
+use Rattle.tsp_tool.specs.JobTasks.{IsInputPathAt, GivesTask}
 use Rattle.tsp_tool.specs.FormCheck.{GivesFormCheck, IsCheckedByForm, LacksTexts, asks_form}
 use Rattle.tsp_tool.specs.FormComparison.{GivesFormComparison, IsComparedByForm, LacksInstance}
-use Rattle.tsp_tool.specs.Solutions.{GivesForm, GivesSolution, IsSolved}
+use Rattle.tsp_tool.specs.SolutionJobs.{GivesForm, GivesSolution, IsSolved}
 use Rattle.tsp_tool.specs.declared.form_check.FormCheck.{FormCheck}
 use Rattle.tsp_tool.specs.declared.job.TaskFault.{TaskFault}
 use Rattle.tsp_tool.specs.declared.job.Verb.TheVariants as verbs

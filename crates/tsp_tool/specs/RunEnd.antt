@@ -12,8 +12,8 @@ use Rattle.tsp_judge.specs.declared.run_status.RunFault.TheVariants.{Write}
 use Rattle.tsp_judge.specs.declared.run_status.RunFault.TheVariants as run_faults
 use Rattle.tsp_solution.specs.FaultTexts.{solution_run_fault_text}
 use Rattle.tsp_solution.specs.declared.fault.SolutionFault.TheVariants as solution_faults
-use Rattle.tsp_solution.specs.declared.run.SolutionRunFault.{SolutionRunFault}
-use Rattle.tsp_solution.specs.declared.run.SolutionRunFault.TheVariants as solution_ends
+use Rattle.tsp_solution.specs.declared.solution_writer.SolutionRunFault.{SolutionRunFault}
+use Rattle.tsp_solution.specs.declared.solution_writer.SolutionRunFault.TheVariants as solution_ends
 use Rattle.tsp_tool.specs.declared.ends.ErrorLine.{ErrorLine}
 use Rattle.tsp_tool.specs.declared.ends.ErrorLine.TheVariants as error_lines
 use Rattle.tsp_tool.specs.declared.ends.RunEnd.{RunEnd}

@@ -14,7 +14,7 @@ use crate::job::{InputPath, Job};
 use crate::running::fresh;
 use std::alloc::Global;
 use tsp_io::{Gives, Output, Takes};
-use tsp_judge::{Judged, RunError, Watched, run};
+use tsp_judge::{Judged, RunError, Watched, check_solution};
 use tsp_report::{CertificateKind, FileTask};
 use tsp_solution::{Form, Hints, SolutionFault, SolutionRunFault, read_text, solution_text};
 
@@ -177,7 +177,7 @@ pub(crate) fn check_texts<F: Gives + Drop, O: Open<F>, W: Takes>(
     let mut first = Watched::new(instance);
     let mut second = Watched::new(written);
     let mut certificate = opened_certificate(check.certificate, files);
-    run(
+    check_solution(
         alloc,
         &mut first,
         &mut second,

@@ -1,6 +1,6 @@
 //! Turns the words of a command line into a job (a verb with its options and paths), and a job into
-//! a task on files. `running.rt` calls both. `specs/Grammar.antt` and `specs/Tasks.antt` pin which
-//! words give which task; to add an option, change them, this file and `grammar.rt`.
+//! a task on files. `running.rt` calls both. `specs/Grammar.antt` and `specs/JobTasks.antt` pin
+//! which words give which task; to add an option, change them, this file and `grammar.rt`.
 
 ghost use Rattle.std.specs.IoError.{error_kind};
 ghost use Rattle.std.specs.Prelude.{◌≡◌, ◌≢◌, ◌↔◌, IfOk, IsTrue, None, Some, codes, map, option_map, ◌≤◌};
@@ -8,7 +8,7 @@ ghost use Rattle.std.specs.String.{string_bytes};
 ghost use Rattle.tsp_report.specs.Tasks.{files_of_task, numbered};
 ghost use Rattle.clap.specs.Words.{first_of, found_of, kind_of, rows_of};
 ghost use Rattle.tsp_tool.specs.Grammar.{GivesJob, IsFaultOf, IsJobOf, IsOtherRefusal, IsVerbOf, HasValues, text_in, values_of};
-ghost use Rattle.tsp_tool.specs.Tasks.{GivesInputPath, GivesLayout, GivesClaim, GivesCertificate, IsInputPathAt, any_line_end, has_line_end, NamesTask, NamesCheck, NamesComparison, NamesBound, GivesTask, input_at, inputs_at, inputs_of_task};
+ghost use Rattle.tsp_tool.specs.JobTasks.{GivesInputPath, GivesLayout, GivesClaim, GivesCertificate, IsInputPathAt, any_line_end, has_line_end, NamesTask, NamesCheck, NamesComparison, NamesBound, GivesTask, input_at, inputs_at, inputs_of_task};
 
 use crate::grammar;
 use clap::error::ErrorKind;

@@ -6,7 +6,7 @@ ghost use Rattle.clap.specs.Words.{Text};
 ghost use Rattle.tsp_io.specs.Streams.{Sink};
 ghost use Rattle.tsp_judge.specs.RunStatus.{run_fault_text};
 ghost use Rattle.tsp_judge.specs.declared.run_status.RunFault.{RunFault};
-ghost use Rattle.tsp_judge.specs.declared.compared.Compared.{Compared};
+ghost use Rattle.tsp_judge.specs.declared.compare_run.Compared.{Compared};
 ghost use Rattle.tsp_tool.specs.declared.ends.ErrorLine.TheVariants as error_lines;
 ghost use Rattle.tsp_tool.specs.declared.job.TaskFault.{TaskFault};
 ghost use Rattle.tsp_tool.specs.declared.job.Job.{Job};

@@ -1,13 +1,13 @@
 //! The run of `tsp solution`: opens the files that a job asks for, and has tsp_solution read and
-//! write the solution. `running.rt` comes here for the verb `solution`. `specs/Solutions.antt` pins
-//! how it ends.
+//! write the solution. `running.rt` comes here for the verb `solution`. `specs/SolutionJobs.antt`
+//! pins how it ends.
 
 ghost use Rattle.std.specs.Prelude.{◌≡◌, ◌↔◌, IsTrue, OnOk, Some};
 ghost use Rattle.tsp_tool.specs.Grammar.{text_in};
 ghost use Rattle.tsp_io.specs.states.Output.{sink_of};
 ghost use Rattle.tsp_tool.specs.ProgramRun.{EndsWith, IsFresh, RunsJob};
 ghost use Rattle.tsp_tool.specs.RunEnd.{TellsAll, status_of_solved};
-ghost use Rattle.tsp_tool.specs.Solutions.{AreBothInput, GivesDepot, GivesForm, GivesNumbering, GivesSolution, IsInstanceAt, IsInstanceOpened, IsWrittenAnew, Lists};
+ghost use Rattle.tsp_tool.specs.SolutionJobs.{AreBothInput, GivesDepot, GivesForm, GivesNumbering, GivesSolution, IsInstanceAt, IsInstanceOpened, IsWrittenAnew, Lists};
 ghost use Rattle.tsp_tool.specs.declared.ends.RunEnd.TheVariants.{Solved};
 ghost use Rattle.tsp_tool.specs.declared.job.Verb.TheVariants as verbs;
 

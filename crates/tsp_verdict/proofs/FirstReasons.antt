@@ -8,7 +8,7 @@ use Rattle.tsp_format.specs.declared.kinds.Kind.TheVariants as kinds
 use Rattle.tsp_verdict.specs.Certificates.{AppliesToBranches, AppliesToQRoutes, AreListed, IsUnlisted, IsPairRepeated, pair_at, has_wanted, BreaksDuals, AppliesToPotentials, IsBoundByDuals}
 use Rattle.tsp_verdict.specs.Certified.{AppliesToTouring, NoneAgainstTouring, AppliesToRouting, AppliesToInstanceBy, AppliesToInstance, NoneAgainstInstance, AppliesToCertificateBy, IsCertifiedTourVerdict, IsCertifiedRoutesVerdict, IsCertifiedVerdictBy, IsCertifiedVerdict, IsBoundBy, IsCertified, AppliesToCertificate, NoneWithoutMemory}
 use Rattle.tsp_theory.specs.First.{IsFirstPlace}
-use Rattle.tsp_verdict.specs.Solutions.{IsFirstReason, NoneBefore, AppliesToTour, AppliesToRoutes}
+use Rattle.tsp_verdict.specs.SolutionReasons.{IsFirstReason, NoneBefore, AppliesToTour, AppliesToRoutes}
 
 -- what a reason carries: one number, two, a length, or a field
 abbrev pub Carried : Type 0

@@ -8,7 +8,7 @@ use Rattle.tsp_report.specs.declared.verdict.Verdict.TheVariants as verdicts
 use Rattle.tsp_verdict.proofs.FirstReasons.{HasTours, of_tours, of_routing, tour_rank, routes_rank, own_first, certificate_first, none_at_all, certified_tour, certified_routes, certificate_rank, for_tours}
 use Rattle.tsp_verdict.specs.Certified.{AppliesToTouring, AppliesToRouting, AppliesToInstance, NoneAgainstInstance, AppliesToBounded, IsBoundVerdict, AppliesToCertificate, FindsBound, BoundsSolutionsBy, BoundsSolutions, IsCertifiedVerdict, IsCertifiedVerdictBy, NoneAgainstTouring, is_bounded, HasNoSolutionBy}
 use Rattle.tsp_verdict.specs.SolutionVerdict.{IsVerdictBy, IsVerdictOn, IsAsClaimed, IsOtherClaimed, HasLength, HasNoLength, IsVerdictWith, IsFoundWith, IsLeastKnownBy, IsAsFound}
-use Rattle.tsp_verdict.specs.Solutions.{IsFirstReason, AppliesToRoutes, AppliesToTour, IsRoutesVerdict, IsTourVerdict, total_of, tours_of, NoneOfTourBefore, NoneOfTourBeforeRepeats, NoneOfRoutesBeforeRepeats}
+use Rattle.tsp_verdict.specs.SolutionReasons.{IsFirstReason, AppliesToRoutes, AppliesToTour, IsRoutesVerdict, IsTourVerdict, total_of, tours_of, NoneOfTourBefore, NoneOfTourBeforeRepeats, NoneOfRoutesBeforeRepeats}
 use Rattle.tsp_verdict.specs.states.TourKnownBounds.{with_found, against_instance, KnowsInstance}
 
 -- a reason against the instance is one against each tour too, or against all routes

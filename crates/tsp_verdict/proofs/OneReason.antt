@@ -13,7 +13,7 @@ use Rattle.tsp_verdict.proofs.FirstReasons.{certificate_rank, HasTours, instance
 use Rattle.tsp_verdict.proofs.TreeReasons.{one_numbers}
 use Rattle.tsp_verdict.specs.Certificates.{given_in, AreNumbersOf, AppliesToBranches, families_with_numbers, BreaksDuals, AppliesToPotentials, AppliesToQRoutes, unit_in, by_runs_in}
 use Rattle.tsp_verdict.specs.Certified.{AppliesToTouring, AppliesToRouting, AppliesToInstance, NoneAgainstInstance, AppliesToBounded, IsBoundVerdict, AppliesToCertificate, FindsBound, AppliesToCertified, AppliesToCertifiedRoutes}
-use Rattle.tsp_verdict.specs.Solutions.{IsFirstReason, AppliesToRoutes, AppliesToTour}
+use Rattle.tsp_verdict.specs.SolutionReasons.{IsFirstReason, AppliesToRoutes, AppliesToTour}
 
 tours_rank : (inst : Fields) (reason : Reason) → AppliesToTouring inst reason
     → rank_of reason < rank_of (LengthClaimed (pos 0))

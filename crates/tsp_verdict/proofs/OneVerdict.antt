@@ -11,7 +11,7 @@ use Rattle.tsp_verdict.proofs.KnownBounds.{same_least, least_of_routes}
 use Rattle.tsp_verdict.specs.SolutionVerdict.{IsFoundWith, IsLeastKnownBy, IsKnownBoundWith, IsVerdictBy, IsVerdictOn, IsUnclaimedVerdict, IsFirstAgainstGiven, HasLength, IsOfLength, IsClaimedVerdict, FilesHaveOneVerdict, FilesHaveOneBound, FilesHaveOneKnownBound, SolutionsHaveOneVerdict}
 use Rattle.tsp_verdict.specs.Certified.{AppliesToInstance, AppliesToBounded, IsBoundVerdict, is_bounded, IsBoundBy, IsBoundOf, HasNoBoundBy, AppliesToCertificate, IsCertified, AppliesToCertified, IsCertifiedTourVerdict, AppliesToCertifiedRoutes, IsCertifiedRoutesVerdict, IsCertifiedVerdictBy, IsCertifiedVerdict}
 use Rattle.tsp_verdict.specs.Certificates.{given_in, case_steps_in, families_with_numbers, HasBoundByBranches, IsBoundByNodes, IsBoundByDuals, unit_in, by_runs_in, HasBoundByQRoutes}
-use Rattle.tsp_verdict.specs.Solutions.{total_of, AppliesToRoutes, IsPlanned, IsRoutesVerdict, tours_of, AppliesToTour, IsTourVerdict}
+use Rattle.tsp_verdict.specs.SolutionReasons.{total_of, AppliesToRoutes, IsPlanned, IsRoutesVerdict, tours_of, AppliesToTour, IsTourVerdict}
 use Rattle.tsp_verdict.proofs.FirstReasons.{one_first}
 use Rattle.tsp_verdict.proofs.OneReason.{one_value, tours_by_rank, instance_by_rank, routes_by_rank, certificates_by_rank, certified_by_rank, certified_routes_by_rank, bounded_by_rank, one_crossed}
 

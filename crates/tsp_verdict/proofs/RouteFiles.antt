@@ -17,7 +17,7 @@ use Rattle.tsp_format.specs.states.TreeSteps.{step_of, steps_of}
 use Rattle.tsp_theory.proofs.Sums.{run_parts}
 use Rattle.tsp_routing.proofs.Plans.{within_all}
 use Rattle.tsp_theory.specs.First.{IsFirstPlace}
-use Rattle.tsp_verdict.specs.Solutions.{node_at, visited, tours_of, IsOverloaded}
+use Rattle.tsp_verdict.specs.SolutionReasons.{node_at, visited, tours_of, IsOverloaded}
 use Rattle.tsp_verdict.specs.states.Marks.{StandsAfter, nodes_in, AreToursOf, IsSumOf}
 
 -- a route is after the nodes of those before it

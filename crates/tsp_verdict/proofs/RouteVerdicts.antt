@@ -6,10 +6,9 @@ use Rattle.tsp_file.specs.Valid.{IsSetOf, IsRowOf}
 use Rattle.tsp_format.specs.declared.steps.RowSets.{RowSets}
 use Rattle.tsp_format.specs.states.TreeSteps.{subset_rows_of}
 use Rattle.tsp_routing.specs.states.JudgedMemory.{AreListsOf, AreRowsOf}
-use Rattle.tsp_format.specs.Steps.{SubsetRow}
+use Rattle.tsp_format.specs.Steps.{SubsetRow, Step, Branch, Leaf, change_count}
 use Rattle.tsp_routing.specs.RunTrees.{AreGoodLists, AreGoodRows, IsFirstBadRow, IsGoodMemory, IsBadMemory, step_with_places, placed_steps}
 use Rattle.tsp_routing.specs.RunVerdicts.{is_by_runs, AreGoodLeavesOf, IsFirstBadLeafOf, tree_with, IsFirstFullLeaf, HasFullLeaf}
-use Rattle.tsp_format.specs.Steps.{Step, Branch, Leaf, change_count}
 use Rattle.tsp_format.specs.declared.kinds.Kind.TheVariants as kinds
 use Rattle.tsp_routing.proofs.PlanBounds.{all_crossed, one_light}
 use Rattle.tsp_routing.specs.PlanLinks.{IsCutFamily, AreUnits, capacity_in_parts}
@@ -26,7 +25,7 @@ use Rattle.tsp_verdict.proofs.TourVerdicts.{all_apart, marked_there, there_marke
 use Rattle.tsp_verdict.specs.Certificates.{unit_in, by_runs_in, AppliesToQRoutes, HasBoundByQRoutes}
 use Rattle.tsp_verdict.specs.Certified.{AppliesToRouting, NoneAgainstRouting, IsBoundBy, HasNoBoundBy, BoundsSolutionsBy, HasNoSolutionBy, AppliesToCertificateBy, AppliesToCertificate, FindsBound}
 use Rattle.tsp_theory.specs.First.{IsFirstPlace}
-use Rattle.tsp_verdict.specs.Solutions.{IsLarger, IsAt, IsAtEarlierPlace, visited, tours_of, NoneBefore, IsFirstUnserved, IsOverloaded, AppliesToRoutes, NoneOfRoutesBefore, NoneOfRoutesBeforePlaces, total_of, AreCustomers, IsFirstAgainstRoutes, IsRoutesVerdict, IsFirstReason}
+use Rattle.tsp_verdict.specs.SolutionReasons.{IsLarger, IsAt, IsAtEarlierPlace, visited, tours_of, NoneBefore, IsFirstUnserved, IsOverloaded, AppliesToRoutes, NoneOfRoutesBefore, NoneOfRoutesBeforePlaces, total_of, AreCustomers, IsFirstAgainstRoutes, IsRoutesVerdict, IsFirstReason}
 use Rattle.tsp_verdict.proofs.TreeReasons.{pairs_few}
 use Rattle.tsp_verdict.specs.states.Marks.{Marked}
 use Rattle.tsp_verdict.specs.states.TreeFound.{IsNumbered, found_by_tree}

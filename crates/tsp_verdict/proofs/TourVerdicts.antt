@@ -4,7 +4,7 @@ use Rattle.tsp_verdict.proofs.Prelude.{◌≡◌, ◌≢◌, ℕ, zero, suc, ◌
 use Rattle.tsp_bound.proofs.RoundJoins.{set_kept}
 use Rattle.tsp_theory.specs.First.{IsFirstPlace}
 use Rattle.tsp_verdict.proofs.FirstReasons.{tour_rank}
-use Rattle.tsp_verdict.specs.Solutions.{node_at, HoldsAtNone, IsAtEarlierPlace, IsLarger, IsUnused, visited, tours_of, AppliesToTour, NoneOfTourBefore, IsFirstAgainstTour}
+use Rattle.tsp_verdict.specs.SolutionReasons.{node_at, HoldsAtNone, IsAtEarlierPlace, IsLarger, IsUnused, visited, tours_of, AppliesToTour, NoneOfTourBefore, IsFirstAgainstTour}
 use Rattle.tsp_verdict.specs.states.Marks.{Marked, StandsAfter, AreNext}
 
 set_adds : (seen : List Bool) (k m : ℕ) → get_or (set seen k true) m false ≡ true → (m ≡ k) ⊎ (get_or seen m false ≡ true)

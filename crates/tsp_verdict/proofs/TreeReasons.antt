@@ -23,7 +23,7 @@ use Rattle.tsp_verdict.proofs.GivenPairs.{keeps_given}
 use Rattle.tsp_verdict.specs.Certificates.{each_once, given_in, case_steps_in, families_with_numbers, AreNumbersOf, IsBadFamily, AppliesToBranches, HasBoundByBranches, IsBoundByBranches, HasNoBoundByBranches, AppliesToQRoutes}
 use Rattle.tsp_verdict.specs.Certified.{IsBoundBy, HasNoBoundBy, HasNoBound, AppliesToCertificateBy, AppliesToCertificate, BoundsSolutionsBy, BoundsSolutions, HasNoSolutionBy, HasNoSolution, IsCertified, FindsBound}
 use Rattle.tsp_theory.specs.First.{IsFirstPlace}
-use Rattle.tsp_verdict.specs.Solutions.{NoneBefore, IsFirstReason}
+use Rattle.tsp_verdict.specs.SolutionReasons.{NoneBefore, IsFirstReason}
 use Rattle.tsp_verdict.specs.states.TourKnownBounds.{IsSymmetricTsp}
 use Rattle.tsp_verdict.specs.states.TreeFound.{IsNumbered, found_by_tree}
 

@@ -9,7 +9,7 @@ use Rattle.tsp_routing.specs.PlanLinks.{BoundsPlans, HasNoPlan}
 use Rattle.tsp_report.specs.declared.task.CertificateKind.TheVariants.{Potentials, Branches}
 use Rattle.tsp_report.specs.declared.verdict.Verdict.TheVariants as verdicts
 use Rattle.tsp_verdict.specs.Certificates.{AppliesToPotentials, IsBoundByNodes, IsBoundByDuals, AppliesToQRoutes, HasBoundByQRoutes, AppliesToBranches, IsBoundByBranches, HasNoBoundByBranches}
-use Rattle.tsp_verdict.specs.Solutions.{NoneBefore, IsFirstReason, tours_of, AppliesToTour, AppliesToRoutes, IsPlanned}
+use Rattle.tsp_verdict.specs.SolutionReasons.{NoneBefore, IsFirstReason, tours_of, AppliesToTour, AppliesToRoutes, IsPlanned}
 
 -- ---- by the certificate, and by the TYPE of the instance
 

@@ -9,7 +9,7 @@ use Rattle.tsp_report.specs.declared.verdict.KnownBound.{KnownBound}
 use Rattle.tsp_report.specs.declared.verdict.Verdict.TheVariants.{Tour, Routes, No}
 use Rattle.tsp_verdict.specs.Certified.{is_bounded, AppliesToCertificate, IsCertifiedVerdict, AppliesToInstance, NoneAgainstInstance, IsBoundVerdict, NoneWithoutMemory}
 use Rattle.tsp_verdict.specs.Strict.{strict_reason, strict_verdict, strict_bound, strict_known_bound}
-use Rattle.tsp_verdict.specs.Solutions.{IsFirstReason, IsRoutesVerdict, NoneOfRoutesBeforeRepeats, IsTourVerdict, NoneOfTourBeforeRepeats, total_of}
+use Rattle.tsp_verdict.specs.SolutionReasons.{IsFirstReason, IsRoutesVerdict, NoneOfRoutesBeforeRepeats, IsTourVerdict, NoneOfTourBeforeRepeats, total_of}
 
 -- ---- without a certificate: a tour for TYPE TSP and ATSP, routes for TYPE CVRP
 

@@ -6,7 +6,7 @@ ghost use Rattle.std.specs.Prelude.{◌≡◌, ◌⊎◌, Some, MatchResult};
 ghost use Rattle.tsp_format.specs.declared.kinds.Kind.TheVariants as kinds;
 ghost use Rattle.tsp_report.specs.declared.task.CertificateKind.TheVariants as certificates;
 ghost use Rattle.tsp_verdict.specs.Certified.{IsCertifiedVerdict};
-ghost use Rattle.tsp_verdict.specs.Solutions.{IsRoutesVerdict, NoneOfRoutesBeforeRepeats, IsTourVerdict, NoneOfTourBeforeRepeats};
+ghost use Rattle.tsp_verdict.specs.SolutionReasons.{IsRoutesVerdict, NoneOfRoutesBeforeRepeats, IsTourVerdict, NoneOfTourBeforeRepeats};
 
 use crate::solution_verdict::judge;
 use std::alloc::{AllocError, Global};

@@ -12,7 +12,7 @@ ghost use Rattle.tsp_file.specs.states.Drafts.{families_of};
 ghost use Rattle.tsp_cost.specs.states.Views.{HasCosts};
 ghost use Rattle.tsp_verdict.specs.Certificates.{each_once};
 ghost use Rattle.tsp_verdict.specs.Certified.{is_bounded, FindsBound, NoneWithoutMemory, AppliesToCertificate};
-ghost use Rattle.tsp_verdict.specs.Solutions.{IsFirstReason};
+ghost use Rattle.tsp_verdict.specs.SolutionReasons.{IsFirstReason};
 ghost use Rattle.tsp_verdict.specs.states.MemoryReasons.{IsMemoryReason, IsBadFamilyIfAny, family_or};
 ghost use Rattle.tsp_verdict.specs.states.PairSets.{key_of};
 ghost use Rattle.tsp_verdict.specs.states.TourKnownBounds.{AreTourCosts, IsSymmetricTsp};

@@ -15,7 +15,7 @@ ghost use Rattle.tsp_verdict.specs.Certified.{AppliesToInstance, AppliesToTourin
 ghost use Rattle.tsp_verdict.specs.Certificates.{given_in, unit_in, by_runs_in, AppliesToBranches, AppliesToQRoutes, HasBoundByBranches, HasBoundByQRoutes, case_steps_in, AppliesToPotentials, IsBoundByNodes, IsBoundByDuals};
 ghost use Rattle.tsp_verdict.specs.Examples.{instance_with, of_nodes, of_rows, of_both, multiplying, vehicles, carrying, solution, sized, lone, both, branching, two_leaves, three_leaves, node_twice, IsJudgedBefore, halves_of_nodes, halves_of_rows, halves_of_leaf, by_fives, remembering, pair_row, bad_leaves};
 ghost use Rattle.tsp_theory.specs.Examples.{two, three, four};
-ghost use Rattle.tsp_verdict.specs.Solutions.{total_of, AppliesToRoutes, NoneOfRoutesBeforeRepeats, IsRoutesVerdict, AppliesToTour, NoneOfTourBeforeRepeats, IsTourVerdict};
+ghost use Rattle.tsp_verdict.specs.SolutionReasons.{total_of, AppliesToRoutes, NoneOfRoutesBeforeRepeats, IsRoutesVerdict, AppliesToTour, NoneOfTourBeforeRepeats, IsTourVerdict};
 ghost use Rattle.tsp_report.specs.declared.task.CertificateKind.TheVariants as certificates;
 ghost use Rattle.tsp_report.specs.declared.verdict.Reason.TheVariants as reasons;
 ghost use Rattle.tsp_report.specs.declared.verdict.Verdict.TheVariants as verdicts;

@@ -8,7 +8,7 @@ ghost use Rattle.std.specs.Prelude.{◌≡◌, ◌⊎◌, ◌≤◌};
 ghost use Rattle.tsp_format.specs.declared.kinds.Kind.TheVariants as kinds;
 ghost use Rattle.tsp_verdict.specs.SolutionVerdict.{IsKnownBound, IsKnownBoundWith, IsFoundWith, IsLeastKnownBy, NoneOfKnownBoundWithoutMemory, is_judged};
 ghost use Rattle.tsp_verdict.specs.Certified.{IsBoundVerdict, AppliesToTouring, NoneAgainstTouring, NoneAgainstInstance, is_bounded, NoneWithoutMemory};
-ghost use Rattle.tsp_verdict.specs.Solutions.{total_of, IsFirstReason};
+ghost use Rattle.tsp_verdict.specs.SolutionReasons.{total_of, IsFirstReason};
 ghost use Rattle.tsp_verdict.specs.states.TourKnownBounds.{against_instance, AreTourCosts};
 ghost use Rattle.tsp_report.specs.declared.task.CertificateKind.TheVariants as certificates;
 

@@ -11,7 +11,7 @@ ghost use Rattle.tsp_bound.specs.states.Potentials.{triples_of, scale_of, number
 ghost use Rattle.tsp_verdict.specs.Certified.{IsCertified, FindsBound, NoneWithoutMemory};
 ghost use Rattle.tsp_verdict.specs.Certificates.{AreListed, IsUnlisted, IsPairRepeated, has_wanted, BreaksDuals, AppliesToPotentials};
 ghost use Rattle.tsp_theory.specs.First.{IsFirstPlace};
-ghost use Rattle.tsp_verdict.specs.Solutions.{IsFirstReason};
+ghost use Rattle.tsp_verdict.specs.SolutionReasons.{IsFirstReason};
 ghost use Rattle.tsp_verdict.specs.states.PairSets.{HasPairs};
 ghost use Rattle.tsp_report.specs.declared.task.CertificateKind.TheVariants as certificates;
 

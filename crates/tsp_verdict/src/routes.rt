@@ -1,7 +1,7 @@
 //! The verdict on routes: the first reason against the instance or the plan, or the number of
 //! routes and their length. Also the bound that a branches file gives for routes.
 //! `solution_verdict.rt` and `known_bound.rt` call it. The order of the tests decides the reason,
-//! so keep it (`specs/Solutions.antt`).
+//! so keep it (`specs/SolutionReasons.antt`).
 
 ghost use Rattle.tsp_verdict.specs.Prelude.{All, length, pos, Some, MatchOption, MatchResult, ℕ, true, false, vec_len, slice_index_or, map, IfOk, IsErr, most_nodes, most_tour_nodes, most_capacity, IsNode, nodes_to, cost, HoldsCases, HoldsMemory, nodes_of, is_branches_file, IsFromTo, length_of, demand_of, load_of, IsLeastRoutes, plan_length, demands_of, depots_of, depot_of};
 ghost use Rattle.std.specs.Prelude.{◌≡◌, ◌≤◌, ◌≢◌, ◌+◌, ◌^◌, ◌<◌, ◌≤ℤ◌, ◌∷◌};
@@ -11,7 +11,7 @@ ghost use Rattle.tsp_file.specs.Valid.{IsDemand};
 ghost use Rattle.tsp_file.specs.states.Drafts.{families_of};
 ghost use Rattle.tsp_verdict.specs.Certified.{AppliesToRouting, NoneAgainstRouting, FindsBound, NoneWithoutMemory};
 ghost use Rattle.tsp_theory.specs.First.{IsFirstPlace};
-ghost use Rattle.tsp_verdict.specs.Solutions.{IsLarger, IsAt, IsAtEarlierPlace, AreCustomers, IsFirstReason, NoneOfRoutesBeforePlaces, IsFirstAgainstRoutes, IsRoutesVerdict, NoneOfRoutesBeforeRepeats, IsOverloaded};
+ghost use Rattle.tsp_verdict.specs.SolutionReasons.{IsLarger, IsAt, IsAtEarlierPlace, AreCustomers, IsFirstReason, NoneOfRoutesBeforePlaces, IsFirstAgainstRoutes, IsRoutesVerdict, NoneOfRoutesBeforeRepeats, IsOverloaded};
 ghost use Rattle.tsp_verdict.specs.states.Marks.{Marked, AreToursOf, nodes_in, IsSumOf};
 ghost use Rattle.tsp_report.specs.declared.task.CertificateKind.TheVariants as certificates;
 

@@ -7,7 +7,7 @@ ghost use Rattle.std.specs.Prelude.{◌≡◌, ◌⊎◌};
 ghost use Rattle.tsp_format.specs.declared.kinds.Kind.TheVariants as kinds;
 ghost use Rattle.tsp_verdict.specs.Certified.{AppliesToTouring, NoneAgainstTouring};
 ghost use Rattle.tsp_verdict.specs.SolutionVerdict.{IsKnownBound, IsFoundWith, IsVerdictFrom, IsVerdictOn, is_judged, NoneBeforeRepeatsOn, IsVerdictWith, HasLength, HasNoLength, IsAsClaimed, IsOtherClaimed};
-ghost use Rattle.tsp_verdict.specs.Solutions.{IsFirstReason, IsTourVerdict, NoneOfTourBeforeRepeats, NoneOfRoutesBeforeRepeats};
+ghost use Rattle.tsp_verdict.specs.SolutionReasons.{IsFirstReason, IsTourVerdict, NoneOfTourBeforeRepeats, NoneOfRoutesBeforeRepeats};
 ghost use Rattle.tsp_verdict.specs.states.TourKnownBounds.{KnowsInstance, with_found};
 
 use crate::certificate::bound_by;

@@ -1,7 +1,7 @@
 //! The parts of a verdict on a tour: the only tour of a solution, the reasons against its nodes,
 //! the first fixed pair that it misses, and the costs of the instance. `solution_verdict.rt` puts
-//! them together; `routes.rt` uses the searches in lists of nodes, too. `specs/Solutions.antt` pins
-//! the reasons.
+//! them together; `routes.rt` uses the searches in lists of nodes, too.
+//! `specs/SolutionReasons.antt` pins the reasons.
 
 ghost use Rattle.tsp_verdict.specs.Prelude.{All, [], length, Some, MatchOption, MatchResult, ℕ, List, vec_len, IfOk, slice_index_or, MatchBool, false, pos, most_capacity, IsNode, cost, nodes_of, is_tour_file, IsFromTo, IsFirstAsymmetric, IsCycle, Uses, is_directed, depots_of, demands_of, capacity_of, FixedEdgeUnused, TourCount};
 ghost use Rattle.std.specs.Bool.{OnTrue};
@@ -9,7 +9,7 @@ ghost use Rattle.std.specs.Prelude.{◌≡◌, ◌⊎◌, ◌<◌, ◌≤◌, �
 ghost use Rattle.tsp_format.specs.declared.kinds.Kind.TheVariants as kinds;
 ghost use Rattle.tsp_file.specs.Valid.{IsPairOf, IsDemand};
 ghost use Rattle.tsp_theory.specs.First.{IsFirstPlace};
-ghost use Rattle.tsp_verdict.specs.Solutions.{IsLarger, IsAt, IsAtEarlierPlace, HoldsAtNone, IsUnused, tours_of, NoneOfTourBefore, NoneOfTourBeforeNodes, IsFirstAgainstTour, NoneOfTourBeforeRepeats};
+ghost use Rattle.tsp_verdict.specs.SolutionReasons.{IsLarger, IsAt, IsAtEarlierPlace, HoldsAtNone, IsUnused, tours_of, NoneOfTourBefore, NoneOfTourBeforeNodes, IsFirstAgainstTour, NoneOfTourBeforeRepeats};
 ghost use Rattle.tsp_verdict.specs.states.Marks.{Marked, StandsAfter, AreNext, AreToursOf};
 ghost use Rattle.tsp_verdict.specs.states.TourKnownBounds.{AreTourCosts};
 

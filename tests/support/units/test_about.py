@@ -123,7 +123,7 @@ class Words(unittest.TestCase):
     def test_kinds(self) -> None:
         self.assertEqual(kind_of(PurePath("specs/states/Kept.antt"), []), Kind.STATES)
         self.assertEqual(kind_of(PurePath("specs/Tour.antt"), [1]), Kind.RULED)
-        self.assertEqual(kind_of(PurePath("proofs/tree/grow/Answers.antt"), []), Kind.PROOF)
+        self.assertEqual(kind_of(PurePath("proofs/prim/grow/Answers.antt"), []), Kind.PROOF)
         self.assertIsNone(kind_of(PurePath("Cargo.toml"), []))
 
 

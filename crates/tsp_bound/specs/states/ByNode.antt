@@ -1,5 +1,5 @@
 -- The multipliers of fixed pairs, listed at both nodes of each pair (`IsTable`), and what such a list takes off the
--- weight of a pair (`lowered_by`). Only `src/by_node.rt`, which makes the lists, and `src/weights.rt` and
+-- weight of a pair (`lowered_by`). Only `src/multipliers_by_node.rt`, which makes the lists, and `src/weights.rt` and
 -- `src/boxes.rt`, which lower weights by them, use these definitions. You may change the lists with the code, because
 -- `weight_less` defines the weights. tsp_branch imports it, too.
 use Rattle.tsp_bound.specs.Prelude.{All, AllPairs, ℕ, List, slice_index_or, [], length, ℤ, pos, most_multiplier, IsNode, IsFromTo}

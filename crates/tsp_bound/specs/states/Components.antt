@@ -1,6 +1,6 @@
 -- A forest that grows in Boruvka's rounds: the label of each component, the lightest link that leaves it, and the edges
--- joined so far (`IsForest`). `src/search.rt` finds links in boxes, `src/lists.rt` among the twelve lightest links of
--- each place, and `src/rounds.rt` joins them. You may change how links are found, as long as the rounds end with a
+-- joined so far (`IsForest`). `src/search.rt` finds links in boxes, `src/all_pairs.rt` among the twelve lightest links
+-- of each place, and `src/rounds.rt` joins them. You may change how links are found, as long as the rounds end with a
 -- minimum tree (`IsSpanning`).
 use Rattle.tsp_bound.specs.Prelude.{All, ℕ, Bool, true, not, List, [], length, slice_index_or, Option, None, Some, ℤ, pos, neg_ℤ, IfSome, slice_set, most_nodes, IsFromTo, weight_of, least_at}
 use Rattle.std.specs.Prelude.{◌≡◌, ◌≢◌, ◌+◌, ◌*◌, ◌^◌, ◌==◌, ◌<◌, if◌then◌else◌, ◌≤ℤ◌, ◌⊎◌}

@@ -1,5 +1,5 @@
 -- The nodes outside the tree that Prim's algorithm grows, in a list in any order: each has its nearest node inside, and
--- the weight of the edge to it. Only `src/tree.rt` uses these definitions, and you may change them with the algorithm.
+-- the weight of the edge to it. Only `src/prim.rt` uses these definitions, and you may change them with the algorithm.
 use Rattle.tsp_bound.specs.Prelude.{ℕ, List, length, slice_index, ℤ, IsInner, least_at, IsNearer}
 use Rattle.std.specs.Prelude.{◌≡◌, ◌<◌, ◌+◌, ◌≤ℤ◌}
 

@@ -4,7 +4,7 @@
 -- defined in tsp_theory, and proofs tie these weights to it.
 use Rattle.std.specs.Prelude.{ℕ, ◌≢◌, ◌*◌, ◌^◌, ◌≤◌, List, ℤ, pos, nat_abs, []}
 use Rattle.tsp_theory.specs.Bounds.{weight_between, adjusted}
-use Rattle.tsp_bound.specs.declared.by_node.ByNode.{ByNode}
+use Rattle.tsp_bound.specs.declared.multipliers_by_node.ByNode.{ByNode}
 use Rattle.tsp_bound.specs.declared.potentials.Multipliers.{Multipliers}
 use Rattle.tsp_bound.specs.declared.potentials.Potentials.{Potentials}
 
@@ -22,7 +22,7 @@ weight_under p cost = weight_between (scale_of p) (numbers_of p) cost
 abbrev pub IsInverse : ℤ → ℕ → Type 0
 IsInverse scale inverse = scale ≢ pos 1 → 2 ^ 64 ≤ nat_abs scale * inverse
 
--- ---- the triples of `Multipliers` (src/potentials.rt) and `ByNode` (src/by_node.rt)
+-- ---- the triples of `Multipliers` (src/potentials.rt) and `ByNode` (src/multipliers_by_node.rt)
 
 -- the multipliers of pairs
 abbrev pub triples_of : Multipliers → List (ℕ × ℕ × ℤ)

@@ -1,5 +1,5 @@
 -- The two numbers of a family (`AreFamilyNumbers`), and marks of nodes, by which a loop sees that a node comes twice.
--- `src/good_families.rt` judges families by both, and `tsp_routing/src/verdict.rt` and
+-- `src/good_families.rt` judges families by both, and `tsp_routing/src/plan_verdict.rt` and
 -- `tsp_routing/src/judged_memory.rt` use its marks for sets of customers. You may change the marks with the code,
 -- because `IsGoodFamily` defines which families are good.
 use Rattle.tsp_cases.specs.Prelude.{Vec, All, ℕ, List, Option, Some, None, length, Bool, false, [], slice_index}

@@ -1,7 +1,7 @@
 -- Rows of weights without potentials, kept from leaf to leaf and always those of the present leaf (`HoldsRows`), and
--- the memory that each leaf overwrites (`IsScratch`). `src/kept.rt` promises them. `tsp_branch/src/verdict.rt` brings
--- them from leaf to leaf; tsp_routing takes only the potentials less multipliers from here (`AreMoved`). Kept rows
--- affect only speed, so they may follow the code.
+-- the memory that each leaf overwrites (`IsScratch`). `src/kept.rt` promises them. `tsp_branch/src/tour_verdict.rt`
+-- brings them from leaf to leaf; tsp_routing takes only the potentials less multipliers from here (`AreMoved`). Kept
+-- rows affect only speed, so they may follow the code.
 use Rattle.tsp_cases.specs.Prelude.{Vec, w64, int_wrap, All, ℕ, List, length, slice_index_or, ℤ, pos, neg_ℤ, IsNode, IsFromTo, entry, is_same_pair, least_at, IsMoved}
 use Rattle.std.specs.Prelude.{◌≡◌, ◌≢◌, ◌+◌, ◌<◌, ◌≤◌, if◌then◌else◌, ◌+ℤ◌, ◌*ℤ◌, ◌^◌}
 use Rattle.tsp_format.specs.Limits.{most_weight}
@@ -100,6 +100,6 @@ pub record IsScratch (n family_count : ℕ) (room : Scratch) : Type 0 where
   pub row : length room.row.items ≡ n + 1
   pub moved : length room.moved.items ≡ n + 1
 
--- numbers of a leaf of at most 2^64, to which src/tree.rt can add the differences of the next leaf
+-- numbers of a leaf of at most 2^64, to which src/case_tree.rt can add the differences of the next leaf
 abbrev pub AreSmall : List ℤ → Type 0
 AreSmall numbers = All (IsFromTo (neg_ℤ (pos (2 ^ 64))) (pos (2 ^ 64))) numbers

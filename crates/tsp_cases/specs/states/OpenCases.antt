@@ -1,5 +1,5 @@
 -- The decisions of the case that is open in a pass over a tree, on a stack and by node (`IsOpenCase`), and what they
--- add to the weight of an edge (`changes`). `src/open_case.rt` keeps them, and `src/tree.rt` hands each leaf its
+-- add to the weight of an edge (`changes`). `src/open_case.rt` keeps them, and `src/case_tree.rt` hands each leaf its
 -- decisions (`decisions_in`), which the judges of leaves in tsp_branch and tsp_routing name in their contracts.
 -- tsp_verdict imports it, too.
 use Rattle.tsp_cases.specs.Prelude.{Vec, w64, int_wrap, All, filter, ℕ, Bool, true, false, List, [], reverse, Some, None, ℤ, pos, neg_ℤ, not, length, slice_index_or, IsNode, IsFromTo, is_same_pair, adjusted, sum_int_by}

@@ -1,7 +1,7 @@
 -- The steps of a tree of cases and the subset rows that code holds as vectors (`TreeStep`, `RowSets`), as the lists
 -- that definitions talk about (`Step`, `SubsetRow`). The contracts of all code that holds a certificate use them:
--- `tsp_read/src/tree.rt` makes the steps, `tsp_file/src/file.rt` returns them, and tsp_branch and tsp_routing judge
--- them. A new field or variant of the two types also goes here. More crates above import it.
+-- `tsp_read/src/tree_sections.rt` makes the steps, `tsp_file/src/file.rt` returns them, and tsp_branch and tsp_routing
+-- judge them. A new field or variant of the two types also goes here. More crates above import it.
 use Rattle.std.specs.Prelude.{List, map}
 use Rattle.tsp_format.specs.declared.steps.RowSets.{RowSets}
 use Rattle.tsp_format.specs.declared.steps.TreeStep.{TreeStep}

@@ -1,7 +1,7 @@
 -- How far a number word reaches at the beginning of some bytes, and its sign, digits and exponent as the code holds
--- them, capped at 64 bits. The shortcuts in `src/word.rt` promise the first, and for all other words `src/scan.rt` and
--- `src/shift.rt` the second. You may change both with the code, because `ReadsDecimal` and `ReadsWhole` define what a
--- word means; but tsp_read proves its fast path with `BeginsWithNumber`.
+-- them, capped at 64 bits. The shortcuts in `src/number_word.rt` promise the first, and for all other words
+-- `src/scan.rt` and `src/shift.rt` the second. You may change both with the code, because `ReadsDecimal` and
+-- `ReadsWhole` define what a word means; but tsp_read proves its fast path with `BeginsWithNumber`.
 use Rattle.std.specs.Char.{is_ascii_digit}
 use Rattle.std.specs.List.{prefix_len}
 use Rattle.std.specs.Prelude.{ℕ, ◌≤◌, ◌+◌, ◌==◌, ◌||◌, ◌&&◌, cond, nat_le, nat_lt, min, List, [], ◌∷◌, length, take, drop, slice_index, Option, None, Some, ℤ, ◌≡◌, ◌≢◌, ◌*◌, ◌-◌, ◌^◌, ◌++◌, pos, negsuc}

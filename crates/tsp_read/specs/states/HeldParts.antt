@@ -1,24 +1,24 @@
 -- For each shape of section, what the list that is being filled holds: exactly what the section's words so far mean.
--- The lists promise it, for example in `src/lists.rt` and `src/by_node.rt`, and `src/section_builder.rt` does so for
--- all of them by `HoldsShape`. A new shape needs a record here, and a line in `HoldsPart`.
+-- The lists promise it, for example in `src/list_sections.rt` and `src/node_sections.rt`, and `src/section_builder.rt`
+-- does so for all of them by `HoldsShape`. A new shape needs a record here, and a line in `HoldsPart`.
 use Rattle.tsp_read.specs.Prelude.{ℕ, ℤ, Bool, cond, List, length, map, false, is_some, [], Ok, most_families, most_rows, points_of, families_of, subset_rows_of, place_by, FamiliesSoFar, families_after, MemoriesSoFar, memories_after, RowsSoFar, rows_after, TreeSoFar, tree_after}
 use Rattle.std.specs.Prelude.{◌≡◌, ◌+◌, ◌≤◌, ◌∷◌, ◌++◌}
 use Rattle.tsp_format.specs.declared.keyword.Shape.{Shape}
 use Rattle.tsp_format.specs.declared.keyword.Shape.TheVariants.{Numbers, Points, SpacePoints, Depots, Pairs, Weights, Tours, Triples, Families, Memories, SubsetRows, Steps}
 use Rattle.tsp_format.specs.states.TreeSteps.{steps_of}
-use Rattle.tsp_read.specs.declared.by_node.NumberList.{NumberList}
-use Rattle.tsp_read.specs.declared.by_node.PointList.{PointList}
-use Rattle.tsp_read.specs.declared.lists.DepotList.{DepotList}
-use Rattle.tsp_read.specs.declared.lists.FixedList.{FixedList}
+use Rattle.tsp_read.specs.declared.node_sections.NumberList.{NumberList}
+use Rattle.tsp_read.specs.declared.node_sections.PointList.{PointList}
+use Rattle.tsp_read.specs.declared.list_sections.DepotList.{DepotList}
+use Rattle.tsp_read.specs.declared.list_sections.FixedList.{FixedList}
 use Rattle.tsp_read.specs.declared.memory_lists.MemoryList.{MemoryList}
 use Rattle.tsp_read.specs.declared.memory_lists.RowList.{RowList}
 use Rattle.tsp_read.specs.declared.section_builder.SectionBuilder.{SectionBuilder}
 use Rattle.tsp_read.specs.declared.section_builder.SectionBuilder.TheVariants as parts
 use Rattle.tsp_read.specs.declared.section_builder.TripleList.{TripleList}
-use Rattle.tsp_read.specs.declared.lists.TourList.{TourList}
-use Rattle.tsp_read.specs.declared.lists.WeightList.{WeightList}
-use Rattle.tsp_read.specs.declared.tree.FamilyList.{FamilyList}
-use Rattle.tsp_read.specs.declared.tree.TreeList.{TreeList}
+use Rattle.tsp_read.specs.declared.list_sections.TourList.{TourList}
+use Rattle.tsp_read.specs.declared.list_sections.WeightList.{WeightList}
+use Rattle.tsp_read.specs.declared.tree_sections.FamilyList.{FamilyList}
+use Rattle.tsp_read.specs.declared.tree_sections.TreeList.{TreeList}
 use Rattle.tsp_read.specs.states.Parts.{NumbersHold, CoordsHold, are_in_space, DepotsHold, PairsHold, TriplesHold, WeightsHold, ToursHold, EndsRun, Takes}
 
 -- a section by node with numbers of this range

@@ -5,7 +5,7 @@
 use Rattle.tsp_read.specs.Prelude.{find, option_map, option_map_or, ℕ, Bool, List, Some, false, not, [], Option, None, is_some, Result, Ok, Err, nat_lt, ℤ, true, is_none, unwrap_or, length, nat_le, whole_of, shape_of, most_line_bytes, most_comments, most_others, Fields, with_numbers, with_points, fields_of, has_line, open_section, is_open, words_of, spatial_after, dimension_in, named, is_left_out, same_field, row_of, when, first_row, is_too_long_to_keep, numbers_by_node, points_by_node, space_points_by_node, depots_in, fixed_in, fixed_triples_in, whole_families, whole_memories, whole_rows, WordLine, Item, Line, AreCut, is_not_empty, first_word, tours_in, whole_steps, weights_in, IsClean, fields_by, is_incomplete, sections_in_order, first_incomplete, opening_rows, spelled, fault_at_end}
 use Rattle.std.specs.Prelude.{◌≡◌, ◌&&◌, ◌∷◌, ◌≤ℤ◌, ◌++◌, ◌||◌}
 use Rattle.std.specs.Result.{result_err}
-use Rattle.tsp_number.specs.declared.word.NumberFault.{NumberFault}
+use Rattle.tsp_number.specs.declared.number_word.NumberFault.{NumberFault}
 use Rattle.tsp_format.specs.declared.keyword.Field.{Field}
 use Rattle.tsp_format.specs.declared.keyword.Field.TheVariants.{NameKey, TypeKey, DimensionKey, CapacityKey, ScaleKey, LoadUnitKey, EdgeWeightTypeKey, EdgeWeightFormatKey, NodeCoordTypeKey, DisplayDataTypeKey}
 use Rattle.tsp_format.specs.declared.keyword.Keyword.TheVariants.{Known, Unknown}

@@ -1,6 +1,6 @@
 -- The items of the part of a text that hasn't been taken yet, and where the next line or word in it ends.
--- `src/items.rt` cuts lines and words by them, and `specs/states/Onward.antt` and `specs/states/ReadingRun.antt` build
--- on them. You may change them with the code, because `items_of` defines the items of a whole text.
+-- `src/items.rt` cuts lines and words by them, and `specs/states/Onward.antt` and `specs/states/PlainNumbers.antt`
+-- build on them. You may change them with the code, because `items_of` defines the items of a whole text.
 use Rattle.tsp_read.specs.Prelude.{position_or_len, ℕ, Bool, true, false, not, nat_lt, List, [], length, map, take, drop, cond, most_word_bytes, most_line_bytes, is_blank, is_letter, lines_of, words_in, ends_line, is_not_empty, Item, NumberWord, LineEnd, line_item, items_in, items_by, settled_words, settled_in}
 use Rattle.std.specs.Prelude.{◌||◌, ◌∷◌, ◌++◌, ◌&&◌}
 use Rattle.tsp_read.specs.declared.items.Next.{Next}

@@ -1,11 +1,11 @@
 -- How the list of an open section takes one more word (`Takes`), and what the list holds in between, such as a node
--- whose second coordinate is still to come. Every list promises `Takes`, for example in `src/by_node.rt` and
--- `src/lists.rt`; `specs/states/HeldParts.antt` says by the rest what a filled list means. You may change the rest with
--- the lists.
+-- whose second coordinate is still to come. Every list promises `Takes`, for example in `src/node_sections.rt` and
+-- `src/list_sections.rt`; `specs/states/HeldParts.antt` says by the rest what a filled list means. You may change the
+-- rest with the lists.
 use Rattle.tsp_read.specs.Prelude.{ℕ, ℤ, pos, negsuc, Bool, true, false, not, List, [], length, map, slice_index_or, Option, None, Some, is_some, unwrap_or, Result, Ok, Err, option_map, filter, slice_split, list_any, decimal_of, is_not_empty, node, node_or_end, is_end, Place, weights_in, ends_tour, tour_node, tours_in, groups_in, begun_in, node_groups, number_value, point_in, space_point_in, entry_of, depots_in, listed_in, firsts_in, fixed_pair, fixed_triple, word_fault}
 use Rattle.std.specs.Prelude.{◌≡◌, ◌+◌, ◌*◌, ◌<◌, ◌≤◌, ◌-◌, ◌∷◌, ◌++◌}
 use Rattle.tsp_number.specs.declared.decimal.Point.{Point}
-use Rattle.tsp_number.specs.declared.word.NumberFault.{NumberFault}
+use Rattle.tsp_number.specs.declared.number_word.NumberFault.{NumberFault}
 use Rattle.tsp_file.specs.declared.coords.Coords.{Coords}
 use Rattle.tsp_file.specs.declared.coords.Coords.TheVariants.{Plane, Space}
 use Rattle.tsp_file.specs.Cost.{origin}

@@ -1,5 +1,5 @@
 -- What is found on the way to the verdict on a certificate for routes: its sets of customers (`AreCutsJudged`), and
--- then its leaves, if they are bounded by q-routes (`IsLeafVerdict`). `src/verdict.rt` promises both, and
+-- then its leaves, if they are bounded by q-routes (`IsLeafVerdict`). `src/plan_verdict.rt` promises both, and
 -- `src/plan_leaf.rt` needs the limit on crossings (`IsFewCrossed`). `IsPlanVerdict` defines the whole verdict, so a new
 -- reason begins there.
 use Rattle.tsp_routing.specs.Prelude.{Vec, All, ℕ, Bool, true, List, length, Option, ℤ, Some, None, Step, RoutingProblem, LeafNumbers, families_in, Family, family_with, listed_steps, Decision}
@@ -11,9 +11,9 @@ use Rattle.tsp_routing.specs.PlanBounds.{IsFoundByQRoutes, IsPlanTreeBound}
 use Rattle.tsp_routing.specs.PlanLinks.{capacity_in_parts, IsCutFamily}
 use Rattle.tsp_routing.specs.PlanVerdicts.{AreGoodPlanLeaves, IsFirstBadPlanLeaf, most_entries, IsGoodSet, IsFirstBadSet, AreCapacityCuts}
 use Rattle.tsp_routing.specs.declared.demands.Demands.{Demands}
-use Rattle.tsp_routing.specs.declared.verdict.JudgedCuts.{JudgedCuts}
-use Rattle.tsp_routing.specs.declared.verdict.JudgedCuts.TheVariants as judged
-use Rattle.tsp_routing.specs.declared.verdict.PlanScratch.{PlanScratch}
+use Rattle.tsp_routing.specs.declared.plan_verdict.JudgedCuts.{JudgedCuts}
+use Rattle.tsp_routing.specs.declared.plan_verdict.JudgedCuts.TheVariants as judged
+use Rattle.tsp_routing.specs.declared.plan_verdict.PlanScratch.{PlanScratch}
 use Rattle.tsp_routing.specs.states.Demands.{loads_problem}
 
 -- a potential for each node, a multiplier for each family, and a row of numbers by node

@@ -1,6 +1,6 @@
 -- An entry of a row of weights (`least_at`), what adding a number does to it in 64 bits (`IsMoved`), and what Prim's
 -- algorithm keeps for each node outside its tree (`IsNearer`). `src/costs.rt` and all code that fills rows, in
--- tsp_bound, tsp_cases, tsp_branch and tsp_routing, promise the first two; `tsp_bound/src/tree.rt` promises the last.
+-- tsp_bound, tsp_cases, tsp_branch and tsp_routing, promise the first two; `tsp_bound/src/prim.rt` promises the last.
 -- No bound is defined by them.
 use Rattle.std.specs.Int.{w64, int_wrap}
 use Rattle.std.specs.Prelude.{◌≡◌, ℕ, Bool, false, List, slice_index_or, ◌⊎◌, ℤ, pos, ◌≤ℤ◌, ◌<ℤ◌, ◌+ℤ◌}

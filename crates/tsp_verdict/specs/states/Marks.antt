@@ -4,7 +4,7 @@
 use Rattle.tsp_verdict.specs.Prelude.{All, flat_map, ℕ, Bool, true, false, List, length, slice_index, slice_index_or, [], map, ℤ, pos, most_tour_nodes, most_weight, Fields, is_tour_file, Follows}
 use Rattle.std.specs.Global.{Vec}
 use Rattle.std.specs.Prelude.{◌≡◌, ◌+◌, ◌<◌, ◌≤◌, ◌≢◌, ◌*◌, ◌+ℤ◌, ◌≤ℤ◌}
-use Rattle.tsp_verdict.specs.Solutions.{node_at, IsAtEarlierPlace, visited, tours_of}
+use Rattle.tsp_verdict.specs.SolutionReasons.{node_at, IsAtEarlierPlace, visited, tours_of}
 
 -- the marked nodes are those at the first `count` places, and none of these comes twice
 pub record Marked (nodes : List ℕ) (seen : List Bool) (count : ℕ) : Type 0 where

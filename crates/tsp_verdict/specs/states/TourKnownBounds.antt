@@ -8,7 +8,7 @@ use Rattle.tsp_format.specs.declared.kinds.Kind.TheVariants as kinds
 use Rattle.tsp_cost.specs.states.Views.{IsViewOf, ShowsSymmetric}
 use Rattle.tsp_report.specs.declared.verdict.Verdict.TheVariants.{Tour, Routes, No}
 use Rattle.tsp_verdict.specs.Certified.{AppliesToTouring, NoneAgainstTouring}
-use Rattle.tsp_verdict.specs.Solutions.{IsFirstReason}
+use Rattle.tsp_verdict.specs.SolutionReasons.{IsFirstReason}
 use Rattle.tsp_verdict.specs.declared.tour.TourCosts.{TourCosts}
 use Rattle.tsp_verdict.specs.declared.tour.TourCosts.TheVariants.{Undirected, Directed}
 

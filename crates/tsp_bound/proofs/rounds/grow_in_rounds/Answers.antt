@@ -1,7 +1,7 @@
 -- The goals of `grow_in_rounds` in src/rounds.rt, which finds a least tree over the nodes 2 to n: what it ensures.
 use Rattle.tsp_bound.proofs.Prelude.{arith, growth_is_forest, IsWholeGrowth}
 use Rattle.tsp_theory.specs.Forest.{IsWholeForest}
-use Rattle.tsp_bound.specs.declared.tree.Grown.{Grown}
+use Rattle.tsp_bound.specs.declared.prim.Grown.{Grown}
 use Rattle.tsp_bound.proofs.RoundJoins.{if_ok_more}
 use Rattle.tsp_bound.proofs.rounds.grow_in_rounds.Goals as goal
 

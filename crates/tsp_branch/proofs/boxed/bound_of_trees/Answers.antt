@@ -17,16 +17,16 @@ invariant_of-boxed g c =
       exact = c.if-are_exact.ensures refl;
     }
 
-pub leaf_bound-requires-clause-even : goal.leaf_bound-requires-clause-even
-leaf_bound-requires-clause-even g c =
+pub tour_leaf_bound-requires-clause-even : goal.tour_leaf_bound-requires-clause-even
+tour_leaf_bound-requires-clause-even g c =
     let leaf = c.args.leaf.now in
     let s = leaf.context.now in
     let families = s.families.now in
     decided_even s.cases.now.scale families.crossed.items leaf.potentials.now leaf.multipliers.now (lent_in families) (decisions_in leaf.case.now)
     (g.C.Costs.at s.costs.now) families.many (leaf.numbers.each_family ∙ families.many) (s.even c.requires.undirected)
 
-pub leaf_bound-requires-2-clause-even : goal.leaf_bound-requires-2-clause-even
-leaf_bound-requires-2-clause-even g c =
+pub tour_leaf_bound-requires-2-clause-even : goal.tour_leaf_bound-requires-2-clause-even
+tour_leaf_bound-requires-2-clause-even g c =
     let leaf = c.args.leaf.now in
     let s = leaf.context.now in
     let families = s.families.now in
@@ -45,8 +45,8 @@ returns-clause-leaf g c =
     let w : ℕ → ℕ → ℤ = set_weight s.cases.now.scale leaf.potentials.now leaf.multipliers.now (lent_in s.families.now) (g.C.Costs.at s.costs.now) in
     let back : ℤ = c.args.sum.given_back in
     let fits : FitsSigned w128 back = search rules in
-    IfOk-weaker c.leaf_bound-2.result _ _
+    IfOk-weaker c.tour_leaf_bound-2.result _ _
     (λ (bound : ℤ) bounds. subst (λ (d : Bool). BoundsEachLeaf n (decided_by d case w) c.args.sum.scale back bound) c.requires.undirected
     (subst (λ (z : ℤ). BoundsEachLeaf n (decided_by s.cases.now.directed case w) z back bound) (same_scale c.args.sum.scale c.args.sum.scaled)
     (subst (λ (z : ℤ). BoundsEachLeaf n (decided_by s.cases.now.directed case w) (to_z w64 (of_z w64 c.args.sum.scale)) z bound) (to_z-of_z w128 back fits) bounds)))
-    c.leaf_bound-2.ensures.leaf
+    c.tour_leaf_bound-2.ensures.leaf

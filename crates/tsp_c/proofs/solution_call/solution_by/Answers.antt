@@ -1,6 +1,6 @@
 -- The goals of `solution_by` in src/solution_call.rt, which reads a solution by numbers: what it ensures.
 use Rattle.std.proofs.Common.{arith}
-use Rattle.tsp_c.specs.Solutions.{SolvesText}
+use Rattle.tsp_c.specs.SolutionCall.{SolvesText}
 use Rattle.tsp_c.proofs.solution_call.solution_by.Goals as goal
 
 -- plan: the numbers are small enough, so they say what `hints_of` gives

@@ -1,5 +1,5 @@
 -- The goals of `examples_of_links` in src/examples.rt: what it ensures.
-use Rattle.tsp_cases.proofs.SmallTrees.{row_of_taken, column_of_taken, avoided, second_decision}
+use Rattle.tsp_cases.proofs.SmallCaseTrees.{row_of_taken, column_of_taken, avoided, second_decision}
 use Rattle.tsp_cases.proofs.examples.examples_of_links.Goals as goal
 
 -- plan: an arc is compared with each decision: it is allowed by all, or one forbids it

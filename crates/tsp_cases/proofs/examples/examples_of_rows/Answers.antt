@@ -1,5 +1,5 @@
 -- The goals of `examples_of_rows` in src/examples.rt: what it ensures.
-use Rattle.tsp_cases.proofs.SmallTrees.{none_left, without_decisions, with_arc, without_arc, rounded_up, given_back}
+use Rattle.tsp_cases.proofs.SmallCaseTrees.{none_left, without_decisions, with_arc, without_arc, rounded_up, given_back}
 use Rattle.tsp_cases.proofs.examples.examples_of_rows.Goals as goal
 
 -- plan: the least arc from each node is given, and each other one is forbidden or weighs no less

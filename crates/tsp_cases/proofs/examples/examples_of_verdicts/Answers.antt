@@ -1,7 +1,7 @@
 -- The goals of `examples_of_verdicts` in src/examples.rt: what it ensures.
 use Rattle.std.proofs.Common.{false, true, [], ◌∷◌, refl, inl, inr}
 use Rattle.tsp_cases.specs.Examples.{with_pair, branches, branches_apart, on_both_sides}
-use Rattle.tsp_cases.proofs.SmallTrees.{no_sets, one_tooth, two_teeth, node_twice, teeth_meet, tooth_inside, tooth_outside, lone_set, no_node, all_nodes, lone_node_twice, never_twice}
+use Rattle.tsp_cases.proofs.SmallCaseTrees.{no_sets, one_tooth, two_teeth, node_twice, teeth_meet, tooth_inside, tooth_outside, lone_set, no_node, all_nodes, lone_node_twice, never_twice}
 use Rattle.tsp_cases.proofs.Passes.{first_twice_by_place}
 use Rattle.tsp_cases.proofs.examples.examples_of_verdicts.Goals as goal
 

@@ -7,10 +7,10 @@ use Rattle.tsp_judge.proofs.task_run.perform.Goals as goal
 
 -- plan: by the task: what the call of its verb gives is what the task comes to (`named_by`)
 pub returns-in-Check-clause-done : goal.returns-in-Check-clause-done
-returns-in-Check-clause-done g c = let one = c.run-ended.ensures.answer in let two = one.2 in let left = c.run-ended.new in
+returns-in-Check-clause-done g c = let one = c.check_solution-ended.ensures.answer in let two = one.2 in let left = c.check_solution-ended.new in
     subst (λ task. IsDone g.R.Read.remaining task (Check left.inst left.sol left.certificate c.in-Check.claimed c.in-Check.strict)
     (sink_of g.W.Takes.contents c.args.out.now left.out) c.judged.result) (sym c.in-Check.is)
-    (one.0, one.1, (two.0, two.1, named_by g.R.Read.remaining c.in-Check.certificate left.certificate _ _ (λ given ran. (c.run-ended.result, c.judged.ensures, ran)) two.2))
+    (one.0, one.1, (two.0, two.1, named_by g.R.Read.remaining c.in-Check.certificate left.certificate _ _ (λ given ran. (c.check_solution-ended.result, c.judged.ensures, ran)) two.2))
 
 pub returns-in-Bound-clause-done : goal.returns-in-Bound-clause-done
 returns-in-Bound-clause-done g c = let one = c.run_bound.ensures.answer in let two = one.2 in
@@ -19,8 +19,8 @@ returns-in-Bound-clause-done g c = let one = c.run_bound.ensures.answer in let t
     (one.0, one.1, (two.0, two.1, (c.run_bound.result, c.bounded.ensures, two.2)))
 
 pub returns-in-Check-clause-asked : goal.returns-in-Check-clause-asked
-returns-in-Check-clause-asked g c = let left = c.run-ended.new in
-    subst (λ task. AreReadOn g.R.Gives.gives task (Check left.inst left.sol left.certificate c.in-Check.claimed c.in-Check.strict)) (sym c.in-Check.is) c.run-ended.ensures.asked
+returns-in-Check-clause-asked g c = let left = c.check_solution-ended.new in
+    subst (λ task. AreReadOn g.R.Gives.gives task (Check left.inst left.sol left.certificate c.in-Check.claimed c.in-Check.strict)) (sym c.in-Check.is) c.check_solution-ended.ensures.asked
 
 pub returns-in-Bound-clause-asked : goal.returns-in-Bound-clause-asked
 returns-in-Bound-clause-asked g c =

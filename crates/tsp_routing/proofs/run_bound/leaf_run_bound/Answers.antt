@@ -42,8 +42,8 @@ invariant_of-sum g c =
       few = c.fewest.ensures.size;
     }
 
-pub run_bound-requires : goal.run_bound-requires
-run_bound-requires g c =
+pub bound_of_runs-requires : goal.bound_of_runs-requires
+bound_of_runs-requires g c =
     ∥∥₁_elim c.requires.rules (hlevel props) (λ given.
     let size = subst (λ (o : Option ℤ). IfSome o (IsFromTo (neg_ℤ (pos (2 ^ 83))) (pos (2 ^ 83)))) c.in-Some.is
     (c.in_ok-each.ensures.size given.0 given.1 given.2 given.3 given.4) in
@@ -74,7 +74,7 @@ returns-clause-bound g c = λ near rows are sets priced signs.
     let families = families_with s.crossed.now lists in
     let case = decisions_in c.args.case.now in
     let fits : FitsSigned w64 s.scale = search rules in
-    let bound : ℤ = c.run_bound.result in
+    let bound : ℤ = c.bound_of_runs.result in
     let bound_fits : FitsSigned w128 bound = search rules in
     let each_fits : FitsSigned w128 c.in-Some.each = search rules in
     let limits = c.limits_total-limits.ensures.size in
@@ -118,7 +118,7 @@ returns-clause-bound g c = λ near rows are sets priced signs.
     (sym (to_z-of_z w64 s.scale fits)) least in
     let sized = subst (λ (e : ℤ). IsLeastRun (leaf_rules problem (to_z w64 (of_z w64 s.scale)) s.unit s.units.now.light families numbers near rows) limit e)
     (sym (to_z-of_z w128 c.in-Some.each each_fits)) scaled in
-    let out = c.run_bound.ensures.bound problem s.unit s.units.now.light families case numbers near rows refl
+    let out = c.bound_of_runs.ensures.bound problem s.unit s.units.now.light families case numbers near rows refl
     back (omega (arith, ints, own.0, own.1)) sized in (
       given.0,
       rw (to_z-of_z w128 bound bound_fits)
@@ -195,8 +195,8 @@ overflow_sub-sum-3 g c = c.args.leaf.now.context.now.are.depot_in.0
 
 pub returns-clause-size : goal.returns-clause-size
 returns-clause-size g c =
-    let fits : FitsSigned w128 c.run_bound.result = search rules in
-    rw (to_z-of_z w128 c.run_bound.result fits) c.run_bound.ensures.size
+    let fits : FitsSigned w128 c.bound_of_runs.result = search rules in
+    rw (to_z-of_z w128 c.bound_of_runs.result fits) c.bound_of_runs.ensures.size
 
 pub limits_total-limits-requires-clause-few_families : goal.limits_total-limits-requires-clause-few_families
 limits_total-limits-requires-clause-few_families g c =

@@ -8,11 +8,11 @@ use Rattle.tsp_tool.proofs.form_check.check_texts.Goals as goal
 -- plan: the readers of the check have these texts
 pub returns : goal.returns
 returns g c =
-    let run = c.run.ensures.answer in
-    let first : ReadTrace = read_trace_of (λ s. Some s.now) c.new-first.result c.run.new.inst run.0 in
-    let second : ReadTrace = read_trace_of (λ s. Some s.now) c.new-second.result c.run.new.sol run.2.0 in (
+    let run = c.check_solution.ensures.answer in
+    let first : ReadTrace = read_trace_of (λ s. Some s.now) c.new-first.result c.check_solution.new.inst run.0 in
+    let second : ReadTrace = read_trace_of (λ s. Some s.now) c.new-second.result c.check_solution.new.sol run.2.0 in (
       c.opened_certificate-certificate.result,
-      c.run.new.certificate,
+      c.check_solution.new.certificate,
       c.opened_certificate-certificate.ensures,
       (
         first,
@@ -21,5 +21,5 @@ returns g c =
         (ap (λ s. Some s.now) c.new-second.ensures.inner, c.new-second.ensures.sound),
         run.2.2,
       ),
-      c.run.ensures.asked.2,
+      c.check_solution.ensures.asked.2,
     )

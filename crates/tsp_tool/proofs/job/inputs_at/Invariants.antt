@@ -1,6 +1,6 @@
 -- The loop of `inputs_at` in src/job.rt.
 use Rattle.std.proofs.Common.{◌≡◌, ◌≤◌, take}
-use Rattle.tsp_tool.specs.Tasks.{inputs_at}
+use Rattle.tsp_tool.specs.JobTasks.{inputs_at}
 use Rattle.tsp_tool.proofs.job.inputs_at.Given as goal
 
 -- `count` is how many of the paths before this one are standard input

@@ -3,7 +3,7 @@
 use Rattle.std.proofs.Common.{Result, Ok, Err, OnOk, refl}
 use Rattle.tsp_tool.proofs.Prelude.{Keeps-refl}
 use Rattle.tsp_tool.specs.declared.ends.RunEnd.TheVariants.{Compared, Solved}
-use Rattle.tsp_solution.specs.declared.run.SolutionRunFault.TheVariants.{File}
+use Rattle.tsp_solution.specs.declared.solution_writer.SolutionRunFault.TheVariants.{File}
 use Rattle.tsp_tool.proofs.Openings.{tells_compared, tells_more}
 use Rattle.tsp_tool.proofs.running.run_form_comparison.Goals as goal
 

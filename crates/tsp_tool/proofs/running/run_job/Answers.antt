@@ -10,8 +10,8 @@ use Rattle.tsp_solution.specs.declared.form.Form.{Form}
 use Rattle.tsp_tool.specs.FormCheck.{GivesFormCheck}
 use Rattle.tsp_tool.specs.FormComparison.{GivesFormComparison}
 use Rattle.tsp_tool.specs.ProgramRun.{EndsFormCheck, EndsFormComparison, EndsWith}
-use Rattle.tsp_tool.specs.Solutions.{GivesForm}
-use Rattle.tsp_tool.specs.Tasks.{GivesTask}
+use Rattle.tsp_tool.specs.SolutionJobs.{GivesForm}
+use Rattle.tsp_tool.specs.JobTasks.{GivesTask}
 use Rattle.tsp_tool.specs.declared.ends.RunEnd.{RunEnd}
 use Rattle.tsp_tool.specs.declared.ends.RunEnd.TheVariants.{NoJob, Printed, NoTask, Ended, Compared, Solved}
 use Rattle.tsp_tool.specs.declared.form_check.FormCheck.{FormCheck}

@@ -2,8 +2,8 @@
 use Rattle.std.proofs.Common.{rules, refl, None, Some, ◌≡◌}
 use Rattle.clap.specs.Words.{Text}
 use Rattle.tsp_tool.specs.Grammar.{text_in}
-use Rattle.tsp_tool.specs.Solutions.{AreBothInput}
-use Rattle.tsp_tool.specs.Tasks.{IsInputPathAt}
+use Rattle.tsp_tool.specs.SolutionJobs.{AreBothInput}
+use Rattle.tsp_tool.specs.JobTasks.{IsInputPathAt}
 use Rattle.tsp_tool.specs.declared.solution_run.SolutionTask.{SolutionTask}
 use Rattle.tsp_tool.proofs.solution_run.solution_task_of.Goals as goal
 

@@ -8,7 +8,7 @@ use Rattle.tsp_verdict.proofs.RouteFiles.{steps_hold, steps_few}
 use Rattle.tsp_verdict.proofs.GivenPairs.{given_once, given_are, given_few}
 use Rattle.tsp_verdict.proofs.TreeReasons.{families_hold, families_few, directed_is, symmetric_view, are_of, reported, lists_neither, lists_some, memory_first, tree_finds, tree_numbered}
 use Rattle.tsp_verdict.specs.Certified.{AppliesToCertificate, FindsBound}
-use Rattle.tsp_verdict.specs.Solutions.{IsFirstReason}
+use Rattle.tsp_verdict.specs.SolutionReasons.{IsFirstReason}
 use Rattle.tsp_verdict.specs.states.MemoryReasons.{IsMemoryReason, IsBadFamilyIfAny}
 use Rattle.tsp_verdict.proofs.certificate.judge_tour_tree.Goals as goal
 

@@ -3,7 +3,7 @@
 use Rattle.tsp_verdict.proofs.Prelude.{◌≡◌, true, Some, subst, sym, rules, FitsSigned, MatchOption, w128, to_z-of_z, AreOnPairs, nodes_of, multipliers_in, fixed_of}
 use Rattle.tsp_format.specs.declared.kinds.Kind.TheVariants as kinds
 use Rattle.tsp_verdict.specs.Certificates.{has_wanted, AppliesToPotentials, AreListed}
-use Rattle.tsp_verdict.specs.Solutions.{IsFirstReason}
+use Rattle.tsp_verdict.specs.SolutionReasons.{IsFirstReason}
 use Rattle.tsp_verdict.proofs.FirstReasons.{none_of_tsp, none_of_potentials}
 use Rattle.tsp_verdict.proofs.potentials_certificate.bound_by_nodes.Goals as goal
 

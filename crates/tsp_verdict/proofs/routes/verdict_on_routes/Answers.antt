@@ -1,7 +1,7 @@
 -- The goals of `verdict_on_routes` in src/routes.rt, which judges the routes of a solution: what its calls require and
 -- what it ensures.
 use Rattle.tsp_verdict.proofs.Prelude.{◌≡◌, ◌+◌, Bool, List, map, length, refl, sym, arith, rules, FitsSigned, vec_len, w64, to_z-of_z, Fields, nodes_of, DepotCount}
-use Rattle.tsp_verdict.specs.Solutions.{NoneOfRoutesBefore}
+use Rattle.tsp_verdict.specs.SolutionReasons.{NoneOfRoutesBefore}
 use Rattle.tsp_verdict.proofs.RouteVerdicts.{after_routing, customers_in, IsMarked, is_marked, repeated_first, unserved_first, all_served, none_unserved, overload_first, is_planned}
 use Rattle.tsp_verdict.proofs.RouteFiles.{as_many}
 use Rattle.tsp_verdict.proofs.routes.verdict_on_routes.Goals as goal

@@ -2,7 +2,7 @@
 -- what it ensures.
 use Rattle.tsp_verdict.proofs.Prelude.{◌≡◌, ℕ, true, refl, rules, subst, sym, w64, FitsSigned, Some, None, to_z-of_z, ℤ, nodes_of, is_tour_file, is_directed, Dimension}
 use Rattle.tsp_report.specs.declared.verdict.Verdict.TheVariants.{Tour}
-use Rattle.tsp_verdict.specs.Solutions.{IsTourVerdict}
+use Rattle.tsp_verdict.specs.SolutionReasons.{IsTourVerdict}
 use Rattle.tsp_verdict.proofs.KnownBounds.{up_to_dimension}
 use Rattle.tsp_verdict.proofs.TourVerdicts.{after_dimension, unused_first, is_yes}
 use Rattle.tsp_verdict.proofs.solution_verdict.verdict_on_tour.Goals as goal

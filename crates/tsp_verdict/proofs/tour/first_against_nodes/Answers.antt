@@ -1,7 +1,7 @@
 -- The goals of `first_against_nodes` in src/tour.rt, which finds the first reason against the nodes of a tour: what it
 -- ensures.
 use Rattle.tsp_verdict.proofs.Prelude.{List, ℕ, ◌≤◌, subst, rules, All, Fields, nodes_of}
-use Rattle.tsp_verdict.specs.Solutions.{NoneOfTourBeforeRepeats}
+use Rattle.tsp_verdict.specs.SolutionReasons.{NoneOfTourBeforeRepeats}
 use Rattle.tsp_verdict.proofs.TourVerdicts.{cycle_found, larger_first, none_up_to_repeats, repeated_first}
 use Rattle.tsp_verdict.proofs.tour.first_against_nodes.Goals as goal
 

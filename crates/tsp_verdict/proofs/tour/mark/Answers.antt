@@ -2,7 +2,7 @@
 -- range, its loop and what it ensures.
 use Rattle.std.proofs.Common.{◌≡◌, ◌<◌, ◌+◌, ℕ, true, false, length, get_or, sym, subst, arith}
 use Rattle.tsp_theory.specs.First.{IsFirstPlace}
-use Rattle.tsp_verdict.specs.Solutions.{IsAtEarlierPlace}
+use Rattle.tsp_verdict.specs.SolutionReasons.{IsAtEarlierPlace}
 use Rattle.tsp_verdict.proofs.TourVerdicts.{mark_next, repeated_next, mark_is}
 use Rattle.tsp_verdict.proofs.tour.mark.Goals as goal
 

@@ -1,6 +1,6 @@
 -- The goals of `the_tour` in src/tour.rt, which returns the one tour of a solution, or a reason: what it ensures.
 use Rattle.tsp_verdict.proofs.Prelude.{◌≡◌, List, ℕ, ◌∷◌, [], length, sym, ap, ◌∙◌, arith, nodes_of}
-use Rattle.tsp_verdict.specs.Solutions.{tours_of}
+use Rattle.tsp_verdict.specs.SolutionReasons.{tours_of}
 use Rattle.tsp_verdict.proofs.TourVerdicts.{one_tour, tour_found}
 use Rattle.tsp_verdict.proofs.tour.the_tour.Goals as goal
 

@@ -3,7 +3,7 @@
 use Rattle.tsp_branch.proofs.Prelude.{arith, ℕ, ℤ, IfOk-weaker, lent_in, set_weight, decisions_in}
 use Rattle.tsp_theory.proofs.Trees.{growth_is_forest}
 use Rattle.tsp_branch.specs.states.LeafRows.{decided_by}
-use Rattle.tsp_bound.specs.declared.tree.Grown.{Grown}
+use Rattle.tsp_bound.specs.declared.prim.Grown.{Grown}
 use Rattle.tsp_branch.proofs.leaf_rows.CaseLeafGrowing.grow.Goals as goal
 
 -- plan: the tree that grows by Prim's method is a forest of least joins over all nodes (`growth_is_forest`)

@@ -1,6 +1,6 @@
--- The goals of `Reading::take_run` in src/runs.rt, which takes the words of a part of a text, in the open section:
--- what it ensures.
-use Rattle.tsp_read.proofs.RunSteps.{opened_run}
+-- The goals of `Reading::take_run` in src/plain_numbers.rt, which takes the words of a part of a text, in the open
+-- section: what it ensures.
+use Rattle.tsp_read.proofs.PlainNumbers.{opened_run}
 use Rattle.tsp_read.proofs.reading.Reading.take_run.Goals as goal
 
 -- plan: the part that takes the run is that of the open section (`opened_run`)

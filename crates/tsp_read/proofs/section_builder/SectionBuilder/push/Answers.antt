@@ -2,7 +2,7 @@
 -- ensures.
 use Rattle.std.proofs.Common.{refl}
 use Rattle.tsp_read.specs.declared.section_builder.SectionBuilder.TheVariants as parts
-use Rattle.tsp_read.proofs.RunSteps as steps
+use Rattle.tsp_read.proofs.PlainNumbers as steps
 use Rattle.tsp_read.proofs.section_builder.SectionBuilder.push.Goals as goal
 
 -- plan: by the section: the part takes or refuses the word as `push` of the section's list does (`steps`)
