@@ -1,2 +1,2 @@
 -- The lemma file of the example. No crate is above this one.
-pub mod OnTexts
+mod OnTexts

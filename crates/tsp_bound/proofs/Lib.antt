@@ -2,9 +2,9 @@
 -- Lowest) and lists (Listing). Proofs in tsp_verdict import LoweredWeights and RoundJoins; the other files are for this
 -- crate.
 mod Prelude
-pub mod GrowingTrees
-pub mod Searches
+mod GrowingTrees
+mod Searches
 pub mod RoundJoins
-pub mod Listing
+mod Listing
 pub mod LoweredWeights
-pub mod Lowest
+mod Lowest

@@ -1,6 +1,6 @@
 -- Lemmas on leaves, over boxes and over rows (BoxedLeaves, CaseLeaves), and on the verdict that is put together from
 -- them (Judging), which proofs in tsp_verdict use, too.
 mod Prelude
-pub mod BoxedLeaves
-pub mod CaseLeaves
+mod BoxedLeaves
+mod CaseLeaves
 pub mod Judging

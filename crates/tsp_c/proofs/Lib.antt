@@ -1,7 +1,7 @@
 -- Lemmas on calls on texts (NamedTexts, PickedRuns), on calls on a handle (HandleCalls), and on results in numbers
 -- (InNumbers). No other crate uses tsp_c.
 mod Prelude
-pub mod HandleCalls
+mod HandleCalls
 mod NamedTexts
 mod PickedRuns
 mod InNumbers

@@ -2,14 +2,14 @@
 -- (the others; Solutions has those that hold of any kind of solution). Proofs in tsp_branch, tsp_routing and tsp_verdict import them, too.
 mod Prelude
 pub mod PartWalks
-pub mod LeastCycles
-pub mod Divisions
-pub mod SmallFamilies
+mod LeastCycles
+mod Divisions
+mod SmallFamilies
 pub mod Solutions
-pub mod CaseLaws
+mod CaseLaws
 pub mod CaseTrees
 pub mod FamilyCrossings
-pub mod SmallCaseTrees
+mod SmallCaseTrees
 pub mod SetSums
 pub mod OpenCases
 pub mod Passes

@@ -2,10 +2,10 @@
 -- above needs of them is public.
 mod Prelude
 pub mod ValidFields
-pub mod SeenLists
+mod SeenLists
 pub mod TextLengths
 pub mod FileFields
 pub mod Relaid
-pub mod Spread
+mod Spread
 pub mod FieldLengths
-pub mod WrittenLines
+mod WrittenLines

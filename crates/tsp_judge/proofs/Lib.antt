@@ -2,6 +2,6 @@
 -- (NamedReaders). Proofs in tsp_c use some.
 mod Prelude
 pub mod Bounding
-pub mod Comparing
-pub mod NamedReaders
+mod Comparing
+mod NamedReaders
 pub mod Yeses

@@ -1,11 +1,11 @@
 -- Lemmas for the functions and laws of this crate, from roots (Distances, Comparisons) to number words (the others). No
 -- contract names one, so only proofs depend on them, here and in tsp_read and tsp_file.
 mod Prelude
-pub mod Distances
-pub mod Comparisons
+mod Distances
+mod Comparisons
 pub mod NumberGrammar
 pub mod Scaling
 pub mod Spelled
 pub mod WordLaws
-pub mod EightDigits
-pub mod FrontNumbers
+mod EightDigits
+mod FrontNumbers

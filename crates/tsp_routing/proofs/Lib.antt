@@ -6,21 +6,21 @@ mod Prelude
 pub mod Plans
 pub mod CutNeeds
 pub mod PlanBounds
-pub mod RunBounds
-pub mod RunJudging
-pub mod JudgedLists
+mod RunBounds
+mod RunJudging
+mod JudgedLists
 pub mod SmallCases
-pub mod KeptStarts
-pub mod WaysHome
-pub mod MemoryWords
-pub mod RunSteps
-pub mod NextEntries
-pub mod GivenTables
-pub mod KeptLists
-pub mod KeptCounts
-pub mod Floors
-pub mod LeastRuns
-pub mod RouteProducts
-pub mod PlanJudging
-pub mod PlanVerdicts
-pub mod QRouteRests
+mod KeptStarts
+mod WaysHome
+mod MemoryWords
+mod RunSteps
+mod NextEntries
+mod GivenTables
+mod KeptLists
+mod KeptCounts
+mod Floors
+mod LeastRuns
+mod RouteProducts
+mod PlanJudging
+mod PlanVerdicts
+mod QRouteRests

@@ -9,6 +9,6 @@ pub mod ValidRows
 pub mod Sections
 pub mod ValidItems
 pub mod ValidCuts
-pub mod ValidTree
-pub mod ValidMemory
-pub mod EachOnce
+mod ValidTree
+mod ValidMemory
+mod EachOnce

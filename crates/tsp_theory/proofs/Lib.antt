@@ -6,5 +6,5 @@ pub mod Neighbours
 pub mod Cycles
 pub mod Exchange
 pub mod Trees
-pub mod SmallTrees
+mod SmallTrees
 pub mod First

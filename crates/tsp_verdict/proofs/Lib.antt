@@ -2,14 +2,14 @@
 -- routes (RouteFiles, RouteVerdicts) and bounds (CarriedBounds), and that files have one verdict (OneVerdict). Proofs
 -- in tsp_judge and tsp_c import KnownBounds and Unjudged; the other files are for this crate.
 mod Prelude
-pub mod CarriedBounds
-pub mod FirstReasons
-pub mod RouteFiles
-pub mod TourVerdicts
+mod CarriedBounds
+mod FirstReasons
+mod RouteFiles
+mod TourVerdicts
 pub mod KnownBounds
-pub mod GivenPairs
-pub mod RouteVerdicts
-pub mod TreeReasons
-pub mod OneReason
+mod GivenPairs
+mod RouteVerdicts
+mod TreeReasons
+mod OneReason
 pub mod Unjudged
 mod OneVerdict
