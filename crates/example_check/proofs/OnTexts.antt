@@ -1,4 +1,5 @@
--- For src/report.rt: what `yes` of a run on readers means for the texts that they read.
+-- If a run on readers says `yes`, what this means for the texts that the readers deliver (`accepted_on`). For
+-- src/report.rt.
 use Rattle.std.proofs.Common.{◌≡◌, ℕ, List, [], ◌⊎◌, subst, sym}
 use Rattle.std.specs.Prelude.{Option, None, Some, IfSome, false}
 use Rattle.std.specs.Io.KnownBytes.{Appends}

@@ -1,4 +1,5 @@
--- Prim's algorithm in src/prim.rt: the nodes outside, the nearest node inside for each, and one node more.
+-- Prim's algorithm in src/prim.rt: what is known of the tree so far (`IsState`), of the nearest node inside for each
+-- node outside (`IsPassed`), and of the tree with one more node.
 use Rattle.tsp_bound.proofs.Prelude.{◌≡◌, ◌≢◌, ℕ, ◌+◌, ◌-◌, ◌<◌, ◌≤◌, ◌==◌, List, [], length, slice_index, get_or, inl, inr, refl, ap, sym, subst, ◌∙◌, arith, Bool, true, false, ◌∷◌, ◌++◌, length-append, set, cases_eq, eq-eqb, ne_eqb, or_parts, or_cases, eqb-true, eqb-false, ints, get_or-set_same, get_or-set_other, get_or-take, get_or_default, length-take-le, length-set, ℤ, pos, ◌≤ℤ◌, ◌<ℤ◌, ◌⊎◌, if◌then◌else◌, ◌+ℤ◌, weight_added, most_64, grows_more, grown_by_more, IsInner, weight_of, and_node, IsLeastLeaving, Grows, grown_by, least_at, IsNearer}
 use Rattle.std.specs.List.{swap_remove}
 use Rattle.tsp_theory.proofs.Exchange.{and_node_self, and_node_old}

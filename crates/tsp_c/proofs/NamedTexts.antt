@@ -1,4 +1,5 @@
--- For src/picked_runs.rt: a certificate that may be named, whose reader delivers a text in memory.
+-- A certificate that a C call may name, whose reader delivers a text in memory: a statement on the text is one on its
+-- reader (`named_text`). For src/picked_runs.rt.
 use Rattle.tsp_c.proofs.Prelude.{◌≡◌, ℕ, List, [], Option, None, Some, refl, sym, ap, subst, false, ReadTrace, CertificateKind, Given}
 use Rattle.std.specs.Prelude.{MatchOption}
 use Rattle.tsp_io.specs.declared.watched.Watched.{Watched}

@@ -1,4 +1,5 @@
--- Small trees of cases, rows and verdicts for src/examples.rt, evaluated.
+-- The trees in src/examples.rt, worked out: pairs on which a tree branches once or twice, links that decisions close,
+-- bounds of leaves with three nodes, and families that are good or not.
 use Rattle.tsp_cases.proofs.Prelude.{◌≡◌, ℕ, Bool, true, false, List, [], ◌∷◌, refl, arith, zero, suc, ◌+◌, ◌-◌, ◌<◌, ◌≤◌, ◌==◌, ◌&&◌, ◌||◌, not, leb, length, ℤ, ◌≤ℤ◌, inl, inr, subst, ◌≢◌, sym, both_ways, cases_eq, and_parts, or_cases, leb-true, eqb-true, eqb-false, not-true, ints, All-from_recursion, recursion_from_All, All-nil, All-head, All-tail, AllPairs-cons, list_all, range_with_len, pos, ◌*ℤ◌, ◌+ℤ◌, slice_index_or, IsNode, nodes_to, weight_between, IsInner, IsLeastOneTree, and_node, Grows, grown_by, AreNearest, tree_of}
 use Rattle.std.proofs.lemmas.Float.{T_from_true}
 use Rattle.std.specs.Int.Signed.{le_z, le_z_yes}

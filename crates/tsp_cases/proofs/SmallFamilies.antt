@@ -1,4 +1,5 @@
--- Small families and bounds for src/examples.rt, evaluated.
+-- The families in src/examples.rt, worked out: which are too many sets, or no family since a set has a node twice or
+-- all nodes, how often the others are crossed, and the bounds of leaves with four and six nodes.
 use Rattle.tsp_cases.proofs.Prelude.{◌≡◌, ◌≢◌, ℕ, ◌+◌, ◌-◌, ◌≤◌, Bool, true, false, [], ◌∷◌, inl, inr, refl, sym, arith, subst, ◌∙◌, ◌⊎◌, suc, not, cond, List, length, ◌+ℤ◌, ◌≤ℤ◌, ap, ◌==◌, ◌||◌, ap₂, both_ways, eq-eqb, ne_eqb, cases_eq, or_cases, eqb-true, ints, All-from_recursion, All-nil, AllPairs-cons, All, range_with_len, Any, pos, ℤ, ◌*ℤ◌, replicate, slice_index, slice_index_or, IsNode, none_or_one, IsCycle, length_of, crossing, weight_of, tree_of}
 use Rattle.std.proofs.Math.Nat.{min_comm, max_comm}
 use Rattle.std.proofs.lemmas.List.FromFn.{length-range_with_len, get_or-range_with_len, length-map-range_with_len, get_or-map-range_with_len}

@@ -1,5 +1,5 @@
--- Of runs in which a certificate may be named (src/check_run.rt, src/compare_run.rt, src/task_run.rt and src/api.rt):
--- what is said of its reader follows from a stronger statement, and holds if the reader isn't asked.
+-- Runs in which a certificate may be named (src/check_run.rt, src/compare_run.rt, src/task_run.rt and src/api.rt): a
+-- statement on the certificate's reader follows from a stronger one, and holds if nobody asks the reader.
 use Rattle.tsp_judge.proofs.Prelude.{ℕ, List, [], Option, None, Some, Result, refl, Keeps-refl, read_none, CertificateKind}
 use Rattle.std.specs.declared.io.Error.{Error}
 use Rattle.tsp_io.specs.declared.watched.Watched.{Watched}

@@ -1,4 +1,5 @@
--- Coordinates by node, one word more, for `PointList` in src/node_sections.rt.
+-- One more word in a section of coordinates: `PointList` in src/node_sections.rt takes a node (`node_taken`) or a
+-- coordinate (`number_taken`), or the word is the first fault. GroupSteps.antt has what holds of any section by node.
 use Rattle.tsp_read.proofs.Prelude.{◌≡◌, ℕ, ◌+◌, ◌-◌, ◌<◌, Bool, true, false, List, [], ◌∷◌, ◌++◌, length, map, set, refl, sym, ap, ap₂, subst, ◌∙◌, Option, None, Some, Ok, Err, arith, false≢true, ℤ, ◌==◌, nat_lt, replicate, decimal_of, whole_of, Point, NumberFault, Words, place_by, word_fault, point_in, space_point_in, coords_by_node, number_value, place_of_number, number, is_minus_one, Coordinate, Amount, wants_more, LineFault}
 use Rattle.tsp_number.specs.Distances.{on_plane}
 use Rattle.tsp_number.specs.declared.decimal.PlanePoint.{PlanePoint}

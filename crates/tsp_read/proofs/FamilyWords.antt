@@ -1,4 +1,5 @@
--- Families, written and read back. Part of the proof of the law `canonical_texts_are_read_back`.
+-- The words in which families are written, up to the -1 that ends the section (`families_words`), are read back as the
+-- families. Part of the proof of the law `canonical_texts_are_read_back`.
 use Rattle.tsp_read.proofs.Prelude.{◌≡◌, ℕ, suc, ◌+◌, ◌^◌, ◌<◌, ◌≤◌, Bool, true, false, cond, List, [], ◌∷◌, ◌++◌, length, map, refl, sym, ap, subst, ◌∙◌, append_assoc, append-nil, arith, None, Result, and_parts, and_left, and_right, leb-true, not_from_true, false≢true, and_from, length-append, list_all-append, sum_by-cons, decimal, signed_decimal, list_all, flat_map, sum_by, ℤ, not, ◌&&◌, ◌||◌, nat_le, nat_abs, codes, result_err, NumberFault, most_families, most_family_nodes, most_rows, most_branches, most_changes, most_difference, Step, Branch, Leaf, are_whole, branch_count, change_count, within_abs, line_end, number_line, before_blank, ended_line, set_line, family_lines, family_list, change_words, step_line, case_tree_lines, is_node, is_set_of, are_sets, are_family_lists, is_within, is_change, is_step, are_tree_steps, word_fault, is_past_families, FamiliesSoFar, no_families, with_node, with_end, with_family_word, whole_families, place_in_families, place_of_family, is_not_empty, number, node_or_end, is_end, SetNode, wants_more}
 use Rattle.tsp_read.proofs.NumbersReadBack.{NumberLaws, listed_back, node_goes_on, end_read, end_ends, no_rows, has_room, signed_plain, are_branch}
 use Rattle.tsp_read.proofs.Onto.{AllTaken, Runs, runs_none, runs_one, runs_then, all_taken}

@@ -1,4 +1,5 @@
--- One word more of a section by node: the node of a group, or a word of its value, for src/node_sections.rt.
+-- One more word in any section by node (src/node_sections.rt): the node that begins a group, or a word of the group's
+-- value, is taken or is the first fault. CoordSteps.antt adds what points need.
 use Rattle.tsp_read.proofs.Prelude.{◌≡◌, ℕ, zero, suc, ◌+◌, ◌-◌, ◌*◌, ◌<◌, ◌≤◌, Bool, true, false, List, [], ◌∷◌, ◌++◌, length, map, set, get_or, refl, sym, ap, subst, ◌∙◌, Option, None, Some, Ok, Err, arith, ℤ, pos, ◌==◌, nat_lt, replicate, option_map, lt-leb, le-leb, map_push, length_push, length-map, take-append-le, nat_tests, LineFault, number, node, is_minus_one, Place, NodeAfter, PastGroups, groups_in, begun_in, word_at, node_groups, nodes_of_groups, place_by_node, by_node, wants_more, word_fault, Words, length_groups, begun_short, goes_on, group_ends, all_groups}
 use Rattle.tsp_text.specs.declared.fault.LineFault.TheVariants as row
 use Rattle.tsp_read.specs.states.Parts.{AreReadAs, IsNewNode, NodesHold, GroupsHold}

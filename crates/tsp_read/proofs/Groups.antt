@@ -1,4 +1,5 @@
--- Sections by node, written and read back. Part of the proof of the law `canonical_texts_are_read_back`.
+-- The words in which a section by node is written, a node and its value in each group (`entry_words`), are read back as
+-- the values. Part of the proof of the law `canonical_texts_are_read_back`.
 use Rattle.tsp_read.proofs.Prelude.{◌≡◌, ℕ, suc, zero, ◌+◌, ◌*◌, ◌^◌, ◌<◌, ◌≤◌, Bool, true, false, cond, List, [], ◌∷◌, ◌++◌, length, map, refl, sym, ap, ◌∙◌, arith, Some, None, Result, ap₂, Ok, and_from, and_parts, le-leb, lt-leb, or_from, ne_eqb, false_from_ne_true, Decides-int_eq, length_push, length-append, map_push, decimal, signed_decimal, list_all, list_any, flat_map, enumerate_from, range_with_len, int_eq, ℤ, pos, ◌==◌, nat_le, unwrap_or, unsigned_abs, ◌&&◌, result_err, whole_of, decimal_of, spelling, Point, NumberFault, most_coordinate, within_abs, is_from_to, is_node, is_within, is_point, Words, goes_on, all_groups, nodes_read, groups_append, begun_append, word_fault, groups_in, begun_in, word_at, node_groups, number_value, entry_of, by_node, place_in_group, place_by_node, nodes_of_groups, point_in, space_point_in, number, node, reads_as, Place, NodeAfter, Amount, PastGroups, Coordinate, wants_more}
 use Rattle.std.proofs.lemmas.List.FromFn.{map-range_with_len_more}
 use Rattle.tsp_format.specs.Nodes.{nodes_to}

@@ -1,4 +1,5 @@
--- Items taken from a piece one after the other, and line ends, for `Intake` in src/items.rt.
+-- What `Intake` in src/items.rt has read after one more item of a piece: the item (`read_further`), the end of the text
+-- (`read_to_end`) or a fault (`read_to_fault`); and that the end of a line changes nothing (`line_ends`).
 use Rattle.tsp_read.proofs.Prelude.{◌≡◌, ℕ, Bool, true, false, List, [], ◌∷◌, ◌++◌, reverse, refl, sym, ap, subst, ◌∙◌, Option, Some, None, Ok, Err, append-nil, append_assoc, true≢false, false≢true, eqb-true, and_parts, or_from, none-some, list_all, ◌||◌, cond, is_some, take, most_file_bytes, is_blank, Field, Known, EdgeDataFormat, EdgeDataSection, Eof, Unknown, long_row, long_fault, same_fault, clean_more, rows_of_word, long_line, clean_parts, open_section, words_of, spatial_after, place_in, dimension_in, row_of, ends_line, Item, Line, NumberWord, LineEnd, settled_items, is_end_line, has_end_line, words_before, word_number, to_end_line, IsClean, part, settled_part, LineFault, ReadFault}
 use Rattle.tsp_text.specs.declared.fault.LineFault.TheVariants as row
 use Rattle.tsp_text.specs.declared.fault.ReadFault.TheVariants as faults

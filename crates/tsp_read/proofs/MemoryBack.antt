@@ -1,4 +1,5 @@
--- Memories and subset rows, written and read back. Part of the proof of the law `canonical_texts_are_read_back`.
+-- The words in which memories and subset rows are written are read back as the lists (`memories_back`) and the rows
+-- (`rows_back`). Part of the proof of the law `canonical_texts_are_read_back`.
 use Rattle.tsp_read.proofs.Prelude.{◌≡◌, ℕ, suc, ◌+◌, ◌^◌, ◌<◌, ◌≤◌, Bool, true, false, cond, List, [], ◌∷◌, ◌++◌, length, map, refl, sym, ap, subst, ◌∙◌, append_assoc, append-nil, arith, Result, and_parts, leb-true, length-append, sum_by-cons, decimal, list_all, flat_map, sum_by, ℤ, ◌&&◌, ◌||◌, nat_le, nat_abs, codes, NumberFault, most_rows, most_family_nodes, SubsetRow, row_size, set_line, family_lines, row_lines, row_list, is_node, is_set_of, are_memory_lists, is_row_of, are_subset_rows, MemoriesSoFar, no_memories, with_memory_node, with_list_end, with_memory_word, whole_memories, place_in_memories, place_of_memory, RowsSoFar, no_subset_rows, row_with, with_row_node, with_row_end, with_row_word, whole_rows, place_in_rows, place_of_row, is_not_empty, number, node_or_end, wants_more}
 use Rattle.tsp_read.proofs.FamilyWords.{set_words, family_words, node_taken, end_taken, filled, nodes_plain, ended_written, set_written}
 use Rattle.tsp_read.proofs.NumbersReadBack.{NumberLaws, listed_back, node_goes_on, end_ends, has_room}

@@ -1,4 +1,5 @@
--- One item more in src/reading.rt: lines that open and close sections, words, and the end of the text.
+-- What `Reading` in src/reading.rt has after one more item: a line that opens or closes a section (`opened_fields`), a
+-- word of the open section (`word_answer`), or the end of the text (`end_is`).
 use Rattle.tsp_read.proofs.Prelude.{◌≡◌, Bool, true, false, cond, List, [], ◌∷◌, refl, sym, ap, ◌∙◌, Option, Some, None, subst, ◌++◌, Result, Ok, Err, set, get_or, length, false≢true, find, filter, option_map_or, option_map, not, ◌&&◌, ◌||◌, is_some, ℕ, nat_lt, nat_le, is_section_field, shape_of, most_line_bytes, most_comments, most_others, Field, NodeCoordPart, NameKey, CommentKey, OtherKey, Known, EdgeDataFormat, EdgeDataSection, Eof, Unknown, Shape, Points, SpacePoints, Fields, fields_of, clean_more, same_field_is, same_self, rows_of_word, words_more, same_field, has_line, open_section, words_of, spatial_after, dimension_in, place_by, place_in, values_at, others_in, word_fault, row_of, when, first_row, is_too_long_to_keep, coords_by_node, Item, AreCut, WordLine, Line, NumberWord, PastEnd, spelled, fault_at_end, fields_by, is_incomplete, sections_in_order, LineFault}
 use Rattle.std.proofs.Math.Logic.{∥∥₁_elim}
 use mathlib.Core.Bool.{Bool-set}

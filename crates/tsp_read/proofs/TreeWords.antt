@@ -1,4 +1,5 @@
--- The steps of a tree, written and read back. Part of the proof of the law `canonical_texts_are_read_back`.
+-- The words in which the steps of a tree are written (`step_words`) are read back as the steps (`steps_back`). Part of
+-- the proof of the law `canonical_texts_are_read_back`.
 use Rattle.tsp_read.proofs.Prelude.{◌≡◌, ℕ, zero, suc, ◌+◌, ◌-◌, ◌^◌, ◌<◌, ◌≤◌, true, false, cond, List, [], ◌∷◌, ◌++◌, length, refl, sym, ap, subst, ◌∙◌, append_assoc, append-nil, arith, None, Some, Result, Ok, ℤ, pos, neg_ℤ, not, ◌&&◌, ◌==◌, nat_le, nat_abs, codes, result_err, list_all, flat_map, decimal, signed_decimal, and_from, and_parts, and_left, and_right, leb-true, le-leb, eqb-true, false_from_ne_true, not_from_true, false≢true, NumberFault, whole_of, most_families, most_rows, most_branches, most_changes, most_difference, Step, Branch, Leaf, are_whole, branch_count, change_count, within_abs, is_within, is_node, is_branch_of, is_change, is_step, are_tree_steps, change_words, number, reads_as, whole_of_size, StepAfter, IndexAfter, Amount, PastGroups, TreeSoFar, no_steps, index_or_leaf, begins_leaf, index_or_end, ends_leaf, with_leaf, with_word_of, with_tree_word, whole_steps, place_in_step, place_in_tree, place_of_step, word_fault, wants_more}
 use Rattle.std.proofs.lemmas.Fmt.{decimal_digit}
 use Rattle.tsp_read.proofs.NumbersReadBack.{NumberLaws, node_back, listed_back, node_goes_on, end_read, end_ends, no_zero, no_rows, has_room, second_taken, are_branch}

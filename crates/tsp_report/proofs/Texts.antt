@@ -1,4 +1,5 @@
--- For src/report.rt, src/compared.rt and src/shown.rt: the lines of reports, put together.
+-- Reports are written part by part: what the writes in src/report.rt, src/compared.rt and src/shown.rt append is the
+-- text of the whole line or report (`two_parts`, `then_named`).
 use Rattle.tsp_report.proofs.Prelude.{◌≡◌, ℕ, ◌+◌, ◌<◌, List, [], ◌∷◌, ◌++◌, length, take, map, get_or, false, Some, refl, sym, ap, subst, ◌∙◌, append-nil, append_assoc, arith, Option, None, length-map, get_or-map, flat_map, enumerate_from, codes, ◌==◌, IsTrue, carried_then, carried_node, Way, Carried}
 use Rattle.std.proofs.lemmas.Bool.{false≢true}
 use Rattle.tsp_format.specs.declared.kinds.Kind.{Kind}

@@ -1,4 +1,5 @@
--- For src/kept_states.rt: the floors of lists, while they are made.
+-- The floors that src/kept_states.rt keeps: no entry of a list weighs less than the list's floor, also after one more
+-- entry (`floor_one_more`) or list (`floors_one_more`).
 use Rattle.tsp_routing.proofs.Prelude.{◌≡◌, ◌<◌, ◌+◌, ◌++◌, ◌∙◌, ℕ, ℤ, zero, suc, List, [], ◌∷◌, take, pos, length, get_or, sym, ap, subst, arith, inl, inr, ◌≤ℤ◌, Vec, ints, cases_eq, take_more, All-push, All-weaker, get_or_push, get_or_append_left, length-append}
 use Rattle.tsp_routing.specs.declared.kept_states.KeptState.{KeptState}
 use Rattle.tsp_routing.specs.states.KeptLists.{IsFloor, IsFloorRow, AreFloors}

@@ -1,4 +1,5 @@
--- For src/plan_verdict.rt: which families are sets of customers, the first that isn't, and the pass over the leaves.
+-- For src/plan_verdict.rt: the families so far are sets of customers with their numbers (`HaveCuts`, `good_so_far`),
+-- the numbers of a leaf are good as they are read (`plan_numbers_read`), and one pass goes over all leaves.
 use Rattle.tsp_routing.proofs.Prelude.{◌≡◌, ◌≢◌, ℕ, zero, suc, ◌+◌, ◌≤◌, ◌<◌, ◌==◌, Bool, true, false, List, [], ◌∷◌, length, get_or, refl, sym, ap, ◌∙◌, subst, arith, inl, inr, ◌^◌, ◌++◌, length-append, ◌-◌, take, drop, cases_Bool, both_ways, or_left, or_right, eq-eqb, cases_lt, ints, get_or_append_left, get_or_push, get_or_default, get_or-map, length-map, take-append-drop, recursion_from_All, All-from_recursion, All-append, All-weaker, Vec, All, range_with_len, AllByRecursion, ℤ, pos, if◌then◌else◌, ◌≤ℤ◌, Some, replicate, Option, None, neg_ℤ, most_potential, most_demand, IsNode, nodes_to, are_whole, IsFromTo, IsScale, sum_int_by, IsCustomer, RoutingProblem, demand_of, whole_trees, IsAbove, IsLeastFound, LeafNumbers, has, AreSetsOf, lists_of, families_in, HasEachOnce, IsFamily, family_with, families_with, BeginsWithin, branch_pairs, as_leaf_numbers, IsStepOf, split_at, no_numbers_of, listed_steps, Crossings, Decision}
 use Rattle.tsp_format.specs.Steps as listed
 use Rattle.tsp_cases.specs.JudgedLeaves.{IsFoundOfCase}

@@ -1,4 +1,5 @@
--- For src/least_q_route.rt: the entries of the table of q-routes are the least weights on from a node.
+-- For src/least_q_route.rt: each entry of its table is the least weight of the rest of a q-route from a node
+-- (`entry_low`), and so its start finds the least q-route (`start_low`, `start_exact`).
 use Rattle.tsp_routing.proofs.Prelude.{◌≡◌, ℕ, zero, suc, ◌<◌, List, [], ◌∷◌, ◌++◌, length, get_or, refl, arith, ◌≢◌, ◌-◌, ◌*◌, ◌≤◌, ◌==◌, sym, ap, ◌∙◌, subst, inl, inr, ◌+◌, add-one, suc-mul, mul-le-mul_right, cases_Bool, both_ways, eqb-true, eq-eqb, cases_eq, ints, recursion_from_All, All-from_recursion, Option, None, Some, MatchOption, if◌then◌else◌, ℤ, pos, ◌+ℤ◌, ◌≤ℤ◌, ◌⊎◌, neg_ℤ, IsNode, IsFromTo, sum_int_by, length_of, IsCustomer}
 use Rattle.tsp_routing.specs.QRoutes.{IsLeastAmong, BeginsOther, IsQRoute, IsBelowQRoutes, onward_weight, IsQRouteRest, first_or_depot, QRouteEntry, least_from, IsAtMost, IsEntryBelowTo, IsStartBelow, IsLow, IsReal, IsStepTo, IsEntryMetTo, IsMet, IsStartMet}
 use Rattle.tsp_routing.specs.declared.least_q_route.Onward.{Onward}

@@ -1,4 +1,5 @@
--- For src/run_leaf.rt: the numbers of its table are completions.
+-- Each number in the table of src/run_leaf.rt is the completion that specs/KeptStates.antt defines: the least weight of
+-- a way home from a node with a load (`way_completes`).
 use Rattle.tsp_routing.proofs.Prelude.{◌≡◌, ◌≢◌, ℕ, ◌+◌, zero, suc, ◌-◌, ◌*◌, ◌≤◌, ◌<◌, List, [], ◌∷◌, ◌++◌, length, get_or, refl, sym, ap, ◌∙◌, subst, arith, inl, inr, ◌⊎◌, ℤ, pos, neg_ℤ, ◌+ℤ◌, ◌≤ℤ◌, ◌<ℤ◌, slice_index_or, Vec, ints, cases_eq, IsNode, IsCustomer, least_at}
 use Rattle.tsp_routing.specs.PlanBounds.{most_link}
 use Rattle.tsp_routing.specs.Runs.{RunRules, MayServe}

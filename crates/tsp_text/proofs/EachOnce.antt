@@ -1,4 +1,5 @@
--- A complete section by node has each node once: the law `each_node_has_one_group`.
+-- If a section by node is complete, each node has exactly one group in it (`each_once`), as the law
+-- `each_node_has_one_group` says.
 use Rattle.tsp_text.proofs.Prelude.{◌≡◌, ◌≢◌, ℕ, zero, suc, ◌-◌, ◌<◌, ◌≤◌, true, false, List, [], ◌∷◌, ◌++◌, length, map, sym, ap, subst, ◌∙◌, arith, None, ◌+◌, ◌*◌, Bool, cond, refl, take, true≢false, and_parts, or_parts, leb-true, false≢true, le-leb, leb-false, Decides-int_eq, length_push, length-map, length-take-le, take_all, take-append-le, map_push, AllByRecursion, Contains, list_any, remove, option_map, nat_le, ℤ, pos, ◌==◌, neg_ℤ, result_err, most_demand, most_potential, Field, NameKey, TypeKey, CommentKey, OtherKey, DimensionKey, CapacityKey, ScaleKey, LoadUnitKey, EdgeWeightTypeKey, EdgeWeightFormatKey, NodeCoordTypeKey, DisplayDataTypeKey, NodeCoordPart, DisplayDataPart, DemandPart, DepotPart, FixedEdgesPart, EdgeWeightPart, TourPart, NodePotentialPart, RowPotentialPart, ColumnPotentialPart, FixedEdgePotentialPart, FamilyPart, MemoryPart, SubsetRowPart, BranchPart, is_node}
 use Rattle.std.proofs.lemmas.List.FromFn.{length-map-range_with_len, get_or-map-range_with_len}
 use Rattle.std.proofs.lemmas.List.Sorted.{IsPermutation-refl, IsPermutation-remove, IsPermutation-cons, IsPermutation-sym, IsPermutation-trans, Contains-permutation, length_permutation}

@@ -1,4 +1,5 @@
--- For src/running.rt: files that are opened for a task, and explanations of single solutions.
+-- For src/running.rt: what holds of each path of a task also holds of each file that is opened for it (`task_by`,
+-- `comparison_by`), and the explanations of single solutions add up (`tells_more`).
 use Rattle.tsp_tool.proofs.Prelude.{Option, None, Some, ℕ, zero, suc, Bool, true, false, List, [], ◌++◌, refl, sym, subst, ◌∙◌, Appends-nil, Appends-trans, Result, Ok, Err}
 use Rattle.tsp_report.specs.Tasks.{IsMapped, IsMappedCertificate, IsMappedComparison}
 use Rattle.tsp_report.specs.declared.task.CertificateKind.{CertificateKind}

@@ -1,4 +1,6 @@
--- For OneVerdict.antt: two reasons of one rank that apply to the same files have the same numbers.
+-- Two reasons of one rank that apply to the same files have the same numbers: against the instance
+-- (`instance_by_rank`), tours (`tours_by_rank`), routes (`routes_by_rank`) and certificates (`certificates_by_rank`).
+-- OneVerdict.antt rests on these four.
 use Rattle.tsp_verdict.proofs.Prelude.{◌<◌, ◌⊎◌, inl, inr, arith, ◌≡◌, ◌∙◌, ℕ, List, [], length, refl, sym, ap, ap₂, subst, cases_order, false≢true, ints, pos, Option, None, Some, Bool, true, false, slice_index_or, ℤ, IsFirstAsymmetric, cost, scale_in, families_listed, Fields, nodes_of, IsFirstBroken, is_directed, IsFamily, NumbersAreUnique, IsFirstBadLeaf, IsFirstTwice, Crossings, IsFirstBadPlanBranch, RoutingProblem, routing_of, families_with, recursion_from_All, memories_listed, rows_listed, rank_of, CertificateKind, Potentials, Branches, Reason, TooFewNodes, NotSymmetric, DepotCount, DepotDemand, FixedEdgesInRoutes, LengthClaimed, NotASolution, Dimension, TourCount, TourLength, DepotInRoute, NodeOutOfRange, RepeatedNode, FixedEdgeUnused, Unserved, Overload, NotPotentials, PotentialsDimension, PotentialsKind, MultiplierNotFixed, MultiplierRepeated, DualInfeasible, NotBranches, BranchesDimension, BadFamily, BadMemory, BadRow, BadBranch, BranchTwice, BadLeaf, TooManyLoads, TooManyStates, Ok, Err, BoundVerdict}
 use Rattle.tsp_format.specs.Steps as listed
 use Rattle.tsp_format.specs.Steps.{SubsetRow}

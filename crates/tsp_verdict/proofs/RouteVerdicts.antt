@@ -1,4 +1,5 @@
--- For src/routes.rt: reasons against routes and their certificate, ruled out one by one, and the verdict.
+-- The verdict on routes (src/routes.rt): each test that finds nothing rules out its reasons (`after_routing`,
+-- `IsMarked`, `all_served`), and if none finds anything, the plan is accepted (`is_planned`).
 use Rattle.tsp_verdict.proofs.Prelude.{ℕ, ◌≤◌, arith, ◌≡◌, ◌≢◌, ◌+◌, ◌-◌, ◌<◌, Bool, true, false, List, [], length, None, refl, sym, ap, subst, ◌∙◌, ◌*◌, ◌∷◌, to_z, of_z, false≢true, ints, to_z-of_z, length-map, All-from_recursion, recursion_from_All, Vec, w64, All, Contains, AllByRecursion, slice_index_or, ℤ, pos, ◌≤ℤ◌, FitsSigned, ◌^◌, unwrap_or, nat_abs, Option, Some, most_changes, IsNode, nodes_to, cost, HoldsCases, scale_in, families_listed, Fields, nodes_of, is_branches_file, IsDemand, IsStep, AreTreeSteps, families_of, IsBoundSized, demand_of, load_of, IsCustomer, plan_length, IsLeastRoutes, RoutingProblem, depot_of, demands_of, capacity_of, routing_of, memories_listed, rows_listed, HoldsMemory, sum_by, map, inl, inr, families_with, leaf_changes, Crossings, of_customers, AreCapacityCuts, AreGoodBranches, IsFirstBadPlanBranch, routing_with, most_entries, HasTooManyLoads, IsPlanBoundFound, IsPlanVerdict, VerdictBoundsPlans, rank_of, Branches, Reason, DepotCount, DepotDemand, FixedEdgesInRoutes, NodeOutOfRange, RepeatedNode, FixedEdgeUnused, DepotInRoute, Unserved, Overload, NotBranches, BranchesDimension, BadFamily, BadMemory, BadRow, BadBranch, BadLeaf, TooManyLoads, TooManyStates, Ok, Err}
 use Rattle.std.proofs.lemmas.List.Sums.{sum_by-cons}
 use Rattle.tsp_file.specs.Cost.{AreSomeLists, AreSomeRows}

@@ -1,5 +1,5 @@
--- For src/certificate.rt: reasons against a certificate by branching, ruled out one by one, and the bound that it
--- gives.
+-- The reasons against a branches file, ruled out one by one in src/certificate.rt (`no_branches`, `memory_first`), and
+-- the bound that the file gives (`certified`), unless no leaf has one (`no_tour`).
 use Rattle.tsp_verdict.proofs.Prelude.{◌≡◌, ℕ, ◌<◌, ◌≤◌, List, [], ◌∷◌, length, refl, ap₂, arith, ◌≢◌, ◌∙◌, ◌-◌, Bool, true, false, get_or, inl, inr, sym, ap, subst, subst₂, false≢true, length-map, All-weaker, All-from_recursion, recursion_from_All, Vec, All, AllByRecursion, sum_by, ◌^◌, ◌⊎◌, Option, None, Some, unwrap_or, ℤ, most_family_nodes, IsNode, IsSymmetric, Kind, AreSomeSets, cost, scale_in, fixed_of, families_listed, Fields, nodes_of, is_branches_file, IsSetOf, AreSets, families_of as lists_of_families, IsScale, IsBoundSized, BoundsTours, HasNoTour, is_directed, problem_of, IsTourOf, decide, KeepsAll, take_pairs, decided_number, IsFamily, NumbersAreUnique, family_with, families_with, IsGoodFamily, IsFirstBadFamily, AreFamilies, branch_pairs, IsFirstBadBranch, leaf_changes, listed_steps, AreGoodLeaves, IsFirstBadLeaf, branches_of_cases, IsFirstTwice, Crossings, rank_of, Branches, Reason, NotBranches, BranchesDimension, BadFamily, BadMemory, BadRow, BadBranch, BranchTwice, BadLeaf, TooManyLoads, TooManyStates, slice_index_or, memories_listed, rows_listed, HoldsMemory, map}
 use Rattle.tsp_format.specs.Steps.{SubsetRow}
 use Rattle.tsp_file.specs.Cost.{AreSomeLists}
