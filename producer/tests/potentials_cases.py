@@ -126,7 +126,7 @@ def judged_after(words, tour):
 
 
 def newcomer():
-    """The three commands of the guide's section Potentials, as they are written."""
+    """The two commands of the guide's section Potentials, as they are written."""
     text = (Path(__file__).resolve().parents[2] / "docs/guide.md").read_text()
     lines = [line.strip() for line in text.splitlines() if line.startswith("    ")]
     at = next(k for k, line in enumerate(lines) if line.startswith("producer/out/tsp-potentials a.tsp"))
@@ -134,14 +134,12 @@ def newcomer():
     os.makedirs("producer/out")
     os.symlink(PROGRAM, "producer/out/tsp-potentials")
     os.symlink(TSP, "tsp")
-    for line in lines[at : at + 3]:
+    for line in lines[at : at + 2]:
         done = subprocess.run(line, shell=True, capture_output=True, text=True, timeout=120 * PATIENCE, check=False)
         need(done.returncode == 0, f"{line}: {done.stdout}{done.stderr}")
-    report = Path("a.report").read_text().splitlines()
+    report = done.stdout.splitlines()
     gap, length = (int(line.split()[1]) for word in ("gap", "length") for line in report if line.startswith(word))
-    need("yes" in report and 0 < gap < 0.03 * length, f"the report: {report}")
-    sums = [line.split()[1] for line in report if re.match("[0-9a-f]{64} ", line)]
-    need(sums == ["a.tsp", "a.tour", "a.potentials"], f"the sums: {report}")
+    need(report[-1] == "yes" and 0 < gap < 0.03 * length, f"the report: {report}")
 
 
 def time_limits():

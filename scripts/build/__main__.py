@@ -39,7 +39,7 @@ def main(words: list[str]) -> int:
         say(f"./build takes no such words, and --help says which: {' '.join(words)}")
         return REFUSED
     if shutil.which("rt") is None:
-        say("there is no command rt of the toolchain, which builds the program: README.md, Quick start")
+        say("there is no command rt of the toolchain, which builds the program: README.md, Build from source")
         return FAILED
     if first == "--unproved-library":
         return quick.alone(quick.make_archive, Path(words[1]))

@@ -234,7 +234,7 @@ def main() -> int:
         say(__doc__.strip()) if words.helps else listed(all_suites)
         return 0
     if shutil.which("rt") is None:
-        say("check: there is no command rt of the toolchain, which builds and proves: README.md, Quick start")
+        say("check: there is no command rt of the toolchain, which builds and proves: README.md, Build from source")
         return 1
     os.chdir(ROOT)
     with tempfile.TemporaryDirectory(prefix="tsp-check-") as scratch:

@@ -50,7 +50,7 @@ RELEASE = re.compile(r"<!-- release\s(.*?)\s*-->", re.S)
 BUILT = re.compile(r"<!-- built\s(.*?)\s*-->", re.S)
 # Links to files and parts of pages that only the repository has.
 BEYOND = re.compile(r"\[([^\]\n]+)\]\((?:\.\./)*(?:bench|bindings|crates|scripts|tests)/(?!program/README\.md)[^)]*\)"
-                    r"|\[([^\]\n]+)\]\((?:\.\./)*README\.md#quick-start\)")
+                    r"|\[([^\]\n]+)\]\((?:\.\./)*README\.md#build-from-source\)")
 PROGRAM = re.compile(r"(?<![\w/.])\./tsp\b")
 # A command of the producer, which finds the program that it is installed with.
 PRODUCER = re.compile(r"^(    )producer/out/(tsp-.*?)(?: --tsp \./tsp)?$", re.M)
