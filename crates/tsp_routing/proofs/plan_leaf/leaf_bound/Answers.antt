@@ -143,3 +143,11 @@ limits_total-limits-requires-clause-few_families g c =
 
 pub limits_total-limits-requires-clause-few : goal.limits_total-limits-requires-clause-few
 limits_total-limits-requires-clause-few g c = c.args.leaf.now.context.now.few
+
+pub returns-in_default-clause-found : goal.returns-in_default-clause-found
+returns-in_default-clause-found g c =
+    let leaf = c.args.leaf.now in
+    let s = leaf.context.now in
+    subst (IsLeastQRoute (loads_problem s.demands (g.C.Costs.at s.costs.now)) s.scale s.unit s.units.now.light
+    (families_with s.crossed.now (lent_in s.families.now)) (as_leaf_numbers leaf.potentials.now leaf.multipliers.now)) c.in_default.is
+    c.in_ok-found.ensures.least
