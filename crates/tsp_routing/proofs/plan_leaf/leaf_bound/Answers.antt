@@ -1,5 +1,5 @@
--- The goals of `leaf_bound` in src/plan_leaf.rt, which bounds a leaf at a case: the facts of the sum that it makes, and
--- what it ensures.
+-- The goals of `leaf_bound` in src/plan_leaf.rt, which bounds a leaf at a case: the facts of the sum that it makes,
+-- what its calls require, that nothing overflows, and what it ensures.
 use Rattle.tsp_routing.proofs.Prelude.{◌≡◌, ◌≤◌, ◌∙◌, ◌+◌, ◌-◌, ◌*◌, ◌^◌, Option, neg_ℤ, most_nodes, IsFromTo, IsNode, ℕ, ℤ, List, length, refl, ap, ap₂, sym, subst, arith, rules, to_z, of_z, FitsSigned, pos, ◌-ℤ◌, ◌*ℤ◌, Vec, w64, w128, ints, to_z-of_z, length-map, entry, lists_of, families_with, as_leaf_numbers, lent_in, decisions_in}
 use Rattle.std.specs.Prelude.{IfSome}
 use Rattle.tsp_cases.specs.states.OpenCases.{IsOpenCase}
