@@ -1,5 +1,5 @@
--- The goals of `first_bad_list` in src/judged_memory.rt: its loop, what a call requires, and
--- what it ensures.
+-- The goals of `first_bad_list` in src/judged_memory.rt: its loop, what a call requires, and what it
+-- ensures.
 use Rattle.tsp_routing.proofs.Prelude.{◌≡◌, ◌<◌, ◌+◌, ◌∙◌, ℕ, List, Bool, true, false, refl, length, get_or, ap, sym, subst, arith, cases_eq, inl, inr, false≢true, length-map, length-set, length-replicate, get_or_default, Vec, All, IsCustomer, HasEachOnce, written}
 use Rattle.tsp_cases.specs.states.GoodFamilies.{AreUnmarked}
 use Rattle.tsp_routing.specs.RunTrees.{owner_of, IsGoodList}

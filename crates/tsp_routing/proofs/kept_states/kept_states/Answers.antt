@@ -1,5 +1,5 @@
--- The goals of `kept_states` in src/kept_states.rt, which makes the table of kept states: its loop, what a
--- call requires, and what it ensures.
+-- The goals of `kept_states` in src/kept_states.rt, which makes the table of kept states: its loop, what a call
+-- requires, and what it ensures.
 use Rattle.tsp_routing.proofs.Prelude.{◌≡◌, ◌≤◌, ◌+◌, ◌∙◌, Option, ℕ, ℤ, List, [], ◌∷◌, ◌++◌, length, ap, subst, subst₂, sym, arith, length-append, Vec}
 use Rattle.std.specs.Prelude.{IfSome}
 use Rattle.tsp_routing.specs.KeptStates.{most_states}

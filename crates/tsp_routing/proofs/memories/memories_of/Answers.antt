@@ -54,3 +54,50 @@ returns-clause-are c = λ depot loads room links priced same.
     let long = c.nodes.invariant.long in
     memories_are c.args.nodes (near_in c.args.near.now) c.args.rows.now priced same depot loads room links c.nodes.keys.items
     c.nodes.places.items c.requires.memories c.nodes.invariant.tables (omega (arith, end, long))
+
+pub near_at-requires : goal.near_at-requires
+near_at-requires c =
+    let lists = c.requires.lists in
+    let less = c.nodes-test.true in omega (arith, lists, less)
+
+pub keys_of-requires-clause-nodes : goal.keys_of-requires-clause-nodes
+keys_of-requires-clause-nodes c = c.requires.nodes
+
+pub keys_of-requires-clause-rows : goal.keys_of-requires-clause-rows
+keys_of-requires-clause-rows c = c.requires.rows
+
+pub places_of-requires-clause-last : goal.places_of-requires-clause-last
+places_of-requires-clause-last c =
+    let nodes = c.requires.nodes in
+    let rows = c.requires.rows in omega (arith, nodes, rows)
+
+pub keys_of-requires-clause-near : goal.keys_of-requires-clause-near
+keys_of-requires-clause-near c =
+    subst (All (IsNode c.args.nodes)) (sym c.near_at.ensures)
+    (c.requires.memories.nodes_are (c.nodes.index + 1) (omega arith, omega (arith, c.nodes-test.true)))
+
+-- there is only a place 0 at first
+pub nodes-init : goal.nodes-init
+nodes-init c =
+    let pushed = ap (λ (xs : List (Vec MemoryKey)). length xs) c.in_ok-push.ensures.items in
+    let none = ap (λ (xs : List (Vec MemoryKey)). length xs) c.in_ok-keys.ensures.items in
+    let pushed_places = ap (λ (xs : List (Vec ℕ)). length xs) c.in_ok-push-2.ensures.items in
+    let no_places = ap (λ (xs : List (Vec ℕ)). length xs) c.in_ok-places.ensures.items in
+    let long : length c.push.new.list.items ≡ 1 = omega (arith, length-append {A = Vec MemoryKey}, pushed, none) in
+    record {
+      long = long;
+      tables = record {
+        as_many = omega (arith, length-append {A = Vec ℕ}, pushed_places, no_places, long);
+        keys_are = λ node some lt. absurd (omega (arith, some, lt, long));
+        places_are = λ node some lt. absurd (omega (arith, some, lt, long));
+      };
+    }
+
+pub invariant_of-result : goal.invariant_of-result
+invariant_of-result c =
+    let end : c.nodes.index ≡ c.args.nodes = omega (arith, c.nodes-test.false, c.nodes.auto.index-end) in
+    let long = c.nodes.invariant.long in
+    record {
+      tables = tables_are c.args.nodes (near_in c.args.near.now) c.args.rows.now c.nodes.keys.items c.nodes.places.items c.requires.nodes
+          c.requires.rows c.requires.memories c.nodes.invariant.tables (omega (arith, end, long));
+    }

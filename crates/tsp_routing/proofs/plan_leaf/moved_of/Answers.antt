@@ -1,5 +1,5 @@
 -- The goals of `moved_of` in src/plan_leaf.rt, which lessens each potential by the multipliers of the node's sets: the
--- facts of the multiplied families that it makes, and what it ensures.
+-- facts of the multiplied families that it makes, what its calls require, and what it ensures.
 use Rattle.tsp_routing.proofs.Prelude.{◌≡◌, ◌∙◌, ◌+◌, ℕ, ℤ, List, length, sym, replicate, ap, arith, pos, neg_ℤ, ◌+ℤ◌, w64, int_wrap, ints, get_or-replicate, length-replicate, All-from_recursion, IsFromTo, entry, least_at, multipliers_at, lent_in, written, wrapped_by}
 use Rattle.tsp_cases.proofs.RowsKept.{moved_from_ends}
 use Rattle.tsp_routing.specs.PlanVerdicts.{most_of_multipliers}

@@ -1,5 +1,5 @@
 -- The goals of `plan_leaf_bound` in src/plan_leaf.rt, which bounds a leaf at a case: the facts of the sum that it
--- makes, and what it ensures.
+-- makes, what its calls require, that nothing overflows, and what it ensures.
 use Rattle.tsp_routing.proofs.Prelude.{◌≡◌, ◌≤◌, ◌∙◌, ◌+◌, ◌-◌, ◌*◌, ◌^◌, Option, neg_ℤ, most_nodes, IsFromTo, IsNode, ℕ, ℤ, List, length, refl, ap, ap₂, sym, subst, arith, rules, to_z, of_z, FitsSigned, pos, ◌-ℤ◌, ◌*ℤ◌, Vec, w64, w128, ints, to_z-of_z, length-map, entry, lists_of, families_with, as_leaf_numbers, lent_in, decisions_in}
 use Rattle.std.specs.Prelude.{IfSome}
 use Rattle.tsp_cases.specs.states.OpenCases.{IsOpenCase}
@@ -143,3 +143,11 @@ limits_total-limits-requires-clause-few_families g c =
 
 pub limits_total-limits-requires-clause-few : goal.limits_total-limits-requires-clause-few
 limits_total-limits-requires-clause-few g c = c.args.leaf.now.context.now.few
+
+pub returns-in_default-clause-found : goal.returns-in_default-clause-found
+returns-in_default-clause-found g c =
+    let leaf = c.args.leaf.now in
+    let s = leaf.context.now in
+    subst (IsLeastQRoute (loads_problem s.demands (g.C.Costs.at s.costs.now)) s.scale s.unit s.units.now.light
+    (families_with s.crossed.now (lent_in s.families.now)) (as_leaf_numbers leaf.potentials.now leaf.multipliers.now)) c.in_default.is
+    c.in_ok-found.ensures.least

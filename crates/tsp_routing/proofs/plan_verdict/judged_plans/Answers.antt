@@ -1,6 +1,6 @@
 -- The goals of `judged_plans` in src/plan_verdict.rt, which judges families and memories: what its calls require and
 -- what it ensures.
-use Rattle.tsp_routing.proofs.Prelude.{◌≡◌, ℕ, ℤ, List, map, ap₂, sym, subst, rules, to_z, of_z, FitsSigned, nat_abs, w64, to_z-of_z, RoutingProblem, families_in, Crossings}
+use Rattle.tsp_routing.proofs.Prelude.{◌≡◌, ◌∙◌, ℕ, ℤ, List, map, ap₂, sym, subst, rules, to_z, of_z, FitsSigned, nat_abs, w64, to_z-of_z, RoutingProblem, families_in, Crossings, IsNode}
 use Rattle.std.proofs.lemmas.Result.{IfOk-weaker}
 use Rattle.tsp_format.specs.Steps.{SubsetRow}
 use Rattle.tsp_format.specs.states.TreeSteps.{steps_of, subset_row_of}
@@ -10,7 +10,7 @@ use Rattle.tsp_routing.specs.RunVerdicts.{IsPlanVerdict}
 use Rattle.tsp_routing.specs.declared.demands.Demands.{Demands}
 use Rattle.tsp_routing.specs.states.Demands.{loads_problem}
 use Rattle.tsp_routing.specs.states.Judged.{AreCutsJudged}
-use Rattle.tsp_routing.specs.states.JudgedMemory.{AreRowsOf, AreMemoriesJudged}
+use Rattle.tsp_routing.specs.states.JudgedMemory.{AreListsOf, AreRowsOf, AreMemoriesJudged}
 use Rattle.tsp_routing.specs.states.RunTables.{item_lists}
 use Rattle.tsp_routing.proofs.plan_verdict.judged_plans.Goals as goal
 
@@ -97,3 +97,62 @@ returns-clause-verdict g c =
     subst (λ (p : RoutingProblem). IsPlanVerdict p tree.scale (nat_abs tree.unit) (families_in tree.families.now) lists rows
     (steps_of tree.steps.now) found) problem_is own)
     c.tree_verdict.ensures.verdict
+
+pub judge_cuts-requires-clause-demands : goal.judge_cuts-requires-clause-demands
+judge_cuts-requires-clause-demands g c =
+    let tree = c.args.tree.now in
+    let count = c.count.ensures.value in
+    let capable : FitsSigned w64 tree.capacity = search rules in
+    record {
+      few = c.count.ensures.most;
+      depot_in = subst (λ (k : ℕ). IsNode k tree.depot) (sym count) tree.depot_in;
+      each = tree.each ∙ sym count;
+      demands_are = tree.demands_are;
+      capacity_is = rw (to_z-of_z w64 tree.capacity capable) tree.capacity_is;
+    }
+
+pub judge_memory-requires-clause-demands : goal.judge_memory-requires-clause-demands
+judge_memory-requires-clause-demands g c =
+    let tree = c.args.tree.now in
+    let count = c.count.ensures.value in
+    let capable : FitsSigned w64 tree.capacity = search rules in
+    record {
+      few = c.count.ensures.most;
+      depot_in = subst (λ (k : ℕ). IsNode k tree.depot) (sym count) tree.depot_in;
+      each = tree.each ∙ sym count;
+      demands_are = tree.demands_are;
+      capacity_is = rw (to_z-of_z w64 tree.capacity capable) tree.capacity_is;
+    }
+
+pub tree_verdict-requires-clause-demands : goal.tree_verdict-requires-clause-demands
+tree_verdict-requires-clause-demands g c =
+    let tree = c.args.tree.now in
+    let count = c.count.ensures.value in
+    let capable : FitsSigned w64 tree.capacity = search rules in
+    record {
+      few = c.count.ensures.most;
+      depot_in = subst (λ (k : ℕ). IsNode k tree.depot) (sym count) tree.depot_in;
+      each = tree.each ∙ sym count;
+      demands_are = tree.demands_are;
+      capacity_is = rw (to_z-of_z w64 tree.capacity capable) tree.capacity_is;
+    }
+
+pub judge_cuts-requires-clause-few : goal.judge_cuts-requires-clause-few
+judge_cuts-requires-clause-few g c = c.args.tree.now.few_families
+
+pub judge_memory-requires-clause-few_lists : goal.judge_memory-requires-clause-few_lists
+judge_memory-requires-clause-few_lists g c = c.args.tree.now.few_lists
+
+pub judge_memory-requires-clause-few_rows : goal.judge_memory-requires-clause-few_rows
+judge_memory-requires-clause-few_rows g c = c.args.tree.now.few_rows
+
+pub judge_memory-requires-clause-lists : goal.judge_memory-requires-clause-lists
+judge_memory-requires-clause-lists g c =
+    let tree = c.args.tree.now in
+    subst (λ (k : ℕ). AreListsOf k tree.near.now) (sym c.count.ensures.value) tree.lists_are
+
+pub tree_verdict-requires-clause-same : goal.tree_verdict-requires-clause-same
+tree_verdict-requires-clause-same g c = sym c.count.ensures.value
+
+pub returns-clause-size : goal.returns-clause-size
+returns-clause-size g c = c.tree_verdict.ensures.size

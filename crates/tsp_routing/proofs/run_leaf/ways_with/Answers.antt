@@ -1,4 +1,5 @@
--- The goals of `ways_with` in src/run_leaf.rt, which makes the row of the next load: its loop and what it ensures.
+-- The goals of `ways_with` in src/run_leaf.rt, which makes the row of the next load: its loop, what its
+-- calls require, and what it ensures.
 use Rattle.tsp_routing.proofs.Prelude.{◌≡◌, ◌+◌, ◌*◌, ◌∙◌, ℕ, ℤ, List, [], ◌∷◌, ◌++◌, pos, neg_ℤ, length, ap, subst, sym, arith, rules, FitsSigned, length-append, w128, to_z-of_z, ◌≤ℤ◌}
 use Rattle.tsp_routing.specs.PlanBounds.{most_link}
 use Rattle.tsp_routing.specs.KeptStates.{IsCompletion}
