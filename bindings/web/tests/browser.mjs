@@ -111,10 +111,37 @@ class Browser {
         await this.until(`/^\\d/.test(document.getElementById("version")?.textContent)`);
     }
 
+    /** The text of an element. */
+    text(id) {
+        return this.value(`document.getElementById("${id}").textContent`);
+    }
+
+    /** Waits until an element has a text. */
+    untilText(id, text) {
+        return this.until(`document.getElementById("${id}").textContent === ${JSON.stringify(text)}`);
+    }
+
+    /** Clicks a button. */
+    click(id) {
+        return this.value(`document.getElementById("${id}").click()`);
+    }
+
+    /** Puts a value into an input, which tells of it by an event. */
+    enter(id, value, event = "change") {
+        return this.value(`(() => { const it = document.getElementById("${id}"); it.value = "${value}"; it.dispatchEvent(new Event("${event}")); })()`);
+    }
+
+    /** Drops files on the page, each a name and a text. */
+    drop(files) {
+        return this.value(`(() => { const all = new DataTransfer();
+            for (const [name, text] of ${JSON.stringify(files)}) { all.items.add(new File([text], name)); }
+            document.dispatchEvent(new DragEvent("drop", { dataTransfer: all })); })()`);
+    }
+
     /** The verdict, once there is one. */
     async verdict() {
         await this.until(`!document.body.classList.contains("busy") && !["", "Checking …"].includes(document.getElementById("verdict").textContent)`);
-        return this.value(`document.getElementById("verdict").textContent`);
+        return this.text("verdict");
     }
 
     /**
@@ -162,6 +189,15 @@ class Browser {
     }
 }
 
+/** A file of the examples, to be dropped. */
+const own = (name) => [name, readFileSync(join(EXAMPLES, name), "utf8")];
+
+/** Large files, to be dropped. */
+const NODES = Array.from({ length: 100_000 }, (_, at) => at + 1);
+const large = (end, ...lines) => [`large.${end}`, [...lines, "EOF", ""].join("\n")];
+const POINTS = NODES.map((node) => `${node} ${(node * 7919) % 99991} ${(node * 104729) % 99989}`);
+const LARGE = large("tsp", "TYPE : TSP", "DIMENSION : 100000", "EDGE_WEIGHT_TYPE : EUC_2D", "NODE_COORD_SECTION", ...POINTS);
+
 /** The tests: a name, and what is done. */
 const TESTS = {
     "the examples end in their verdicts": async (browser) => {
@@ -175,23 +211,22 @@ const TESTS = {
     "files that are chosen at once find their places": async (browser) => {
         await browser.open("");
         await browser.choose("all", ["valleys.branches", "valleys.tour", "valleys.tsp"]);
-        await browser.until(`document.getElementById("verdict").textContent === "Yes: optimal"`);
-        assert.match(await browser.value(`document.getElementById("command").textContent`), /--branches valleys\.branches$/);
+        await browser.untilText("verdict", "Yes: optimal");
+        assert.match(await browser.text("command"), /--branches valleys\.branches$/);
         assert.equal(await browser.value(`document.getElementById("no-drawing").hidden`), false);
     },
     "files that are chosen one by one are judged as far as they go": async (browser) => {
         await browser.open("");
         await browser.choose("instance", ["harbour.tsp"]);
-        await browser.until(`document.getElementById("verdict").textContent === "A valid file"`);
+        await browser.untilText("verdict", "A valid file");
         await browser.choose("certificate", ["harbour.potentials"]);
-        await browser.until(`document.getElementById("verdict").textContent === "Yes: a bound"`);
+        await browser.untilText("verdict", "Yes: a bound");
         await browser.choose("solution", ["harbour.tour"]);
-        await browser.until(`document.getElementById("verdict").textContent === "Yes: optimal"`);
-        await browser.value(`document.getElementById("claimed").value = "225"`);
-        await browser.value(`document.getElementById("claimed").dispatchEvent(new Event("change"))`);
-        await browser.until(`document.getElementById("meaning").textContent === "The reason is LengthClaimed 226."`);
-        await browser.value(`document.getElementById("instance-remove").click()`);
-        assert.equal(await browser.value(`document.getElementById("verdict").textContent`), "No instance");
+        await browser.untilText("verdict", "Yes: optimal");
+        await browser.enter("claimed", "225");
+        await browser.untilText("meaning", "The reason is LengthClaimed 226.");
+        await browser.click("instance-remove");
+        assert.equal(await browser.text("verdict"), "No instance");
         assert.equal(await browser.value(`document.getElementById("figure").hidden`), true);
     },
     "a solution of another program is read, and is saved with the report and the picture": async (browser) => {
@@ -200,9 +235,9 @@ const TESTS = {
             URL.createObjectURL = (blob) => { saved.push({ blob }); return made.call(URL, blob); };
             HTMLAnchorElement.prototype.click = function () { saved.at(-1).name = this.download; }; 0`);
         await browser.choose("all", ["harbour.tsp", "solvers/harbour.concorde.sol"]);
-        await browser.until(`document.getElementById("verdict").textContent === "Yes: a tour"`);
-        assert.match(await browser.value(`document.getElementById("made").textContent`), /was read as another program's solution\. Save harbour\.concorde\.tour$/);
-        assert.match(await browser.value(`document.getElementById("command-note").textContent`), /^First save harbour\.concorde\.tour /);
+        await browser.untilText("verdict", "Yes: a tour");
+        assert.match(await browser.text("made"), /was read as another program's solution\. Save harbour\.concorde\.tour$/);
+        assert.match(await browser.text("command-note"), /^First save harbour\.concorde\.tour /);
         for (const action of ["save-made", "save-report", "save-picture"]) {
             await browser.value(`document.querySelector("[data-do=${action}]").click()`);
         }
@@ -214,67 +249,56 @@ const TESTS = {
         assert.doesNotMatch(texts[2], /var\(/, "each program knows its colours");
     },
     "a table of nodes and routes with copies of the depot are read": async (browser) => {
-        const drop = (files) => browser.value(`(() => { const all = new DataTransfer();
-            for (const [name, text] of ${JSON.stringify(files)}) { all.items.add(new File([text], name)); }
-            document.dispatchEvent(new DragEvent("drop", { dataTransfer: all })); })()`);
-        const own = (name) => [name, readFileSync(join(EXAMPLES, name), "utf8")];
         await browser.open("");
-        await drop([["tour.csv", "order,node\n0,1\n1,2\n2,3\n3,4\n4,8\n5,5\n6,6\n7,7\n"], own("harbour.tsp")]);
-        await browser.until(`document.getElementById("verdict").textContent === "Yes: a tour"`);
-        assert.match(await browser.value(`document.getElementById("made").textContent`), /^tour\.csv was read as another program's solution\. Save tour\.tour$/);
+        await browser.drop([["tour.csv", "order,node\n0,1\n1,2\n2,3\n3,4\n4,8\n5,5\n6,6\n7,7\n"], own("harbour.tsp")]);
+        await browser.untilText("verdict", "Yes: a tour");
+        assert.match(await browser.text("made"), /^tour\.csv was read as another program's solution\. Save tour\.tour$/);
         await browser.open("");
-        await drop([own("dairy.vrp"), ["lkh.tour", "TYPE : TOUR\nTOUR_SECTION\n1 5 6 4 7 9 2 8 3 -1\nEOF\n"]]);
-        await browser.until(`document.getElementById("verdict").textContent === "Yes"`);
-        assert.match(await browser.value(`document.getElementById("made").textContent`), /copies of the depot\. /);
+        await browser.drop([own("dairy.vrp"), ["lkh.tour", "TYPE : TOUR\nTOUR_SECTION\n1 5 6 4 7 9 2 8 3 -1\nEOF\n"]]);
+        await browser.untilText("verdict", "Yes");
+        assert.match(await browser.text("made"), /copies of the depot\. /);
     },
     "several tours are a table": async (browser) => {
         await browser.open("");
         await browser.choose("all", ["harbour.tsp", "harbour.tour", "rectangle-1-2-3-4.tour"]);
-        await browser.until(`document.getElementById("verdict").textContent === "Yes: a tour"`);
+        await browser.untilText("verdict", "Yes: a tour");
         const rows = `[...document.querySelectorAll("#rows-body tr")].map((row) => row.innerText.split(/\\s*\\t\\s*/).slice(0, 2).join("|"))`;
         assert.deepEqual(await browser.value(rows), ["harbour.tour|Yes: a tour", "rectangle-1-2-3-4.tour|No: TourLength"]);
         await browser.value(`document.querySelectorAll("#rows-body button")[1].click()`);
-        await browser.until(`document.getElementById("meaning").textContent === "rectangle-1-2-3-4.tour: The reason is TourLength."`);
+        await browser.untilText("meaning", "rectangle-1-2-3-4.tour: The reason is TourLength.");
         assert.equal(await browser.value(`document.querySelectorAll("#rows-body tr").length`), 2);
         assert.match(await browser.value(`document.querySelector("tr[aria-current]").innerText`), /^rectangle-1-2-3-4\.tour/);
         const heads = `[...document.querySelectorAll("#rows-head th")].map((it) => it.textContent).join("|")`;
         assert.equal(await browser.value(heads), "Tour|Verdict|Length");
-        await browser.value(`document.getElementById("best").value = "200"`);
-        await browser.value(`document.getElementById("best").dispatchEvent(new Event("change"))`);
+        await browser.enter("best", "200");
         await browser.until(`${heads} === "Tour|Verdict|Length|Above the best known in %"`);
     },
     "potentials rise step by step, and are taken as the certificate": async (browser) => {
         await browser.open("");
         await browser.choose("all", ["harbour.tsp", "harbour.tour"]);
-        await browser.until(`document.getElementById("verdict").textContent === "Yes: a tour"`);
-        await browser.value(`document.getElementById("rise").click()`);
+        await browser.untilText("verdict", "Yes: a tour");
+        await browser.click("rise");
         await browser.until(`document.getElementById("rising").hidden === false`);
         await browser.until(`document.querySelectorAll("#tree .tree").length === 8`);
         await browser.value(`(() => { const step = document.getElementById("step"); step.value = step.max; step.dispatchEvent(new Event("input")); })()`);
-        assert.match(await browser.value(`document.getElementById("step-words").textContent`), /^Step [1-9]\d*: the least 1-tree gives the bound 22\d/);
+        assert.match(await browser.text("step-words"), /^Step [1-9]\d*: the least 1-tree gives the bound 22\d/);
         if (pictures) {
             await browser.picture("rising");
         }
-        await browser.value(`document.getElementById("use-potentials").click()`);
+        await browser.click("use-potentials");
         await browser.until(`/^Yes: (optimal|gap \\d)$/.test(document.getElementById("verdict").textContent)`);
         assert.equal(await browser.value(`document.getElementById("rising").hidden`), true);
     },
     "a fault has its meaning above its line": async (browser) => {
         await browser.open("zero");
         assert.equal(await browser.verdict(), "Fault");
-        assert.match(await browser.value(`document.getElementById("meaning").textContent`), /^The number is out of range\. TOUR_SECTION lists/);
-        assert.match(await browser.value(`document.getElementById("explanation").textContent`), /^zero\.tour:\d+: word \d+: Number OutOfRange\n/);
+        assert.match(await browser.text("meaning"), /^The number is out of range\. TOUR_SECTION lists/);
+        assert.match(await browser.text("explanation"), /^zero\.tour:\d+: word \d+: Number OutOfRange\n/);
     },
     "a random tour of 100,000 nodes is drawn while the page answers": async (browser) => {
         await browser.open("");
-        await browser.value(`(() => { const all = new DataTransfer();
-            const nodes = Array.from({ length: 100000 }, (_, at) => at + 1);
-            const lines = nodes.map((node) => node + " " + (node * 7919) % 99991 + " " + (node * 104729) % 99989);
-            const head = ["TYPE : TSP", "DIMENSION : 100000", "EDGE_WEIGHT_TYPE : EUC_2D", "NODE_COORD_SECTION"];
-            all.items.add(new File([[...head, ...lines, "EOF", ""].join("\\n")], "large.tsp"));
-            all.items.add(new File([["TYPE : TOUR", "TOUR_SECTION", ...nodes, -1, "EOF", ""].join("\\n")], "large.tour"));
-            document.dispatchEvent(new DragEvent("drop", { dataTransfer: all })); })()`);
-        await browser.until(`document.getElementById("verdict").textContent === "Yes: a tour"`);
+        await browser.drop([LARGE, large("tour", "TYPE : TOUR", "TOUR_SECTION", ...NODES, -1)]);
+        await browser.untilText("verdict", "Yes: a tour");
         const began = Date.now();
         await browser.ask("Page.captureScreenshot", { format: "png" });
         assert.ok(Date.now() - began < 30_000, `painted in ${Date.now() - began} ms`);
@@ -295,8 +319,8 @@ const TESTS = {
         assert.equal(await browser.value(names), "harbour.tsp|rectangle.tsp");
         await browser.value(`document.querySelectorAll("#instance-offered button")[1].focus()`);
         await browser.press("Enter");
-        await browser.until(`document.getElementById("verdict").textContent === "Yes: a tour"`);
-        assert.match(await browser.value(`document.getElementById("command").textContent`), /^tsp check rectangle\.tsp /);
+        await browser.untilText("verdict", "Yes: a tour");
+        assert.match(await browser.text("command"), /^tsp check rectangle\.tsp /);
         assert.equal(await browser.value(`document.activeElement.textContent`), "rectangle.tsp", "the focus stays");
     },
     "the drawing is zoomed and moved by keys, the wheel and the mouse": async (browser) => {
@@ -325,7 +349,7 @@ const TESTS = {
         if (pictures) {
             await browser.picture("zoomed");
         }
-        await browser.value(`document.getElementById("zoom-whole").click()`);
+        await browser.click("zoom-whole");
         assert.deepEqual(await box(), whole);
     },
     "routes are picked in their legend": async (browser) => {
@@ -343,50 +367,47 @@ const TESTS = {
     "the edges in which two tours differ": async (browser) => {
         await browser.open("");
         await browser.choose("all", ["rectangle.tsp", "rectangle-1-2-3-4.tour", "rectangle-1-3-4-2.tour"]);
-        await browser.until(`document.getElementById("verdict").textContent === "Yes: a tour"`);
+        await browser.untilText("verdict", "Yes: a tour");
         const key = `[...document.querySelectorAll("#difference li")].map((it) => it.innerText.trim()).join("|")`;
         assert.equal(await browser.value(key), "2 edges of both|2 only of the tour that is shown|2 only of rectangle-1-3-4-2.tour");
         if (pictures) {
             await browser.picture("difference");
         }
-        await browser.value(`(() => { const it = document.getElementById("against"); it.value = ""; it.dispatchEvent(new Event("change")); })()`);
+        await browser.enter("against", "");
         await browser.until(`document.getElementById("difference").hidden && document.getElementById("verdict").textContent === "Yes: a tour"`);
     },
     "families and the tree of branches are drawn": async (browser) => {
         await browser.open("");
         await browser.choose("all", ["valleys.tsp", "valleys.tour", "valleys.branches"]);
-        await browser.until(`document.getElementById("verdict").textContent === "Yes: optimal"`);
-        assert.match(await browser.value(`document.getElementById("branching-words").textContent`), /^The certificate has \d+ lea/);
+        await browser.untilText("verdict", "Yes: optimal");
+        assert.match(await browser.text("branching-words"), /^The certificate has \d+ lea/);
         if (pictures) {
             await browser.picture("branches");
         }
         await browser.open("orchard");
         await browser.verdict();
         assert.ok((await browser.value(`document.querySelectorAll("#map .hull").length`)) >= 2);
-        await browser.value(`(() => { const it = document.getElementById("family"); it.value = "2"; it.dispatchEvent(new Event("input")); })()`);
-        assert.match(await browser.value(`document.getElementById("family-words").textContent`), /^Family 2 of 2: a handle of \d+ nodes and \d+ teeth\.$/);
+        await browser.enter("family", "2", "input");
+        assert.match(await browser.text("family-words"), /^Family 2 of 2: a handle of \d+ nodes and \d+ teeth\.$/);
     },
     "a link carries the files": async (browser) => {
         await browser.open("harbour");
         const verdict = await browser.verdict();
-        await browser.value(`document.getElementById("share").click()`);
+        await browser.click("share");
         await browser.until(`location.hash.startsWith("#files=")`);
         await browser.until(`/^The link is /.test(document.getElementById("link-told").textContent)`);
         const hash = (await browser.value("location.hash")).slice(1);
         await browser.open(hash);
         assert.equal(await browser.verdict(), verdict);
-        assert.match(await browser.value(`document.getElementById("command").textContent`), /^tsp check harbour\.tsp harbour\.tour --potentials /);
+        assert.match(await browser.text("command"), /^tsp check harbour\.tsp harbour\.tour --potentials /);
         await browser.open(`${hash.slice(0, 60)}`);
         assert.equal(await browser.verdict(), "No files");
     },
     "JSON that is cut off is told so": async (browser) => {
         await browser.open("");
-        await browser.value(`(() => { const all = new DataTransfer();
-            all.items.add(new File([${JSON.stringify(readFileSync(join(EXAMPLES, "harbour.tsp"), "utf8"))}], "harbour.tsp"));
-            all.items.add(new File(['{"tour": [1, 2, 3'], "tour.json"));
-            document.dispatchEvent(new DragEvent("drop", { dataTransfer: all })); })()`);
+        await browser.drop([own("harbour.tsp"), ["tour.json", '{"tour": [1, 2, 3']]);
         assert.equal(await browser.verdict(), "Fault");
-        assert.match(await browser.value(`document.getElementById("cautions").textContent`), /^tour\.json begins as JSON, but ends inside of it/);
+        assert.match(await browser.text("cautions"), /^tour\.json begins as JSON, but ends inside of it/);
     },
     "files that are held over the page show where they would go": async (browser) => {
         await browser.open("");
@@ -400,15 +421,8 @@ const TESTS = {
     },
     "a check that takes long says how long, and is stopped by a key": async (browser) => {
         await browser.open("");
-        await browser.value(`(() => { const all = new DataTransfer();
-            const nodes = Array.from({ length: 100000 }, (_, at) => at + 1);
-            const lines = nodes.map((node) => node + " " + (node * 7919) % 99991 + " " + (node * 104729) % 99989);
-            const head = (type) => ["TYPE : " + type, "DIMENSION : 100000"];
-            const one = [...head("TSP"), "EDGE_WEIGHT_TYPE : EUC_2D", "NODE_COORD_SECTION", ...lines, "EOF", ""].join("\\n");
-            const two = [...head("POTENTIALS"), "NODE_POTENTIAL_SECTION", ...nodes.map((node) => node + " 0"), "EOF", ""].join("\\n");
-            all.items.add(new File([one], "large.tsp"));
-            all.items.add(new File([two], "large.potentials"));
-            document.dispatchEvent(new DragEvent("drop", { dataTransfer: all })); })()`);
+        const zeros = NODES.map((node) => `${node} 0`);
+        await browser.drop([LARGE, large("potentials", "TYPE : POTENTIALS", "DIMENSION : 100000", "NODE_POTENTIAL_SECTION", ...zeros)]);
         await browser.until(`/^judging, \\d+ s$/.test(document.getElementById("doing").textContent) || /^Yes/.test(document.getElementById("verdict").textContent)`);
         await browser.press("Escape");
         await browser.until(`["Stopped", "Yes: a bound"].includes(document.getElementById("verdict").textContent)`);
@@ -448,20 +462,17 @@ const TESTS = {
         await browser.value(`document.getElementById("module").textContent = "AAAA"`);
         await browser.value(`document.getElementById("claimed").focus()`);
         await browser.choose("all", ["harbour.tsp", "harbour.tour"]);
-        await browser.until(`document.getElementById("verdict").textContent === "Yes: a tour"`);
+        await browser.untilText("verdict", "Yes: a tour");
+        // (at once, before the worker has ended)
         await browser.value(`(() => { const best = document.getElementById("best"); best.value = "1"; best.dispatchEvent(new Event("change"));
             document.getElementById("stop").click(); })()`);
-        await browser.until(`document.getElementById("verdict").textContent === "Not judged"`);
+        await browser.untilText("verdict", "Not judged");
     },
     "100,000 nodes are drawn": async (browser) => {
         await browser.open("");
-        const lines = Array.from({ length: 100000 }, (_, at) => `${at + 1} ${(at * 7919) % 99991} ${(at * 104729) % 99989}`);
-        const head = ["TYPE : TSP", "DIMENSION : 100000", "EDGE_WEIGHT_TYPE : EUC_2D", "NODE_COORD_SECTION"];
-        const instance = [...head, ...lines, "EOF", ""].join("\\n");
-        await browser.value(`(() => { const all = new DataTransfer(); all.items.add(new File(["${instance}"], "large.tsp"));
-            document.dispatchEvent(new DragEvent("drop", { dataTransfer: all })); })()`);
-        await browser.until(`document.getElementById("verdict").textContent === "A valid file"`);
-        assert.match(await browser.value(`document.getElementById("legend").textContent`), /^100,000 nodes/);
+        await browser.drop([LARGE]);
+        await browser.untilText("verdict", "A valid file");
+        assert.match(await browser.text("legend"), /^100,000 nodes/);
     },
     "nothing is said on the console, and nothing is asked for": async (browser) => {
         const said = new Set(["Log.entryAdded", "Runtime.consoleAPICalled", "Runtime.exceptionThrown"]);
