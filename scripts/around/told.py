@@ -112,9 +112,11 @@ class Told:
             edit = Edit(self.path)
             return [edit.text.splitlines()[0], f"refused by: {edit.refused}"]
         if self.kind is Kind.PROOF and (function := self.users.proved_by(self.path)):
-            names = [clause.name or "a clause without a name" for clause in function.clauses if clause.kind == "ensures"]
+            every = (function, *self.users.asked(function))  # (a method's contract may be its trait's)
+            names = [clause.name or "a clause without a name" for it in every for clause in it.clauses if clause.kind == "ensures"]
             what = {"Answers": "the goals", "Invariants": "the loops"}.get(self.path.stem, "the proof")
-            return [f"{what} of {self.function(function)}: {function.summary}", self.row("its contract ensures", names)]
+            summary = next((it.summary for it in every if it.summary), "")
+            return [f"{what} of {self.function(function)}: {summary}", self.row("its contract ensures", names)]
         head = code_at(self.path).head if self.path.suffix == ".rt" else definitions_at(self.path).head
         return [sentence(head)] if head else []
 

@@ -67,8 +67,11 @@ class Users:
 
     def callers(self, function: Function) -> list[Function]:
         """The functions that call a function, or the method of a trait that it is."""
-        asked = [it for it in self.world.methods[function.name] if it.is_asked and it.owner == function.trait] if function.trait else []
-        return [caller for it in (function, *asked) for caller in self.called_by.get(it, []) if caller is not function]
+        return [caller for it in (function, *self.asked(function)) for caller in self.called_by.get(it, []) if caller is not function]
+
+    def asked(self, function: Function) -> list[Function]:
+        """The method of a trait that a function implements, if it does."""
+        return [it for it in self.world.methods[function.name] if it.is_asked and it.owner == function.trait] if function.trait else []
 
     def home(self, path: str, crate: str) -> tuple[Path, str] | None:
         """The file that declares what a path of code names, such as `crate::a::T` or `tsp_b::T`, and its name there."""
