@@ -30,7 +30,7 @@ void declare(CLI::App& app, Options& options) {
       app.add_option("--seconds", options.limit.seconds,
                      "seconds to run by the clock; the first steps and kicks are timed to see how many fit")
           ->type_name("S")
-          ->check(CLI::PositiveNumber);
+          ->check(certify::need_positive, "POSITIVE");
   app.add_option_function<double>(
          "--cpu-seconds",
          [&options](double most) {
@@ -38,7 +38,7 @@ void declare(CLI::App& app, Options& options) {
          },
          "processor seconds, instead of --seconds")
       ->type_name("S")
-      ->check(CLI::PositiveNumber)
+      ->check(certify::need_positive, "POSITIVE")
       ->excludes(seconds);
   certify::declare_common(app, options);
   app.footer(kFooter);
