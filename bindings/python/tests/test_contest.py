@@ -137,8 +137,8 @@ class Contests(unittest.TestCase):
         self.assertIn(("rectangle", "bee", "run4: RepeatedNode 3"), found.rejected())
         self.assertEqual({run: it.length for run, it in found.runs("rectangle", "bee").items()}, {"": 14, "run2": 18, "run3": 16, "run4": None})
         self.assertEqual(found["rectangle", "bee"].length, 14)
-        for run in ("2", "run2"):  # as people write it in a file of times
-            (self.top / "bee/times.csv").write_text(f"instance,run,seconds\nrectangle,{run},1.5\nrectangle,3,2.5\n")
+        for written in ("2", "run2"):  # as people write it in a file of times
+            (self.top / "bee/times.csv").write_text(f"instance,run,seconds\nrectangle,{written},1.5\nrectangle,3,2.5\n")
             self.assertEqual(self.table()._row("rectangle", "bee")["seconds"], 2.0)
         text = str(found)
         self.assertIn("14 +40.00 %, mean 16.00, worst 18, 3 of 4 runs", text)

@@ -28,7 +28,8 @@ struct Help {
 void declare_files(CLI::App& app, CommonOptions& options, const char* why);
 // --tour-out, --tsp, --seed and --log.
 void declare_common(CLI::App& app, CommonOptions& options);
-// Checks of an option's number, in place of CLI11's, which print the largest double in full: what is wrong with the word.
+// Checks of an option's number, in place of CLI11's, which print the largest double in full: what is wrong
+// with the word.
 std::string need_positive(const std::string& word);
 std::string need_nonnegative(const std::string& word);
 // Takes the words. Throws Refusal where they are wrong.
