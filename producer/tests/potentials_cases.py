@@ -242,7 +242,7 @@ def bad_input():
         (["pair.tsp", "other.tour", *OUT], "doesn't use all fixed edges"),
         (["a.tsp"], "-o"),
         ([], "INSTANCE"),
-        (["a.tsp", *OUT, "--seconds", "0"], "--seconds"),
+        (["a.tsp", *OUT, "--seconds", "0"], "--seconds: 0 isn't a number above 0; --help lists all options"),
         (["a.tsp", *OUT, "--cpu-seconds", "0"], "--cpu-seconds"),
         (["a.tsp", *OUT, "--cpu-seconds", "1", "--seconds", "1"], "--seconds excludes --cpu-seconds"),
         (["a.tsp", *OUT, "--steps", "0"], "--steps"),

@@ -137,6 +137,9 @@ class Contests(unittest.TestCase):
         self.assertIn(("rectangle", "bee", "run4: RepeatedNode 3"), found.rejected())
         self.assertEqual({run: it.length for run, it in found.runs("rectangle", "bee").items()}, {"": 14, "run2": 18, "run3": 16, "run4": None})
         self.assertEqual(found["rectangle", "bee"].length, 14)
+        for written in ("2", "run2"):  # as people write it in a file of times
+            (self.top / "bee/times.csv").write_text(f"instance,run,seconds\nrectangle,{written},1.5\nrectangle,3,2.5\n")
+            self.assertEqual(self.table()._row("rectangle", "bee")["seconds"], 2.0)
         text = str(found)
         self.assertIn("14 +40.00 %, mean 16.00, worst 18, 3 of 4 runs", text)
         self.assertRegex(text, r"\nmean % over best, all runs .* 38.1858")
@@ -157,6 +160,10 @@ class Contests(unittest.TestCase):
             with self.subTest(text):
                 path.write_text(text)
                 self.refused(said)
+
+    def test_times_beside_the_folders(self):
+        (self.top / "times.csv").write_text("instance,seconds\nharbour,1\n")
+        self.refused("times.csv: a file of times is looked for in a solver's folder")
 
     def test_times_of_no_solution(self):
         (self.top / "bee/times.csv").write_text("instance,run,seconds\nharbour,run1,4\nharbour,run2,5\nharbour,,6\n")

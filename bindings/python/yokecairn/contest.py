@@ -96,8 +96,8 @@ class Contest:
         for file in files:
             name, run = self._parts(file)
             if file.name == _TIMES:
-                self._add_times(solver, file)
-            elif file.suffix not in _SOLUTIONS:
+                continue  # (below, when all runs are known)
+            if file.suffix not in _SOLUTIONS:
                 others.append(file)
             elif not name:
                 stem = file.name.partition(".")[0]
@@ -105,6 +105,9 @@ class Contest:
             else:
                 path, certificate = self.instances[name]
                 self.entries.append(Entry(path, solver, str(file), run=run, **certificate))
+        for file in files:
+            if file.name == _TIMES:
+                self._add_times(solver, file)
         solved = {_Path(entry.instance).stem for entry in self.entries if entry.solver == solver}
         for file in others:  # (as a log beside a solution may be)
             name, _ = self._parts(file)
@@ -113,11 +116,13 @@ class Contest:
         return wrong
 
     def _add_times(self, solver: str, file: _Path) -> None:
-        """Reads how many seconds runs took: columns `instance`, `seconds` and, if there are several runs, `run`.
+        """Reads how many seconds runs took: columns `instance`, `seconds` and, if there are several runs, `run`, where `1` is
+        the run `run1` too.
 
         Raises:
             ValueError: a line has another form, or names no instance.
         """
+        known = {(_Path(entry.instance).stem, entry.run) for entry in self.entries if entry.solver == solver}
         with open(file, encoding="utf-8-sig", newline="") as lines:
             rows = csv.DictReader(lines)
             if not {"instance", "seconds"} <= set(rows.fieldnames or ()):
@@ -132,6 +137,8 @@ class Contest:
                     raise ValueError(f"{file}:{rows.line_num}: this is no number of seconds: {row['seconds']}")
                 if name not in self.instances:
                     raise ValueError(f"{file}:{rows.line_num}: there is no instance {name}{self._near(name)}")
+                if (name, run) not in known and (name, f"run{run}") in known:
+                    run = f"run{run}"
                 if (solver, name, run) in self.seconds:
                     raise ValueError(f"{file}:{rows.line_num}: a run of {name} comes twice")
                 self.seconds[solver, name, run] = seconds
@@ -180,7 +187,10 @@ def find(folders: Iterable[Path], best: Optional[Path] = None) -> Contest:
     homes = {_Path(path).parent for path, _ in contest.instances.values()}
     wrong: List[str] = []
     for top in tops:
-        for folder, files in _solvers_in(top, True, homes).items():
+        found = _solvers_in(top, True, homes)
+        if (top / _TIMES).is_file() and top not in found:
+            wrong.append(f"{top / _TIMES}: a file of times is looked for in a solver's folder")
+        for folder, files in found.items():
             own = [file for file in files if best is None or file != _Path(best)]
             if folder in homes:  # a folder of instances may have notes
                 own = [file for file in own if contest._parts(file)[0] and file.suffix in _SOLUTIONS]

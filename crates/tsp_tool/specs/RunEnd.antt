@@ -88,7 +88,7 @@ IsLineOf (NoJob (job_faults.Refused refusal)) _ = ⊥
 abbrev pub ended : List ℕ → Option (List ℕ)
 ended text = Some (text ++ 10 ∷ [])
 
--- the bytes of the line, unless clap writes it
+-- the bytes of the line, unless clap writes it; a tip may follow clap's text
 abbrev pub line_text : ErrorLine → Option (List ℕ)
 line_text (error_lines.Refusal refusal) = None
 line_text error_lines.OutOfMemory = ended (codes "out of memory")

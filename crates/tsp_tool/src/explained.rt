@@ -19,6 +19,7 @@ use tsp_judge::{
     ComparisonContext, Follow, Found, RunFault, Solution, Solutions, Watched, explain_fault,
     explain_known_bound, explain_outcome, explain_solution,
 };
+use tsp_number::parse_whole;
 use tsp_report::{Role, Task};
 use tsp_solution::{FormFault, Hints, SolutionFault, SolutionRunFault, read_text, solution_text};
 
@@ -38,6 +39,33 @@ pub(crate) fn fault_explanation(alloc: Global, fault: TaskFault) -> Vec<u8> {
         TaskFault::NotADepot => push_lines(&mut text, DEPOTS),
     };
     text
+}
+
+/// What to write in place of words that `clap` refuses because a length below 0 follows `--length`:
+/// it takes such a word for an option, and its own tip isn't of use here. Otherwise empty.
+pub(crate) fn length_tip(alloc: Global, words: &[&str]) -> Vec<u8> {
+    let mut text = Vec::new(alloc);
+    if let Some(length) = length_below_zero(words) {
+        let _ = writeln!(
+            text,
+            "\nA length below 0 needs an equals sign: --length={}",
+            length
+        );
+    }
+    text
+}
+
+/// The length below 0 that is the word after `--length`.
+fn length_below_zero(words: &[&str]) -> Option<i64> {
+    let mut found = None;
+    let mut before = "";
+    'words: for word in words {
+        if before == "--length" {
+            found = parse_whole(word.as_bytes(), i64::MIN, -1).ok();
+        }
+        before = *word;
+    }
+    found
 }
 
 /// What a layout is.
@@ -132,13 +160,48 @@ pub(crate) fn explanation<F: Read + Drop, O: Open<F>>(
             };
             explain_fault(alloc, &mut text, &names, again, error, fault)
         }
-        RunEnd::NoJob(_) | RunEnd::Printed(_) | RunEnd::NoTask(_) | RunEnd::Solved(_) => Ok(()),
+        RunEnd::Solved(Err(fault)) => push_untried(task_run, &mut text, *fault),
+        RunEnd::NoJob(_) | RunEnd::Printed(_) | RunEnd::NoTask(_) | RunEnd::Solved(Ok(())) => {
+            Ok(())
+        }
     };
     text
 }
 
+/// Explains why no solution in some form could be tried.
+fn push_untried<F: Read + Drop, O: Open<F>>(
+    task_run: &TaskRun<'_, F, O>,
+    text: &mut Vec<u8>,
+    fault: SolutionRunFault,
+) -> Result<(), AllocError> {
+    match fault {
+        SolutionRunFault::File {
+            file,
+            fault: SolutionFault::File(fault),
+        } => {
+            let names = task_run.names();
+            let again = task_run.again(file);
+            let fault = RunFault::File { file, fault };
+            explain_fault(task_run.alloc, text, &names, again, None, fault)
+        }
+        SolutionRunFault::File {
+            file: _,
+            fault: SolutionFault::Place {
+                line: _,
+                word: _,
+                fault,
+            },
+        } => push_lines(text, fault.sentence()),
+        SolutionRunFault::File {
+            file: _,
+            fault: SolutionFault::OutOfMemory,
+        }
+        | SolutionRunFault::Write(_) => Ok(()),
+    }
+}
+
 /// What a file is called.
-fn name_of(place: InputPath<'_>) -> &str {
+pub(crate) fn name_of(place: InputPath<'_>) -> &str {
     match place {
         InputPath::Path(path) => path,
         InputPath::Input => "standard input",
@@ -146,7 +209,7 @@ fn name_of(place: InputPath<'_>) -> &str {
 }
 
 /// Opens the file at a place once more, if it can be read twice.
-fn again<F: Read, O: Open<F>>(place: InputPath<'_>, files: &O) -> Option<F> {
+pub(crate) fn again<F: Read, O: Open<F>>(place: InputPath<'_>, files: &O) -> Option<F> {
     match place {
         InputPath::Path(path) => files.open_again(path),
         InputPath::Input => None,

@@ -4,22 +4,23 @@
 
 ghost use Rattle.std.specs.Io.KnownBytes.{Appends, Keeps};
 ghost use Rattle.std.specs.IoError.{error_kind};
-ghost use Rattle.std.specs.Prelude.{◌≡◌, ◌≢◌, ◌||◌, IfOk, OnOk, Some, drop, map, ◌≤◌, ◌<◌, true, false, length};
+ghost use Rattle.std.specs.Prelude.{◌≡◌, ◌≢◌, ◌||◌, Err, IfOk, OnOk, Some, drop, map, ◌≤◌, ◌<◌, true, false, length};
 ghost use Rattle.std.specs.String.{string_bytes};
 ghost use Rattle.tsp_io.specs.states.Output.{FailsByWrite, sink_of};
 ghost use Rattle.tsp_judge.specs.TaskRun.{outcome_of_check};
 ghost use Rattle.tsp_tool.specs.ProgramRun.{EndsFormCheck, EndsFormComparison, IsComparedAs, AreOpened, IsFresh, EndsProgram, EndsRefused, EndsWith, HasNoWords, IsDoneAs, Runs, RunsComparison, RunsJob, RunsFileTask, begins_with_help, AreFresh};
 ghost use Rattle.tsp_tool.specs.declared.job.Verb.TheVariants as verbs;
-ghost use Rattle.tsp_tool.specs.RunEnd.{Prints, PrintsSome, version_text, status_of_run_end, Tells, TellsAfter, TellsAll, waiting_line};
+ghost use Rattle.tsp_tool.specs.RunEnd.{Prints, PrintsSome, version_text, status_of_run_end, status_of_solved, Tells, TellsAfter, TellsAll, waiting_line};
+ghost use Rattle.tsp_tool.specs.declared.ends.RunEnd.TheVariants.{Solved};
 
 use crate::ends::{RunEnd, status_of_run_end, tell};
-use crate::explained::{Followed, TaskRun, end_count, explanation, fault_explanation};
+use crate::explained::{Followed, TaskRun, end_count, explanation, fault_explanation, length_tip};
 use crate::form_check::{CheckedTexts, FormCheck, check_texts, form_check_of, text_at, texts_of};
 use crate::form_comparison::compare_by_form;
 use crate::grammar::VERSION;
 use crate::input::Open;
 use crate::job::{InputPath, Job, JobFault, TaskFault, Verb, job_of, task_of, unread};
-use crate::solution_run::{form_of, run_solution, tell_solved};
+use crate::solution_run::{form_of, run_solution};
 use clap::Error as Refusal;
 use clap::error::ErrorKind;
 use std::alloc::{AllocError, Global};
@@ -71,7 +72,7 @@ pub fn run<F: Gives + Drop, O: Open<F>, W: Takes, E: Write>(
         Err(JobFault::OutOfMemory) => end(&RunEnd::NoJob(JobFault::OutOfMemory), errors),
         Err(JobFault::Refused(refusal)) => {
             let run_end = end_of_refusal(alloc, refusal, &words, host_context.build, out);
-            end(&run_end, errors)
+            end_refused(alloc, &run_end, &words, errors)
         }
         Ok(job) => {
             let answer = run_job(alloc, &job, files, out, errors, host_context);
@@ -128,6 +129,41 @@ fn end<E: Write>(run_end: &RunEnd, errors: &mut E) -> (u8, io::Result<()>)
 {
     let reported = tell(run_end, errors);
     (status_of_run_end(run_end), reported)
+}
+
+/// The same if `clap` refuses the words, whose text a tip may follow.
+fn end_refused<E: Write>(
+    alloc: Global,
+    run_end: &RunEnd,
+    words: &[&str],
+    errors: &mut E,
+) -> (u8, io::Result<()>)
+    ensures status { result.0 ≡ status_of_run_end run_end.now }
+    ensures reported { OnOk result.1 (Tells run_end.now (E.contents errors.old) (E.contents errors.new)) }
+{
+    let reported = tell_refused(alloc, run_end, words, errors);
+    (status_of_run_end(run_end), reported)
+}
+
+/// Reports the end of refused words, with a tip after `clap`'s text.
+fn tell_refused<E: Write>(
+    alloc: Global,
+    run_end: &RunEnd,
+    words: &[&str],
+    errors: &mut E,
+) -> io::Result<()>
+    ensures { OnOk result (Tells run_end.now (E.contents errors.old) (E.contents errors.new)) }
+{
+    tell(run_end, errors)?;
+    match run_end {
+        RunEnd::NoJob(JobFault::Refused(_)) => append(errors, length_tip(alloc, words)),
+        RunEnd::NoJob(JobFault::OutOfMemory)
+        | RunEnd::Printed(_)
+        | RunEnd::NoTask(_)
+        | RunEnd::Ended(_)
+        | RunEnd::Compared(_)
+        | RunEnd::Solved(_) => Ok(()),
+    }
 }
 
 /// Runs the job and reports how it ended, with an explanation if one is wanted. The result is like
@@ -246,7 +282,7 @@ fn run_form_check<F: Gives + Drop, O: Open<F>, W: Takes, E: Write>(
     let alloc = task_run.alloc;
     let texts = match texts_of(alloc, check, task_run.files) {
         Ok(texts) => texts,
-        Err(fault) => return tell_solved(alloc, Err(fault), errors, task_run.explain),
+        Err(fault) => return tell_untried(task_run, fault, errors),
     };
     let CheckedTexts { instance, written } = texts;
     let judged = check_texts(alloc, check, &instance, &written, task_run.files, out);
@@ -305,7 +341,7 @@ fn run_form_comparison<F: Gives + Drop, O: Open<F>, W: Takes, E: Write>(
         Ok(instance) => instance,
         Err(fault) => {
             let unread = SolutionRunFault::File { file: 1, fault };
-            return tell_solved(task_run.alloc, Err(unread), errors, task_run.explain);
+            return tell_untried(task_run, unread, errors);
         }
     };
     let found = compare_by_form(task_run, comparison, form, &instance, out, errors);
@@ -313,6 +349,21 @@ fn run_form_comparison<F: Gives + Drop, O: Open<F>, W: Takes, E: Write>(
     let run_end = RunEnd::Compared(found);
     end_count(task_run, errors);
     let reported = tell_end(task_run, &run_end, out.error(), errors);
+    (status_of_run_end(&run_end), reported)
+}
+
+/// Reports why no solution in some form could be tried, with an explanation if one is wanted. The
+/// result is like that of `run`.
+fn tell_untried<F: Read + Drop, O: Open<F>, E: Write>(
+    task_run: &TaskRun<'_, F, O>,
+    fault: SolutionRunFault,
+    errors: &mut E,
+) -> (u8, io::Result<()>)
+    ensures status { result.0 ≡ status_of_solved (Err fault) }
+    ensures told { OnOk result.1 (TellsAll task_run.now.explain (Solved (Err fault)) (E.contents errors.old) (E.contents errors.new)) }
+{
+    let run_end = RunEnd::Solved(Err(fault));
+    let reported = tell_end(task_run, &run_end, None, errors);
     (status_of_run_end(&run_end), reported)
 }
 

@@ -12,15 +12,17 @@ ghost use Rattle.tsp_tool.specs.declared.ends.RunEnd.TheVariants.{Solved};
 ghost use Rattle.tsp_tool.specs.declared.job.Verb.TheVariants as verbs;
 
 use crate::ends::{RunEnd, status_of_run_end, tell};
+use crate::explained::{again, name_of};
 use crate::input::Open;
 use crate::job::{InputPath, Job, TaskFault, input_path_at, input_path_of};
 use crate::running::{append, fresh, tell_fault_of_job};
 use std::alloc::Global;
 use std::io::{self, Write};
-use tsp_explain::push_lines;
+use tsp_explain::{explain_file, push_lines};
 use tsp_format::MOST_NODES;
 use tsp_io::{Gives, Output, Takes, Watched, write_text};
 use tsp_number::parse_whole;
+use tsp_report::Role;
 use tsp_solution::{
     Form, Hints, Numbering, SolutionFault, SolutionRunFault, table_of_forms, write_solution,
 };
@@ -143,10 +145,13 @@ pub(crate) fn run_solution<F: Gives + Drop, O: Open<F>, W: Takes, E: Write>(
         explain (E.contents errors.old) (E.contents errors.new) result }
 {
     if job.forms {
-        return tell_solved(alloc, list_forms(out), errors, explain);
+        return tell_solved(alloc, None, files, list_forms(out), errors, explain);
     }
     match solution_task_of(job) {
-        Ok(task) => tell_solved(alloc, solve(alloc, task, files, out), errors, explain),
+        Ok(task) => {
+            let solved = solve(alloc, task, files, out);
+            tell_solved(alloc, Some(task), files, solved, errors, explain)
+        }
         Err(fault) => {
             let reported = tell_fault_of_job(alloc, fault, errors, explain);
             (status_of_run_end(&RunEnd::NoTask(fault)), reported)
@@ -192,9 +197,12 @@ fn list_forms<W: Takes>(out: &mut Output<W>) -> Result<(), SolutionRunFault>
     }
 }
 
-/// Reports how a run ended, with an explanation of a fault if one is wanted.
-pub(crate) fn tell_solved<E: Write>(
+/// Reports how a run ended, with an explanation of a fault if one is wanted. `task` is none if forms
+/// were listed.
+fn tell_solved<F: Gives + Drop, O: Open<F>, E: Write>(
     alloc: Global,
+    task: Option<SolutionTask<'_>>,
+    files: &O,
     solved: Result<(), SolutionRunFault>,
     errors: &mut E,
     explain: bool,
@@ -203,13 +211,15 @@ pub(crate) fn tell_solved<E: Write>(
     ensures told { OnOk result.1 (TellsAll explain (Solved solved) (E.contents errors.old) (E.contents errors.new)) }
 {
     let run_end = RunEnd::Solved(solved);
-    let reported = tell_end(alloc, solved, errors, explain);
+    let reported = tell_end(alloc, task, files, solved, errors, explain);
     (status_of_run_end(&run_end), reported)
 }
 
 /// Reports and explains how a run ended.
-fn tell_end<E: Write>(
+fn tell_end<F: Gives + Drop, O: Open<F>, E: Write>(
     alloc: Global,
+    task: Option<SolutionTask<'_>>,
+    files: &O,
     solved: Result<(), SolutionRunFault>,
     errors: &mut E,
     explain: bool,
@@ -220,11 +230,16 @@ fn tell_end<E: Write>(
     if !explain {
         return Ok(());
     }
-    append(errors, explanation(alloc, solved))
+    append(errors, explanation(alloc, task, files, solved))
 }
 
-/// Explains line by line how a run ended.
-fn explanation(alloc: Global, solved: Result<(), SolutionRunFault>) -> Vec<u8> {
+/// Explains line by line how a run ended, reading a faulty file once more if possible.
+fn explanation<F: Gives + Drop, O: Open<F>>(
+    alloc: Global,
+    task: Option<SolutionTask<'_>>,
+    files: &O,
+    solved: Result<(), SolutionRunFault>,
+) -> Vec<u8> {
     let mut text = Vec::new(alloc);
     let _ = match solved {
         Err(
@@ -237,7 +252,28 @@ fn explanation(alloc: Global, solved: Result<(), SolutionRunFault>) -> Vec<u8> {
                 },
             },
         ) => push_lines(&mut text, fault.sentence()),
+        Err(
+            SolutionRunFault::File {
+                file,
+                fault: SolutionFault::File(fault),
+            },
+        ) => match named(task, file) {
+            Some((role, place)) => {
+                let again = again(place, files);
+                explain_file(alloc, &mut text, name_of(place), Some(role), again, fault)
+            }
+            None => Ok(()),
+        },
         _ => Ok(()),
     };
     text
+}
+
+/// What the file of a task with this number is for, and its place.
+fn named(task: Option<SolutionTask<'_>>, file: u32) -> Option<(Role, InputPath<'_>)> {
+    let task = task?;
+    match file {
+        1 => Some((Role::Solution, task.solution)),
+        _ => Some((Role::Instance, task.instance?)),
+    }
 }

@@ -21,7 +21,7 @@ void declare_trees(CLI::App& app, Options& options) {
       app.add_option("--split", options.split,
                      "stop as soon as K cases are open, and print the numbers of their leaves")
           ->type_name("K")
-          ->check(CLI::PositiveNumber);
+          ->check(need_positive, "POSITIVE");
   CLI::Option* const tree =
       app.add_option("--tree", options.tree, "go on with this certificate, which has a gap")
           ->type_name("CERTIFICATE");
@@ -29,7 +29,7 @@ void declare_trees(CLI::App& app, Options& options) {
       app.add_option("--leaf", options.leaf,
                      "go on with only this leaf of --tree, counted from 1; the certificate is then a part")
           ->type_name("N")
-          ->check(CLI::PositiveNumber)
+          ->check(need_positive, "POSITIVE")
           ->needs(tree);
   app.add_option("--join", options.parts, "replace leaves of --tree by these parts, and do nothing else")
       ->type_name("PART")
@@ -46,7 +46,7 @@ void declare(CLI::App& app, Options& options) {
       ->type_name("CERTIFICATE");
   declare_limit(app, options.limit, "seconds to run by the clock, 0 for no limit",
                 "processor seconds of all threads together, instead of --seconds")
-      ->check(CLI::NonNegativeNumber)
+      ->check(need_nonnegative, "NONNEGATIVE")
       ->capture_default_str();
   app.add_option("--upper", options.upper, "stop when the bound reaches L")->type_name("L");
   app.add_flag_callback(
@@ -54,12 +54,12 @@ void declare(CLI::App& app, Options& options) {
       "use only sets and combs as cuts, as for an ATSP");
   app.add_option("--threads", options.threads, "the largest number of threads, 0 for one on each processor")
       ->type_name("N")
-      ->check(CLI::NonNegativeNumber)
+      ->check(need_nonnegative, "NONNEGATIVE")
       ->capture_default_str();
   app.add_option("--window", options.window,
                  "the largest number of cases to work on at once; another number gives another tree")
       ->type_name("W")
-      ->check(CLI::PositiveNumber)
+      ->check(need_positive, "POSITIVE")
       ->capture_default_str();
   app.add_flag("--short-file", options.short_file,
                "shrink the certificate of a TSP; this may take longer than the search");

@@ -30,7 +30,7 @@ void declare(CLI::App& app, Options& options) {
       app, options.limit,
       "seconds to run by the clock; the first steps and kicks are timed to see how many fit",
       "processor seconds, instead of --seconds")
-      ->check(CLI::PositiveNumber);
+      ->check(certify::need_positive, "POSITIVE");
   certify::declare_common(app, options);
   app.footer(kFooter);
 }

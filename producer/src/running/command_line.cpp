@@ -1,6 +1,7 @@
 #include "running/command_line.h"
 
 #include <CLI/CLI.hpp>
+#include <cmath>
 #include <exception>
 #include <iostream>
 #include <new>
@@ -8,6 +9,15 @@
 #include "running/refusal.h"
 
 namespace certify {
+namespace {
+// The number of a word, or nothing where it has none.
+std::optional<double> number_of(const std::string& word) {
+  double number = 0;
+  if (!CLI::detail::lexical_cast(word, number) || !std::isfinite(number)) return std::nullopt;
+  return number;
+}
+}  // namespace
+
 void declare_files(CLI::App& app, CommonOptions& options, const char* why) {
   app.set_help_flag("-h,--help", "print this text");
   app.add_option("INSTANCE", options.instance, "a file of TYPE TSP or ATSP")->required();
@@ -37,9 +47,19 @@ CLI::Option* declare_limit(CLI::App& app, TimeLimit& limit, const char* seconds,
          },
          cpu_seconds)
       ->type_name("S")
-      ->check(CLI::PositiveNumber)
+      ->check(need_positive, "POSITIVE")
       ->excludes(by_clock);
   return by_clock;
+}
+
+std::string need_positive(const std::string& word) {
+  const std::optional<double> number = number_of(word);
+  return number && *number > 0 ? "" : word + " isn't a number above 0";
+}
+
+std::string need_nonnegative(const std::string& word) {
+  const std::optional<double> number = number_of(word);
+  return number && *number >= 0 ? "" : word + " isn't a number from 0 on";
 }
 
 std::optional<Help> take_words(CLI::App& app, int count, const char* const* words) {

@@ -33,6 +33,10 @@ void declare_files(CLI::App& app, CommonOptions& options, const char* why);
 void declare_common(CLI::App& app, CommonOptions& options);
 // --seconds, which it returns, and --cpu-seconds. The texts say what they are.
 CLI::Option* declare_limit(CLI::App& app, TimeLimit& limit, const char* seconds, const char* cpu_seconds);
+// Checks of an option's number, in place of CLI11's, which print the largest double in full: what is wrong
+// with the word.
+std::string need_positive(const std::string& word);
+std::string need_nonnegative(const std::string& word);
 // Takes the words. Throws Refusal where they are wrong.
 std::optional<Help> take_words(CLI::App& app, int count, const char* const* words);
 // The files that a run reads, but for those of other options.

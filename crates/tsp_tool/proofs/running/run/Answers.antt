@@ -59,7 +59,7 @@ returns-in-Err-Refused-clause-ends g c =
     let sink : Sink = sink_of g.W.Takes.contents c.args.out.now c.end_of_refusal-run_end.new.out in
     let run_end : RunEnd = c.end_of_refusal-run_end.result in
     let old = g.E.Write.contents c.args.errors.now in
-    let new = g.E.Write.contents c.end-in-Err-Refused.new.errors in
+    let new = g.E.Write.contents c.end_refused.new.errors in
     let gives = subst (λ fault. GivesJob (map (λ word. word.now) c.deref.result.now) (Err fault)) c.in-Err-Refused.field-0-is c.in-Err-Refused.ensures in
     let given = subst (λ words. GivesJob words (Err (Refused refusal))) (ap (map (λ word. word.now)) c.deref.ensures.value ∙ c.in-Ok.ensures) gives in
     let ended = subst (λ words. EndsRefused c.args.host_context.build.now words sink refusal run_end) (ap (map (λ word. word.now)) c.deref-in-Err-Refused.ensures.value ∙ c.in-Ok.ensures) c.end_of_refusal-run_end.ensures in
@@ -68,8 +68,8 @@ returns-in-Err-Refused-clause-ends g c =
       run_end,
       ends,
       (
-        c.end-in-Err-Refused.ensures.status,
-        on_ok c.end-in-Err-Refused.result.1 _ _ (tells_refused c.args.host_context.build.now (drop 1 words) sink refusal run_end ended old new) c.end-in-Err-Refused.ensures.reported,
+        c.end_refused.ensures.status,
+        on_ok c.end_refused.result.1 _ _ (tells_refused c.args.host_context.build.now (drop 1 words) sink refusal run_end ended old new) c.end_refused.ensures.reported,
       ),
     )
 

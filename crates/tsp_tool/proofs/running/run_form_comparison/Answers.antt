@@ -17,7 +17,7 @@ pub returns-in-Err : goal.returns-in-Err
 returns-in-Err g c = (
   Solved (Err (File 1 c.in-Err.fault)),
   ((c.in-Err.fault, refl, c.in-Err.ensures), (Keeps-refl _, refl)),
-  (c.tell_solved.ensures.status, c.tell_solved.ensures.told),
+  (c.tell_untried.ensures.status, c.tell_untried.ensures.told),
 )
 
 pub returns : goal.returns

@@ -11,7 +11,7 @@ returns-then-job g c =
 
 pub returns-in-Ok : goal.returns-in-Ok
 returns-in-Ok g c =
-    (Solved c.solve.result, inl (c.requires, inr (c.in-Ok.task, c.in-Ok.ensures, c.solve.ensures)), (c.tell_solved-in-Ok.ensures.status, c.tell_solved-in-Ok.ensures.told))
+    (Solved c.solve-solved.result, inl (c.requires, inr (c.in-Ok.task, c.in-Ok.ensures, c.solve-solved.ensures)), (c.tell_solved-in-Ok.ensures.status, c.tell_solved-in-Ok.ensures.told))
 
 pub returns-in-Err : goal.returns-in-Err
 returns-in-Err g c =
