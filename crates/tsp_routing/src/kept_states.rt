@@ -20,7 +20,7 @@ ghost use Rattle.tsp_routing.specs.states.RunTables.{item_lists};
 use crate::run_leaf::{RunLeaf, home_at};
 use crate::run_steps::{Serving, add_nexts, entry_at, first_entry};
 use std::alloc::Global;
-use tsp_io::{Refused, push, sort, with_capacity};
+use tsp_io::{Refused, push, with_capacity};
 use tsp_theory::weight_in;
 
 /// A label: a memory, and the least weight of the starts of runs that end with it. The list that
@@ -316,7 +316,7 @@ fn least_of(alloc: Global, entries: Vec<KeptState>) -> Result<Vec<KeptState>, Re
     ensures rising { IfOk result (λ least. AreRising least.items) }
 {
     let mut sorted = entries;
-    sort(&mut sorted)?;
+    sorted.sort_unstable();
     let least = least_in(alloc, &sorted)?;
     Ok(least)
 }

@@ -9,9 +9,9 @@ use Rattle.tsp_routing.proofs.kept_states.least_of.Goals as goal
 -- plan: the sorted entries are the same ones, in order
 pub least_in-requires : goal.least_in-requires
 least_in-requires c =
-    record { order = subst AreInOrder (sym c.deref.ensures.value) (in_order c.sort.new.list.items c.in_ok-sort.ensures.sorted) }
+    record { order = subst AreInOrder (sym c.deref.ensures.value) (in_order c.sort_unstable.new.self.items c.sort_unstable.ensures.sorted) }
 
 pub returns-clause-least : goal.returns-clause-least
 returns-clause-least c =
-    least_of_sorted c.args.entries.items c.sort.new.list.items c.in_ok-least.least.items c.sort.ensures.permutation
+    least_of_sorted c.args.entries.items c.sort_unstable.new.self.items c.in_ok-least.least.items c.sort_unstable.ensures.permutation
     (subst (λ (xs : List KeptState). AreLeastOf xs c.in_ok-least.least.items) c.deref.ensures.value c.in_ok-least.ensures.least)
