@@ -175,7 +175,7 @@ class Told:
             return self.row(function.shown, map(self.function, others or found))
         if function.trait:
             return f"{function.shown}: called through the trait {function.trait}"
-        if any("no_mangle" in attribute for attribute in function.attributes):
+        if function.is_for_c:
             return f"{function.shown}: called from C"
         is_law = function.is_law or function.changes_nothing
         return f"{function.shown}: {'a law for readers, which no code calls' if is_law else 'no code in crates/ calls it'}"
