@@ -8,8 +8,9 @@ from collections.abc import Iterable
 from pathlib import Path
 
 from code_text import Code, Function
-from crates_text import ROOT, Crate, Definitions, Edit, code_at, definitions_at
+from crates_text import ROOT, Crate, Definitions, Edit, Key, Pair, code_at, definitions_at
 
+from .imports import module_of
 from .kinds import Kind, kind_of
 from .users import Users
 
@@ -20,6 +21,7 @@ TESTS = ("tsp_tests", "tsp_tests_no_memory", "example_check")
 LISTS = ("Lib.antt", "states.antt", "lib.rt")
 LOOK = "./check layout names style edits bodies cited trust evaluated walks"
 SENTENCE = re.compile(r"(?<!\b[A-Z])(?<=[^.\s])\.(?:\s|$)")  # (an initial, as in O. Borůvka, ends none)
+ITEM = re.compile(r"\b(?:const|static|struct|enum) (\w+)")
 CIRCLES = re.compile(r"^Circles? [123][^.]*of docs/trust\.md\.\s*")
 
 
@@ -155,7 +157,7 @@ class Told:
                 *self.table("other functions that other files call", map(self.callers, others)),
                 *self.table("types and constants, and who imports them", types),
                 *([f"functions that only this file calls: {inner}"] if inner else []), *([f"tests: {tests}"] if tests else []),
-                *([self.row("definitions and proofs that name its types", stating)] if stating else []), *self.walks()]
+                *([self.row("definitions and proofs that name its types", stating)] if stating else []), *self.walks({self.path})]
 
     def table(self, title: str, rows: Iterable[str]) -> list[str]:
         """Rows under a title; none if there are no rows."""
@@ -175,18 +177,23 @@ class Told:
             return self.row(function.shown, map(self.function, others or found))
         if function.trait:
             return f"{function.shown}: called through the trait {function.trait}"
-        if any("no_mangle" in attribute for attribute in function.attributes):
+        if function.is_for_c:
             return f"{function.shown}: called from C"
         is_law = function.is_law or function.changes_nothing
         return f"{function.shown}: {'a law for readers, which no code calls' if is_law else 'no code in crates/ calls it'}"
 
-    def walks(self) -> list[str]:
-        """The walks that pass through the file."""
-        if self.kind is Kind.TESTS or any(self.crate.name in walk.aside for walk in self.users.walks):
+    def walks(self, paths: Iterable[Path]) -> list[str]:
+        """The walks that pass through files of code: this one, or those that it is about."""
+        every = self.users.walks
+        if self.kind is Kind.TESTS or any(self.crate.name in walk.aside for walk in every):
             return []
-        counts = [(walk.name, sum(it.path == self.path for it in walk.calls)) for walk in self.users.walks]
-        passing = [f"{name} ({count})" for name, count in counts if count]
-        return [self.row("walks (scripts/walk) through it, each with how many of its functions", passing)] if passing or self.kind is Kind.CODE else []
+        found = []
+        for path in sorted(paths):
+            counts = [(walk.name, sum(it.path == path for it in walk.calls)) for walk in every]
+            passing = [f"{name} ({count})" for name, count in counts if count]
+            title = "walks (scripts/walk) through " + ("it" if path == self.path else self.short(path))
+            found.append(self.row(f"{title}, each with how many of its functions", passing) if passing else f"{title}: on no walk")
+        return self.table("walks", found) if len(found) > self.rows else found
 
     def users_of_exports(self, code: Code) -> list[str]:
         found: dict[str, set[str]] = defaultdict(set)
@@ -202,7 +209,8 @@ class Told:
         function = self.users.proved_by(self.path)
         if not function:
             return ["no function has this proof"]
-        return [f"no other file: callers of {function.shown} see only its contract", f"callers of {self.callers(function)}"]
+        return [f"no other file: callers of {function.shown} see only its contract", f"callers of {self.callers(function)}",
+                *self.walks({function.path})]
 
     def users_of_index(self, file: Definitions) -> list[str]:
         """Its modules: those that other crates import, other public ones, and private ones."""
@@ -221,7 +229,9 @@ class Told:
         told = [f"{name} ({len(names[name])})" for name in most]
         found = self.table("files that import it", self.imported_by(self.users.importers_of(file))) or ["no file imports it"]
         found += [self.row("names that are imported most (by files)", told)] if told else []
-        return found + (self.contracts(file) if self.kind not in (Kind.LEMMAS, Kind.PRELUDE) else [])
+        if self.kind is Kind.LEMMAS:
+            return found + self.walks(self.users.code_proved_by(file))
+        return found + (self.contracts(self.keys_of(file)) if self.kind is not Kind.PRELUDE else [])
 
     def imported_by(self, importers: set[Path]) -> list[str]:
         """The files that import it, crate by crate: code, definitions and lemmas, and the functions whose proofs do."""
@@ -234,10 +244,13 @@ class Told:
             rows.append(f"{name}: {'; '.join(parts)}")
         return rows
 
-    def contracts(self, file: Definitions) -> list[str]:
-        """The contracts that name its definitions, those that rest on them, and the records of `yes` that do."""
+    def keys_of(self, file: Definitions) -> set[Key]:
+        """The definitions of a file."""
+        return {(module, name) for module, it in self.users.circles.modules.items() if it.path == file.path for name in it.definitions}
+
+    def contracts(self, own: set[Key]) -> list[str]:
+        """The contracts that name definitions, those that rest on them, and the records of `yes` that do."""
         users = self.users
-        own = {(module, name) for module, it in users.circles.modules.items() if it.path == file.path for name in it.definitions}
         wide = users.resting_on(own)
         direct, every = (list(dict.fromkeys(it for it, _ in users.stated(keys))) for keys in (own, wide))
         direct.sort(key=lambda it: (not users.is_exported(it), code_at(it.path).place in ("examples", "laws")))
@@ -258,21 +271,39 @@ class Told:
         changed = [it for pair in edit.pairs if (it := self.crate.function_of(pair))]
         folders = set(self.crate.folders_of(edit))
         alike = [it.path.stem for it in self.crate.edits if it.path != edit.path and folders & set(self.crate.folders_of(it))]
-        found = [self.row("it changes", [*map(self.function, changed), *self.definitions_changed(edit)])]
+        defined = [key for pair in edit.pairs if (key := self.definition_changed(pair))]
+        found = [self.row("it changes", [*map(self.function, changed), *map(self.definition, defined), *self.others_changed(edit)])]
         found += [f"callers of {self.callers(function)}" for function in dict.fromkeys(changed)]
-        return [*found, *([self.row("other edits of it", alike)] if alike else [])]
+        found += [line for key in dict.fromkeys(defined) for line in self.users_of_definition(key)]
+        found += [self.row("other edits of it", alike)] if alike else []
+        return found + self.walks({path for pair in edit.pairs if (path := self.crate.folder / pair.path).suffix == ".rt"})
 
-    def definitions_changed(self, edit: Edit) -> list[str]:
-        """The definitions that an edit changes, each with the circles of its file; other files by their paths."""
-        found = []
-        for pair in (it for it in edit.pairs if not self.crate.function_of(it)):
-            path = self.crate.folder / pair.path
-            number = path.read_text().partition(pair.old)[0].count("\n") + 1 if path.is_file() else 0
-            names = [it.name for it in definitions_at(path).definitions.values() if it.number <= number] if path.suffix == ".antt" else []
-            circles = self.users.circles.of_file(path) if names else []
-            told = f", circle {' and '.join(map(str, circles))}" if circles else ""
-            found.append(f"{names[-1]} ({pair.path}{told})" if names else pair.path)
-        return found
+    def definition_changed(self, pair: Pair) -> Key | None:
+        """The definition that a pair of an edit changes."""
+        path = self.crate.folder / pair.path
+        if not pair.path.startswith("specs/") or not path.is_file():
+            return None
+        number = path.read_text().partition(pair.old)[0].count("\n") + 1
+        names = [it.name for it in definitions_at(path).definitions.values() if it.number <= number]
+        return (module_of(self.crate, path), names[-1]) if names else None
+
+    def definition(self, key: Key) -> str:
+        """A definition with its file, and the circles of that."""
+        path = self.users.imports.modules[key[0]].path
+        circles = self.users.circles.of_file(path)
+        return f"{key[1]} ({self.short(path)}{f', circle ' + ' and '.join(map(str, circles)) if circles else ''})"
+
+    def users_of_definition(self, key: Key) -> list[str]:
+        """The files that import a definition, and the contracts and records that rest on it."""
+        importers = self.users.names_imported(self.users.imports.modules[key[0]]).get(key[1], set())
+        found = self.table(f"files that import {key[1]}", self.imported_by(importers)) or [f"only its own file uses {key[1]}"]
+        return found + self.contracts({key})
+
+    def others_changed(self, edit: Edit) -> list[str]:
+        """What an edit changes outside of functions and definitions: a constant or a type, or else the file."""
+        others = [pair for pair in edit.pairs if not self.crate.function_of(pair) and not self.definition_changed(pair)]
+        named = [(ITEM.search(pair.old), pair.path) for pair in others]
+        return [f"{item[1]} ({path})" if item else path for item, path in named]
 
     # ---- what it uses
 

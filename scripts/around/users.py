@@ -186,6 +186,12 @@ class Users:
         folder = str(path.parent.relative_to(crate.folder / "proofs")).replace("+", "")
         return next((it for it in crate.functions if crate.folder_of(it) == folder), None)
 
+    def code_proved_by(self, file: Definitions) -> set[Path]:
+        """The files of code whose functions have proofs that import a file of lemmas, or that cite it themselves."""
+        paths = self.importers_of(file)
+        return {it.path for path in paths if path.suffix == ".antt" and len(path.relative_to(self.crate_of(path).folder).parts) > 2
+                if (it := self.proved_by(path))} | {path for path in paths if path.suffix == ".rt"}
+
     def edits_of(self, crate: Crate, path: Path, folders: Iterable[str] = ()) -> list[Edit]:
         """The wrong edits that change a file, or that a proof in one of these folders refuses."""
         name, wanted = str(path.relative_to(crate.folder)), set(folders)

@@ -28,9 +28,9 @@ CHOSEN = object()
 class Body(Patterns):
     """A function's body, read once from its first sign to its last."""
 
-    def __init__(self, world: World, function: Function, chosen: Choices) -> None:
+    def __init__(self, world: World, function: Function, chosen: Choices, is_refused: bool = False) -> None:
         super().__init__(world, function)
-        self.chosen = chosen
+        self.chosen, self.is_refused = chosen, is_refused
         self.file = world.files[function.path]
         self.tokens: list[str] = TOKEN.findall(function.body or "")
         self.at = self.muted = 0
@@ -100,10 +100,10 @@ class Body(Patterns):
         return self.expression()
 
     def aside(self, read: Callable[[], str]) -> str:
-        """Reads what isn't followed."""
-        self.muted += 1
+        """Reads what follows a refusal."""
+        self.muted += not self.is_refused
         read()
-        self.muted -= 1
+        self.muted -= not self.is_refused
         return "!"
 
     # ---- expressions
@@ -282,8 +282,8 @@ class Body(Patterns):
         return type_
 
     def follows(self, pattern: list[str]) -> object:
-        """Whether an arm is followed, and CHOSEN where it is by a choice. What comes after a refusal isn't."""
-        if "Err" in pattern and not any(it in ("Ok", "Some") for it in pattern):
+        """Whether an arm is followed, and CHOSEN where it is by a choice. What comes after a refusal is only if the walk is refused."""
+        if not self.is_refused and "Err" in pattern and not any(it in ("Ok", "Some") for it in pattern):
             return False
         named: dict[str, set[str]] = defaultdict(set)
         for enum, variant in re.findall(r"(\w+) :: (\w+)", " ".join(pattern)):
@@ -382,9 +382,10 @@ class Body(Patterns):
     def call(self, names: list[str]) -> str:
         name = names[-1] if names else ""
         wrapped = {"Some": "Option<{}>", "Ok": "Result<{}, _>", "Err": "Result<_, {}>"}.get(name)
-        self.muted += name == "Err"
+        is_left = name == "Err" and not self.is_refused
+        self.muted += is_left
         types = self.arguments()
-        self.muted -= name == "Err"
+        self.muted -= is_left
         if wrapped:
             return wrapped.format((types or ["_"])[0] or "_")
         if name[:1].isupper():  # (a variant, or a struct without names of fields)

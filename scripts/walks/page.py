@@ -41,6 +41,11 @@ def table_of_walks(all_walks: Iterable[Walk]) -> list[str]:
     return ["| Walk | Functions | Files | Crates |", "|---|---|---|---|", *rows]
 
 
+def list_of_walks(all_walks: Iterable[Walk]) -> list[str]:
+    """How many files of how many crates each walk has."""
+    return [f"- `{walk.name}`: {walk.figures()[1]} files, {walk.figures()[2]} crates" for walk in all_walks]
+
+
 def list_of_crates(crates: dict[str, Crate]) -> list[str]:
     """Each crate with the first sentence of its lib.rt, up to a colon."""
     rows = []
@@ -61,7 +66,7 @@ def drawing(crates: dict[str, Crate]) -> list[str]:
 
 def parts(world: World, all_walks: list[Walk]) -> dict[str, list[str]]:
     """The lines of each part."""
-    return {"drawing": drawing(world.crates), "crates": list_of_crates(world.crates), "figures": table_of_walks(all_walks)}
+    return {"drawing": drawing(world.crates), "crates": list_of_crates(world.crates), "figures": list_of_walks(all_walks)}
 
 
 def printed_into(page: str, world: World, all_walks: list[Walk]) -> str:

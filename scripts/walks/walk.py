@@ -1,7 +1,4 @@
-"""The walks of the data through the crates.
-
-RULE says what a walk has, and which of its functions are rows.
-"""
+"""The walks of the data through the crates. `scripts/walk --help` says what a walk has, and which of its functions are rows."""
 from __future__ import annotations
 
 import heapq
@@ -22,14 +19,6 @@ from .world import World
 Table = dict[str, Any]  # as choices.toml has it
 TABLE = ROOT / "scripts/walks/choices.toml"
 LONG, SHORT = 20, 3
-RULE = f"""\
-A walk has every function that is called from `main` on, if the code's choices are those of scripts/walks/choices.toml. It
-leaves out what follows a refusal (`Err`, and the `else` of a `let`), laws, and the crates that choices.toml sets aside. It
-counts the files and crates that have a function of it: these are the files to open if you follow every call.
-
-A row is a function that another file calls, below the caller that reaches it with the fewest changes of file. Functions
-that only their own file calls are folded into the row above them. So is a row with nothing below it and fewer than {LONG}
-lines, if its file has another row, and a function of at most {SHORT} lines that only passes on to the next row."""
 
 
 class Unknown(Exception):
@@ -50,16 +39,17 @@ class Walk:
     def __init__(self, world: World, table: Table, own: Table) -> None:
         self.world, self.name, self.title = world, own["name"], own["title"]
         self.takes: Choices = {enum: set(variants) for enum, variants in {**table["takes"], **own.get("takes", {})}.items()}
-        self.leaves = {*table["leaves"], *own.get("leaves", [])}
+        self.leaves = {*table["leaves"], *own.get("leaves", [])} - {*own.get("enters", [])}
         self.aside = set(table["aside"])
-        self.begin = self.beginning(table["begin"])
+        self.begin = self.beginning(own.get("begin", table["begin"]))
+        self.is_refused = own.get("refused", False)
         self.unknown: Counter[str] = Counter()
 
     def beginning(self, name: str) -> Function:
         found = [function for (_, free), functions in self.world.free.items() if free == name for function in functions]
-        begins = [function for function in found if not function.is_test and function.path.stem == "main"]
+        begins = [function for function in found if function.path.stem == "main" or function.is_for_c]
         if not begins:
-            raise Unknown(f"no program begins with {name}")
+            raise Unknown(f"no program or call from C begins with {name}")
         return begins[0]
 
     def enters(self, function: Function) -> bool:
@@ -89,7 +79,7 @@ class Walk:
                 function = waiting.pop()
                 if function in found:
                     continue
-                body = Body(self.world, function, self.takes)
+                body = Body(self.world, function, self.takes, self.is_refused)
                 made |= body.made
                 self.unknown.update(body.unknown)
                 targets = [it for called in body.calls for it in self.targets(called, made) if self.enters(it)]
@@ -187,9 +177,9 @@ def see_names(world: World, table: Table) -> None:
     functions = {name for file in world.files.values() for it in file.functions for name in (it.name, it.shown)}
     parts = [table, *table["walk"]]
     for part in parts:
-        for name in part.get("leaves", []):
+        for name in (*part.get("leaves", []), *part.get("enters", [])):
             if name not in functions:
-                raise Unknown(f"no function is called {name}, which the table leaves")
+                raise Unknown(f"no function is called {name}, which the table leaves or enters")
         for enum, variants in part.get("takes", {}).items():
             found = [item for item in world.items.get(enum, []) if item.kind == "enum"]
             if lost := [variant for variant in variants if not any(variant in item.variants for item in found)]:

@@ -144,6 +144,11 @@ class Function:
         return self.impl.is_trait
 
     @property
+    def is_for_c(self) -> bool:
+        """Whether programs in C call it."""
+        return any("no_mangle" in attribute for attribute in self.attributes)
+
+    @property
     def takes_self(self) -> bool:
         """Whether it is called by `.`."""
         return bool(self.parameters) and self.parameters[0][0] == "self"

@@ -127,6 +127,12 @@ fn cornered(side: u64) -> u64 {
     square.area()
 }
 
+/// The area of a square, for C.
+#[unsafe(no_mangle)]
+pub extern "C" fn area_of(side: u64) -> u64 {
+    cornered(side)
+}
+
 /// Nothing has no area.
 fn refused() -> Result<u64, char> {
     Err('0')

@@ -104,6 +104,21 @@ class Here(unittest.TestCase):
         records = next(line for line in told if "records of `yes`" in line)
         self.assertIn("IsAcceptedTour", records)
 
+    def test_walks(self) -> None:
+        """Through the code that a proof, a lemma or a wrong edit is about."""
+        def walks(name: str) -> list[str]:
+            return [line.strip() for line in Told(self.users, ROOT / "crates" / name, has_all=True).lines() if "walks (scripts/walk)" in line]
+
+        self.assertIn("check --branches (", walks("tsp_bound/proofs/boxes/joined/Answers.antt")[0])
+        self.assertIn("through src/compare_run.rt", walks("tsp_judge/must-fail/length_as_the_bound.edit")[0])
+        self.assertIn("walks (scripts/walk) through src/laws.rt: on no walk", walks("tsp_cases/proofs/CaseLaws.antt"))
+
+    def test_edit_of_a_definition(self) -> None:
+        told = "\n".join(Told(self.users, ROOT / "crates/tsp_cases/wrong-edits/def_sixty_two_sets.edit", has_all=True).lines())
+        self.assertIn("it changes: AreTooMany (specs/Crossings.antt, circle 3), MOST_SETS (src/family.rt)", told)
+        self.assertIn("files that import AreTooMany", told)
+        self.assertIn("IsTourWithBound", told)
+
     def test_crate(self) -> None:
         told = told_of_crate(self.users, self.users.crates["tsp_tool"])
         self.assertTrue(any(line.startswith("src/main.rt") for line in told))

@@ -44,6 +44,10 @@ class Walks(unittest.TestCase):
     def walk(self, **more: Any) -> Walk:
         return all_walks(self.world, {**TABLE, **more})[0]
 
+    def own(self, **own: Any) -> Walk:
+        """A walk with entries of its own, where the table leaves `largest`."""
+        return self.walk(leaves=["largest"], walk=[{"name": "all", "title": "all", **own}])
+
     def names(self, walk: Walk) -> list[str]:
         return [function.shown for function in walk.calls]
 
@@ -78,8 +82,19 @@ class Walks(unittest.TestCase):
         self.assertNotIn("largest", self.names(self.walk(leaves=["largest"])))
         self.assertFalse(any("Shape" in name for name in self.names(self.walk(aside=["low"]))))
 
+    def test_what_a_walk_has_of_its_own(self) -> None:
+        self.assertIn("failed", self.names(self.own(refused=True)))
+        self.assertNotIn("shown", self.names(self.own(leaves=["shown"])))
+        self.assertIn("largest", self.names(self.own(enters=["largest"])))
+
+    def test_a_call_from_c(self) -> None:
+        self.assertEqual(self.names(self.own(begin="area_of"))[:2], ["area_of", "cornered"])
+        with self.assertRaises(Unknown):
+            self.own(begin="cornered")
+
     def test_a_table_may_not_name_what_is_gone(self) -> None:
-        parts: list[dict[str, Any]] = [{"leaves": ["gone"]}, {"takes": {"Pick": ["Gone"]}}, {"takes": {"Gone": ["Round"]}}, {"aside": ["gone"]}]
+        parts: list[dict[str, Any]] = [{"leaves": ["gone"]}, {"takes": {"Pick": ["Gone"]}}, {"takes": {"Gone": ["Round"]}}, {"aside": ["gone"]},
+                                       {"walk": [{"name": "all", "title": "all", "enters": ["gone"]}]}]
         for part in parts:
             with self.assertRaises(Unknown):
                 self.walk(**part)
