@@ -100,6 +100,15 @@ named share/bash-completion/completions/tsp "share/bash-completion/completions/$
 named share/zsh/site-functions/_tsp "share/zsh/site-functions/_$name"
 named share/fish/vendor_completions.d/tsp.fish "share/fish/vendor_completions.d/$name.fish"
 echo "../../bin/$name" >"$prefix/share/yokecairn/PROGRAM"
+# The second line of the browser page has the name that its commands begin with.
+page=share/yokecairn/tsp.html
+if [ -f "$here/$page" ] && [ "$name" != tsp ]; then
+    {
+        head -n 1 "$here/$page"
+        echo "<html lang=\"en\" data-program=\"$name\">"
+        tail -n +3 "$here/$page"
+    } >"$prefix/$page"
+fi
 
 # A path as pkg-config reads it, with a backslash before each blank, quote and backslash. Only coreutils are needed.
 escaped() {

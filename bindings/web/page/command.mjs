@@ -20,6 +20,7 @@ import { By } from "../../javascript/codes.mjs";
  * @property {boolean} [foreign] whether a solution may have the form of another program
  * @property {boolean} [claims] whether the length that a solution claims itself counts, where none is claimed otherwise
  * @property {boolean} [strict] whether lines of the instance that aren't judged are a reason
+ * @property {string} [program] what the program is called where it is installed
  */
 
 /**
@@ -46,8 +47,9 @@ export function verbOf({ instance, solution, certificate }) {
  */
 export function commandOf(job) {
     const verb = verbOf(job);
+    const program = job.program ?? "tsp";
     if (verb === "show") {
-        return `tsp show ${pathOf(oneOf(job))}`;
+        return `${program} show ${pathOf(oneOf(job))}`;
     }
     const words = [job.instance, job.solution].flatMap((given) => (given ? [pathOf(given)] : []));
     if (job.certificate) {
@@ -56,7 +58,7 @@ export function commandOf(job) {
     if (job.claimed !== null && verb === "check") {
         words.push(`--length=${job.claimed}`);
     }
-    return ["tsp", verb, ...words, ...(job.strict ? ["--strict"] : [])].join(" ");
+    return [program, verb, ...words, ...(job.strict ? ["--strict"] : [])].join(" ");
 }
 
 /**

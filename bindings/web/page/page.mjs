@@ -94,7 +94,7 @@ function judge(state) {
     if (job !== null) {
         store.seconds = setInterval(() => go({ ...store.state, seconds: store.state.seconds + 1 }), 1000);
         store.isBusy = true;
-        store.worker?.postMessage(job);
+        store.worker?.postMessage({ ...job, program: document.documentElement.dataset.program });
     }
 }
 

@@ -49,6 +49,8 @@ const JOBS = {
     "GEO alone": { ...NOTHING, instance: GEO },
     "a no": { ...HARBOUR, solution: named("twice.tour", "TYPE : TOUR\nTOUR_SECTION\n1 2 3 4 8 3 6 7 -1\nEOF\n") },
     "a fault": { ...HARBOUR, solution: named("zero.tour", "TYPE : TOUR\nTOUR_SECTION\n0 1 -1\nEOF\n") },
+    "a program that is installed under another name": { ...HARBOUR, program: "yokecairn" },
+    "an instance alone, by such a program": { ...HARBOUR, solution: null, program: "yokecairn" },
     "names that a shell or the program would take otherwise": {
         ...HARBOUR,
         instance: { ...HARBOUR.instance, name: "-it's a $(harbour) `x`.tsp" },
@@ -57,15 +59,15 @@ const JOBS = {
     },
 };
 
-/** A folder with files, and a program `tsp` on the path. */
-function folderWith(files) {
+/** A folder with files, and a program of this name on the path. */
+function folderWith(files, program) {
     const folder = mkdtempSync(join(tmpdir(), "tsp-command-"));
     for (const { name, bytes } of files) {
         writeFileSync(join(folder, name), bytes);
     }
     const quoted = PROGRAM.map((word) => `'${word}'`).join(" ");
     const bin = mkdtempSync(join(tmpdir(), "tsp-bin-"));
-    writeFileSync(join(bin, "tsp"), `#!/bin/sh\nexec ${quoted} "$@"\n`, { mode: 0o755 });
+    writeFileSync(join(bin, program), `#!/bin/sh\nexec ${quoted} "$@"\n`, { mode: 0o755 });
     return { folder, bin };
 }
 
@@ -73,7 +75,7 @@ for (const [name, job] of Object.entries(JOBS)) {
     test(`the command for ${name}`, async () => {
         const outcome = run(await libraryOf(PAGE), job);
         const given = [job.instance, job.solution, job.certificate].filter((file) => file !== null);
-        const { folder, bin } = folderWith([...given, ...outcome.made.map((made) => made.given)]);
+        const { folder, bin } = folderWith([...given, ...outcome.made.map((made) => made.given)], job.program ?? "tsp");
         const ran = spawnSync("sh", ["-c", outcome.command], { cwd: folder, env: { ...process.env, PATH: `${bin}:${process.env.PATH}` }, encoding: "utf8" });
         rmSync(folder, { recursive: true });
         rmSync(bin, { recursive: true });
