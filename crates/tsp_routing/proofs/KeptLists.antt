@@ -1,23 +1,18 @@
 -- For src/run_steps.rt and src/kept_states.rt: the list of a load and a last customer, while starts are added that go on
 -- from those of the customers before, and while the heavier entries with the same word are left out.
-use Rattle.std.proofs.lemmas.Cmp.{ranked, int_ranked}
 use Rattle.std.proofs.lemmas.List.{length-take}
-use Rattle.std.proofs.lemmas.List.Elements.{Contains-get_or}
+use Rattle.std.proofs.lemmas.List.Elements.{All-set, Contains-get_or}
 use Rattle.std.proofs.lemmas.List.Quantifiers.{all_pairs_push}
 use Rattle.std.proofs.lemmas.List.Sorted.{Contains-permutation, IsPermutation-sym}
-use Rattle.std.specs.List.Sorted.{IsPermutation}
-use Rattle.std.specs.Ordering.{is_lt, nat_cmp, int_cmp, ordering_then}
-use Rattle.std.specs.Prelude.{IsSorted}
-use Rattle.std.specs.declared.cmp.Ordering.{Ordering}
-use Rattle.std.specs.declared.cmp.Ordering.TheVariants.{Less, Equal, Greater}
+use Rattle.std.specs.List.Sorted.{IsNonDecreasingBy, IsPermutation}
 use Rattle.tsp_routing.proofs.KeptStarts.{last_is, lighter_is_kept, last_serves, holds_own}
-use Rattle.tsp_routing.proofs.Prelude.{◌≡◌, ◌≢◌, ℕ, zero, suc, ◌+◌, ◌*◌, ◌^◌, ◌≤◌, ◌<◌, List, [], ◌∷◌, ◌++◌, take, length, get_or, refl, sym, ap, ◌∙◌, subst, arith, inl, inr, ◌⊎◌, Some, None, ℤ, pos, neg_ℤ, ◌+ℤ◌, ◌≤ℤ◌, All, Contains, ints, cases_eq, append-nil, get_or_default, take_more, take-take, All-push, All-append, All-take, All-contains, Contains-append_left, Contains-push, Contains-push_cases, All-weaker, IsFromTo, IsCustomer, ◌-◌, All-nil, All-cons, true, false, true≢false, get_or_push, length_push, length-take-le}
+use Rattle.tsp_routing.proofs.Prelude.{◌≡◌, ◌≢◌, ℕ, zero, suc, ◌+◌, ◌*◌, ◌^◌, ◌≤◌, ◌<◌, List, [], ◌∷◌, ◌++◌, take, length, get_or, refl, sym, ap, ◌∙◌, subst, arith, inl, inr, ◌⊎◌, Some, None, ℤ, pos, neg_ℤ, ◌+ℤ◌, ◌≤ℤ◌, All, Contains, ints, cases_eq, append-nil, get_or_default, take_more, take-take, All-push, All-append, All-take, All-contains, Contains-append_left, Contains-push, Contains-push_cases, All-weaker, IsFromTo, IsCustomer, ◌-◌, All-nil, All-cons, get_or_push, get_or-set_same, get_or-set_other, length-set, length_push, length-take-le, set}
 use Rattle.tsp_routing.specs.KeptStates.{IsKeptState}
 use Rattle.tsp_routing.specs.Memories.{Remembers}
 use Rattle.tsp_routing.specs.Runs.{RunRules, RunState, next_state, MayServe, first_state}
 use Rattle.tsp_routing.specs.Starts.{start_state, step_weight, start_weight, IsStart}
 use Rattle.tsp_routing.specs.declared.kept_states.KeptState.{KeptState}
-use Rattle.tsp_routing.specs.states.KeptLists.{IsNextEntry, IsEntryOf, CoversStart, AddsOne, AddsNexts, AreSizedEntries, IsFirstEntry, IsKeptList, IsKeptListTo, AreLeastOf, IsLeastAdded, AreRising, IsNotAfter, AreInOrder, LastStandsFor}
+use Rattle.tsp_routing.specs.states.KeptLists.{IsNextEntry, IsEntryOf, CoversStart, AddsOne, AddsNexts, AreSizedEntries, IsFirstEntry, IsKeptList, IsKeptListTo, AreLeastOf, IsLeastAdded, AreRising, AreInOrder, EndsWithMemory, KeepsLighter}
 
 -- an entry that goes on is one of the next load
 entry_goes_on : (rules : RunRules) (limit : ℤ) (load before last : ℕ) (entry next : KeptState)
@@ -291,42 +286,82 @@ no_customer rules limit load last none = record {
   covers = λ earlier start load_is. absurd (none (last_serves rules limit last earlier start));
 }
 
--- one entry more, or one that another one stands for
+-- one entry more, or the lighter one of two with the same memory
 pub least_more : (entries old new : List KeptState) (index : ℕ) (entry : KeptState) → index < length entries
     → entry ≡ get_or entries index entry
     → IsLeastAdded old entry new → AreLeastOf (take index entries) old → AreLeastOf (take (index + 1) entries) new
 least_more entries old new index entry lt is chosen h =
     subst (λ (xs : List KeptState). AreLeastOf xs new) (sym whole) (elim chosen [
-      | inl stays ↦ subst (AreLeastOf (take index entries ++ entry ∷ [])) (sym stays.0) (record {
-        among = All-weaker (Contains (take index entries)) (Contains (take index entries ++ entry ∷ []))
-            (λ other there. Contains-append_left (take index entries) (entry ∷ []) other there) old h.among;
-        each = λ other there. elim (Contains-push_cases (take index entries) entry other there) [
-          | inl before ↦ h.each other before
-          | inr it ↦ subst (λ (e : KeptState). (k : KeptState) × Contains old k × (k.word ≡ e.word) × (k.weight ≤ℤ e.weight)) it (
-            get_or old (length old - 1) entry,
-            Contains-get_or old (length old - 1) entry (let some = stays.1.0 in omega (arith, some)),
-            stays.1.1,
-            stays.1.2,
-          )
-        ];
-      })
-      | inr pushed ↦ subst (AreLeastOf (take index entries ++ entry ∷ [])) (sym pushed.0) (record {
-        among = All-push (Contains (take index entries ++ entry ∷ [])) old entry
-            (All-weaker (Contains (take index entries)) (Contains (take index entries ++ entry ∷ []))
-            (λ other there. Contains-append_left (take index entries) (entry ∷ []) other there) old h.among)
-            (Contains-push (take index entries) entry);
+      | inl pushed ↦ subst (AreLeastOf (take index entries ++ entry ∷ [])) (sym pushed.0) (record {
+        among = All-push (Contains (take index entries ++ entry ∷ [])) old entry among (Contains-push (take index entries) entry);
         each = λ other there. elim (Contains-push_cases (take index entries) entry other there) [
           | inl before ↦
               let found = h.each other before in
               (found.0, Contains-append_left old (entry ∷ []) found.0 found.1, found.2, found.3)
-          | inr it ↦ subst (λ (e : KeptState). (k : KeptState) × Contains (old ++ entry ∷ []) k × (k.word ≡ e.word) × (k.weight ≤ℤ e.weight)) it
-              (entry, Contains-push old entry, refl, omega (arith, ints))
+          | inr it ↦ subst (λ (e : KeptState). Stands (old ++ entry ∷ []) e) it (entry, Contains-push old entry, refl, omega (arith, ints))
         ];
       })
+      | inr kept ↦ lighter kept.0 kept.1
     ])
   where
+    Stands : List KeptState → KeptState → Type 0
+    Stands least entry = (other : KeptState) × Contains least other × (other.word ≡ entry.word) × (other.weight ≤ℤ entry.weight)
+
     whole : take (index + 1) entries ≡ take index entries ++ entry ∷ []
     whole = take_more entries index entry lt ∙ ap (λ (e : KeptState). take index entries ++ e ∷ []) (sym is)
+
+    among : All (Contains (take index entries ++ entry ∷ [])) old
+    among = All-weaker (Contains (take index entries)) (Contains (take index entries ++ entry ∷ []))
+        (λ other there. Contains-append_left (take index entries) (entry ∷ []) other there) old h.among
+
+    lighter : EndsWithMemory old entry → KeepsLighter old entry new → AreLeastOf (take index entries ++ entry ∷ []) new
+    lighter ends (inl stays) = subst (AreLeastOf (take index entries ++ entry ∷ [])) (sym stays.0) (record {
+      among = among;
+      each = λ other there. elim (Contains-push_cases (take index entries) entry other there) [
+        | inl before ↦ h.each other before
+        | inr it ↦ subst (λ (e : KeptState). Stands old e) it (
+          get_or old (length old - 1) entry,
+          Contains-get_or old (length old - 1) entry (let some = ends.0 in omega (arith, some)),
+          ends.1,
+          stays.1,
+        )
+      ];
+    })
+    lighter ends (inr replaced) = subst (AreLeastOf (take index entries ++ entry ∷ [])) (sym replaced.0) (record {
+      among = All-set (Contains (take index entries ++ entry ∷ [])) old (length old - 1) entry (Contains-push (take index entries) entry) among;
+      each = λ other there. elim (Contains-push_cases (take index entries) entry other there) [
+        | inl before ↦ stands other (h.each other before)
+        | inr it ↦ subst (λ (e : KeptState). Stands (set old (length old - 1) entry) e) it (entry, own_there, refl, omega (arith, ints))
+      ];
+    })
+      where
+        own_there : Contains (set old (length old - 1) entry) entry
+        own_there =
+            let some = ends.0 in
+            let long = length-set old (length old - 1) entry in
+            (length old - 1, omega (arith, some, long), get_or-set_same old (length old - 1) entry entry (omega (arith, some)))
+
+        -- what the last one stood for, this entry stands for; what another one stood for, that still does
+        stands : (other : KeptState) → Stands old other → Stands (set old (length old - 1) entry) other
+        stands other found = elim (cases_eq found.1.0 (length old - 1)) [
+          | inl same ↦
+              let inside = found.1.1 in
+              let at : get_or old (length old - 1) entry ≡ found.0 =
+              get_or_default old (length old - 1) entry found.0 (omega (arith, same, inside))
+              ∙ (ap (λ (k : ℕ). get_or old k found.0) (sym same) ∙ found.1.2) in
+              let weight = ap (λ (e : KeptState). e.weight) at in
+              let lighter = replaced.1 in
+              let less = found.3 in
+              (entry, own_there, sym ends.1 ∙ (ap (λ (e : KeptState). e.word) at ∙ found.2), omega (arith, ints, weight, lighter, less))
+          | inr differs ↦
+              let inside = found.1.1 in
+              let long = length-set old (length old - 1) entry in (
+                found.0,
+                (found.1.0, omega (arith, inside, long), get_or-set_other old (length old - 1) found.1.0 entry found.0 differs ∙ found.1.2),
+                found.2,
+                found.3,
+              )
+        ]
 
 pub least_of_none : AreLeastOf [] []
 least_of_none = record {
@@ -352,35 +387,13 @@ least_sized load entries least h sizes =
 
 -- ---- words rise
 
--- the order of entries
-abbrev pub state_cmp : KeptState → KeptState → Ordering
-state_cmp a b = ordering_then (nat_cmp a.word b.word) (int_cmp a.weight b.weight)
+pub in_order : (entries : List KeptState) → IsNonDecreasingBy (λ (entry : KeptState). entry.word) entries → AreInOrder entries
+in_order entries sorted k d lt = sorted k (k + 1) d (omega arith) lt
 
-not_after : (a b : KeptState) (words weights : Ordering) → words ≡ nat_cmp b.word a.word → weights ≡ int_cmp b.weight a.weight
-    → is_lt (ordering_then words weights) ≡ false → IsNotAfter a b
-not_after a b Less weights first second is = absurd (true≢false is)
-not_after a b Equal Less first second is = absurd (true≢false is)
-not_after a b Equal Equal first second is =
-    let same = ranked b.word a.word Equal first in
-    let as_much = int_ranked b.weight a.weight Equal second in
-    inr (sym same, omega (arith, ints, as_much))
-not_after a b Equal Greater first second is =
-    let same = ranked b.word a.word Equal first in
-    let less = int_ranked b.weight a.weight Greater second in
-    inr (sym same, omega (arith, ints, less))
-not_after a b Greater weights first second is = inl (ranked b.word a.word Greater first)
-
-pub in_order : (entries : List KeptState) → IsSorted state_cmp entries → AreInOrder entries
-in_order entries sorted k d lt =
-    let a : KeptState = get_or entries k d in
-    let b : KeptState = get_or entries (k + 1) d in
-    not_after a b (nat_cmp b.word a.word) (int_cmp b.weight a.weight) refl refl (sorted k d (omega arith) lt)
-
--- the last of the least entries has the memory of the last entry so far, and weighs no more
+-- the last of the least entries has the memory of the last entry so far
 pub record EndsAlike (entries least : List KeptState) (index : ℕ) (d : KeptState) : Type 0 where
   pub some : 1 ≤ length least
   pub word : (get_or least (length least - 1) d).word ≡ (get_or entries (index - 1) d).word
-  pub lighter : (get_or least (length least - 1) d).weight ≤ℤ (get_or entries (index - 1) d).weight
 
 -- the least of the first entries
 pub record AreLeastTo (entries kept : List KeptState) (index : ℕ) : Type 0 where
@@ -395,35 +408,61 @@ module _ (entries old new : List KeptState) (index : ℕ) (entry : KeptState) (l
       let back : index + 1 - 1 ≡ index = omega arith in
       ap (λ (k : ℕ). get_or entries k d) back ∙ (get_or_default entries index d entry lt ∙ sym is)
 
+  -- the last one has this memory, whatever the default
+  last_word : EndsWithMemory old entry → (d : KeptState) → (get_or old (length old - 1) d).word ≡ entry.word
+  last_word ends d =
+      let some = ends.0 in
+      ap (λ (e : KeptState). e.word) (get_or_default old (length old - 1) d entry (omega (arith, some))) ∙ ends.1
+
   pub ends_more : IsLeastAdded old entry new → (d : KeptState) → EndsAlike entries new (index + 1) d
-  ends_more (inl stays) d =
-      let some = stays.1.0 in
-      let moved : get_or old (length old - 1) d ≡ get_or old (length old - 1) entry =
-      get_or_default old (length old - 1) d entry (omega (arith, some)) in
-      let lighter = stays.1.2 in
-      subst (λ (xs : List KeptState). EndsAlike entries xs (index + 1) d) (sym stays.0) (record {
-        some = some;
-        word = ap (λ (e : KeptState). e.word) moved ∙ (stays.1.1 ∙ ap (λ (e : KeptState). e.word) (sym (here d)));
-        lighter =
-            subst (λ (e : KeptState). e.weight ≤ℤ (get_or entries (index + 1 - 1) d).weight) (sym moved)
-            (subst (λ (e : KeptState). (get_or old (length old - 1) entry).weight ≤ℤ e.weight) (sym (here d)) lighter);
-      })
-  ends_more (inr pushed) d =
+  ends_more (inl pushed) d =
       let long = length_push old entry in
       let last : get_or (old ++ entry ∷ []) (length (old ++ entry ∷ []) - 1) d ≡ entry =
       get_or_push old entry d (length (old ++ entry ∷ []) - 1) (omega (arith, long)) in
-      let same : get_or (old ++ entry ∷ []) (length (old ++ entry ∷ []) - 1) d ≡ get_or entries (index + 1 - 1) d = last ∙ sym (here d) in
       subst (λ (xs : List KeptState). EndsAlike entries xs (index + 1) d) (sym pushed.0) (record {
         some = omega (arith, long);
-        word = ap (λ (e : KeptState). e.word) same;
-        lighter =
-            let weight = ap (λ (e : KeptState). e.weight) same in
-            omega (arith, ints, weight);
+        word = ap (λ (e : KeptState). e.word) (last ∙ sym (here d));
       })
+  ends_more (inr kept) d = lighter kept.1
+    where
+      lighter : KeepsLighter old entry new → EndsAlike entries new (index + 1) d
+      lighter (inl stays) = subst (λ (xs : List KeptState). EndsAlike entries xs (index + 1) d) (sym stays.0) (record {
+        some = kept.0.0;
+        word = last_word kept.0 d ∙ ap (λ (e : KeptState). e.word) (sym (here d));
+      })
+      lighter (inr replaced) =
+          let some = kept.0.0 in
+          let long = length-set old (length old - 1) entry in
+          let last : get_or (set old (length old - 1) entry) (length (set old (length old - 1) entry) - 1) d ≡ entry =
+          ap (λ (n : ℕ). get_or (set old (length old - 1) entry) (n - 1) d) long
+          ∙ get_or-set_same old (length old - 1) entry d (omega (arith, some)) in
+          subst (λ (xs : List KeptState). EndsAlike entries xs (index + 1) d) (sym replaced.0) (record {
+            some = omega (arith, some, long);
+            word = ap (λ (e : KeptState). e.word) (last ∙ sym (here d));
+          })
 
   pub rising_more : IsLeastAdded old entry new → AreInOrder entries → AreLeastTo entries old index → AreRising new
-  rising_more (inl stays) order h = subst AreRising (sym stays.0) h.rising
-  rising_more (inr pushed) order h =
+  rising_more (inr kept) order h = lighter kept.1
+    where
+      same_word : (k : ℕ) (d : KeptState) → (get_or (set old (length old - 1) entry) k d).word ≡ (get_or old k d).word
+      same_word k d = elim (cases_eq k (length old - 1)) [
+        | inl same ↦
+            let some = kept.0.0 in
+            let new_word = ap (λ (e : KeptState). e.word) (get_or-set_same old (length old - 1) entry d (omega (arith, some))) in
+            ap (λ (j : ℕ). (get_or (set old (length old - 1) entry) j d).word) same
+            ∙ (new_word ∙ (sym (last_word kept.0 d) ∙ ap (λ (j : ℕ). (get_or old j d).word) (sym same)))
+        | inr differs ↦ ap (λ (e : KeptState). e.word) (get_or-set_other old (length old - 1) k entry d differs)
+      ]
+
+      lighter : KeepsLighter old entry new → AreRising new
+      lighter (inl stays) = subst AreRising (sym stays.0) h.rising
+      lighter (inr replaced) = subst AreRising (sym replaced.0) (λ i j d less inside.
+          let long = length-set old (length old - 1) entry in
+          let up = h.rising i j d less (omega (arith, inside, long)) in
+          let first = same_word i d in
+          let second = same_word j d in
+          omega (arith, up, first, second))
+  rising_more (inl pushed) order h =
       subst AreRising (sym pushed.0) (all_pairs_push (λ (a b : KeptState). a.word < b.word) old entry h.rising below)
     where
       -- the last one so far is below this entry
@@ -433,25 +472,18 @@ module _ (entries old new : List KeptState) (index : ℕ) (entry : KeptState) (l
           let at : get_or entries (index - 1 + 1) d ≡ entry =
           (let back : index - 1 + 1 ≡ index + 1 - 1 = omega (arith, some) in ap (λ (k : ℕ). get_or entries k d) back) ∙ here d in
           let word = ap (λ (e : KeptState). e.word) at in
-          let weight = ap (λ (e : KeptState). e.weight) at in
           let same = ends.word in
-          let lighter = ends.lighter in
-          elim (order (index - 1) d (omega (arith, some, lt))) [
-            | inl less ↦ omega (arith, same, less, word)
-            | inr tied ↦ absurd (pushed.1 (stands d ends.some
-                (let first = tied.0 in omega (arith, same, first, word))
-                (let second = tied.1 in omega (arith, ints, lighter, second, weight))))
+          let up = order (index - 1) d (omega (arith, some, lt)) in
+          elim (cases_eq (get_or old (length old - 1) d).word entry.word) [
+            | inl alike ↦ absurd (pushed.1 (ends_with d ends.some alike))
+            | inr other ↦ omega (arith, same, up, word, other)
           ]
         where
-          stands : (d : KeptState) → 1 ≤ length old → (get_or old (length old - 1) d).word ≡ entry.word
-              → (get_or old (length old - 1) d).weight ≤ℤ entry.weight → LastStandsFor old entry
-          stands d some word lighter =
+          ends_with : (d : KeptState) → 1 ≤ length old → (get_or old (length old - 1) d).word ≡ entry.word → EndsWithMemory old entry
+          ends_with d some word =
               let moved : get_or old (length old - 1) d ≡ get_or old (length old - 1) entry =
-              get_or_default old (length old - 1) d entry (omega (arith, some)) in (
-                some,
-                subst (λ (e : KeptState). e.word ≡ entry.word) moved word,
-                subst (λ (e : KeptState). e.weight ≤ℤ entry.weight) moved lighter,
-              )
+              get_or_default old (length old - 1) d entry (omega (arith, some)) in
+              (some, subst (λ (e : KeptState). e.word ≡ entry.word) moved word)
 
       none_before : (k : ℕ) → k < length old → index ≡ 0 → ⊥
       none_before k less none =

@@ -1,6 +1,6 @@
 -- Names of other crates, passed on to the files of this crate alone. It defines nothing: add or remove names freely;
 -- `tests/repository/names` sees that each is imported from here.
-pub use Rattle.std.proofs.Common.{Bool, FitsSigned, List, add-one, ap, ap₂, arith, cond, drop, drop-cons, eqb, false, get_or, inl, inr, length, length-append, map, not, of_z, refl, rules, subst, subst₂, suc, sym, take, to_z, true, zero, ℕ, ℤ, [], ◌%◌, ◌&&◌, ◌*◌, ◌++◌, ◌+◌, ◌-◌, ◌/◌, ◌<◌, ◌==◌, ◌^◌, ◌||◌, ◌∙◌, ◌∷◌, ◌≡◌, ◌≢◌, ◌≤◌}
+pub use Rattle.std.proofs.Common.{Bool, FitsSigned, List, add-one, ap, ap₂, arith, cond, drop, drop-cons, eqb, false, get_or, inl, inr, length, length-append, map, not, of_z, refl, rules, set, subst, subst₂, suc, sym, take, to_z, true, zero, ℕ, ℤ, [], ◌%◌, ◌&&◌, ◌*◌, ◌++◌, ◌+◌, ◌-◌, ◌/◌, ◌<◌, ◌==◌, ◌^◌, ◌||◌, ◌∙◌, ◌∷◌, ◌≡◌, ◌≢◌, ◌≤◌}
 pub use Rattle.std.proofs.Math.IntN.{suc_ℤ-*ℤ, zero-*ℤ, *ℤ-zero, *ℤ_comm, +ℤ_assoc}
 pub use Rattle.std.proofs.Math.Nat.{add-mul, div-mul-le_self, lt-div-mul-add, mul-le-mul_right, pow-le-pow_right, suc-mul}
 pub use Rattle.std.proofs.lemmas.Bool.{and_left, and_parts, and_right, both_ways, cases_Bool, cases_eq, cases_lt, eq-eqb, eqb-false, eqb-true, false≢true, le-leb, leb-false, leb-true, lt-leb, ne_eqb, or_from, or_left, or_parts, or_right, true≢false}

@@ -2,7 +2,7 @@
 -- `tests/repository/names` sees that each is imported from here.
 pub use Rattle.std.specs.Global.{Vec}
 pub use Rattle.std.specs.List.{All, AllByRecursion, AllPairs, Contains}
-pub use Rattle.std.specs.Prelude.{Bool, IfOk, IfSome, IsTrue, List, None, Option, Some, drop, false, int_lt, length, map, max, min, nat_abs, nat_le, neg_ℤ, negsuc, not, pos, slice_index_or, suc, take, true, unsigned_abs, zero, ℕ, ℤ, []}
+pub use Rattle.std.specs.Prelude.{Bool, IfOk, IfSome, IsTrue, List, None, Option, Some, drop, false, int_lt, length, map, max, min, nat_abs, nat_le, neg_ℤ, negsuc, not, pos, slice_index_or, slice_set, suc, take, true, unsigned_abs, zero, ℕ, ℤ, []}
 pub use Rattle.tsp_cases.specs.Cases.{CaseStep, LeafNumbers, are_case_trees, leaves_of}
 pub use Rattle.tsp_cases.specs.Crossings.{AreFamiliesOf, AreSetsOf, families_in, has, lists_of}
 pub use Rattle.tsp_cases.specs.Families.{Family, HasEachOnce, families_with, family_crossings, family_with}

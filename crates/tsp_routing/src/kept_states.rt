@@ -14,7 +14,7 @@ ghost use Rattle.tsp_format.specs.Steps.{SubsetRow};
 ghost use Rattle.tsp_routing.specs.KeptStates.{most_states};
 ghost use Rattle.tsp_routing.specs.Prelude.{[], pos, neg_ℤ, slice_index_or, IsTrue, IsNode, IsCustomer};
 ghost use Rattle.tsp_routing.specs.states.Demands.{load_at};
-ghost use Rattle.tsp_routing.specs.states.KeptLists.{count_in_lists, entry_count, AreRisingLists, AreRisingRows, IsStateRowIfFew, AreStateRowsIfFew, rules_of, IsLeafOf, IsStateRow, AreStateRows, IsSizedRow, AreSizedRows, IsKeptList, IsKeptListTo, AreSizedEntries, AreLeastOf, AreRising, AreInOrder, LastStandsFor, IsLeastAdded, list_in, IsFloor, IsFloorRow, AreFloors, floor_in};
+ghost use Rattle.tsp_routing.specs.states.KeptLists.{count_in_lists, entry_count, AreRisingLists, AreRisingRows, IsStateRowIfFew, AreStateRowsIfFew, rules_of, IsLeafOf, IsStateRow, AreStateRows, IsSizedRow, AreSizedRows, IsKeptList, IsKeptListTo, AreSizedEntries, AreLeastOf, AreRising, AreInOrder, EndsWithMemory, IsLeastAdded, list_in, IsFloor, IsFloorRow, AreFloors, floor_in};
 ghost use Rattle.tsp_routing.specs.states.RunTables.{item_lists};
 
 use crate::run_leaf::{RunLeaf, home_at};
@@ -25,7 +25,7 @@ use tsp_theory::weight_in;
 
 /// A label: a memory, and the least weight of the starts of runs that end with it. The list that
 /// contains it has its load and its last customer.
-#[derive(Clone, Copy, PartialEq, Eq, PartialOrd, Ord)]
+#[derive(Clone, Copy)]
 pub(crate) struct KeptState {
     pub(crate) word: u64,
     pub(crate) weight: i128,
@@ -316,12 +316,12 @@ fn least_of(alloc: Global, entries: Vec<KeptState>) -> Result<Vec<KeptState>, Re
     ensures rising { IfOk result (λ least. AreRising least.items) }
 {
     let mut sorted = entries;
-    sorted.sort_unstable();
+    sorted.sort_unstable_by_key(|entry| entry.word);
     let least = least_in(alloc, &sorted)?;
     Ok(least)
 }
 
-/// The sorted entries, without those that follow one with the same memory.
+/// The lightest entry for each memory, of entries that are sorted by memory.
 ///
 /// # Errors
 ///
@@ -338,7 +338,7 @@ fn least_in(alloc: Global, entries: &[KeptState]) -> Result<Vec<KeptState>, Refu
     Ok(least)
 }
 
-/// Adds an entry, unless the last one has the same memory and weighs no more.
+/// Adds an entry. If the last one has the same memory, only the lighter of the two stays.
 ///
 /// # Errors
 ///
@@ -346,19 +346,22 @@ fn least_in(alloc: Global, entries: &[KeptState]) -> Result<Vec<KeptState>, Refu
 fn add_least(least: &mut Vec<KeptState>, entry: KeptState) -> Result<(), Refused>
     ensures { IfOk result (λ done. IsLeastAdded least.old.items entry least.new.items) }
 {
-    if stands_for(least, entry) {
-        return Ok(());
+    if !ends_with_memory(least, entry) {
+        return push(least, entry);
     }
-    push(least, entry)
+    let last = least.len() - 1;
+    if entry.weight < entry_at(least, last).weight {
+        least[last] = entry;
+    }
+    Ok(())
 }
 
-/// Whether the last entry of a list has the same memory as `entry`, and weighs no more.
-fn stands_for(least: &[KeptState], entry: KeptState) -> bool
-    ensures { IsTrue result ↔ LastStandsFor least.now entry }
+/// Whether the last entry of a list has the same memory as `entry`.
+fn ends_with_memory(least: &[KeptState], entry: KeptState) -> bool
+    ensures { IsTrue result ↔ EndsWithMemory least.now entry }
 {
     if least.is_empty() {
         return false;
     }
-    let last = entry_at(least, least.len() - 1);
-    last.word == entry.word && last.weight <= entry.weight
+    entry_at(least, least.len() - 1).word == entry.word
 }

@@ -6,7 +6,7 @@ use Rattle.std.specs.Prelude.{◌≡◌, ◌≢◌, ◌⊎◌, ◌+◌, ◌-◌,
 use Rattle.tsp_format.specs.Steps.{SubsetRow}
 use Rattle.tsp_routing.specs.KeptStates.{IsKeptState, HasTooManyStates}
 use Rattle.tsp_routing.specs.Memories.{Remembers}
-use Rattle.tsp_routing.specs.Prelude.{Vec, All, AllPairs, Contains, ℕ, Option, Some, None, List, [], map, length, slice_index_or, ℤ, pos, neg_ℤ, IsFromTo, IsCustomer, IsNode}
+use Rattle.tsp_routing.specs.Prelude.{Vec, All, AllPairs, Contains, ℕ, Option, Some, None, List, [], map, length, slice_index_or, slice_set, ℤ, pos, neg_ℤ, IsFromTo, IsCustomer, IsNode}
 use Rattle.tsp_routing.specs.RunBounds.{IsLeastRun}
 use Rattle.tsp_routing.specs.Runs.{RunRules, RunState, first_state, next_state, MayServe, AreCharges}
 use Rattle.tsp_routing.specs.Starts.{start_state, step_weight, start_weight, IsStart}
@@ -105,23 +105,24 @@ pub record AreLeastOf (entries least : List KeptState) : Type 0 where
 abbrev pub AreRising : List KeptState → Type 0
 AreRising entries = AllPairs (λ (a b : KeptState). a.word < b.word) entries
 
--- an entry has the smaller word, or the same one and weighs no more
-abbrev pub IsNotAfter : KeptState → KeptState → Type 0
-IsNotAfter a b = (a.word < b.word) ⊎ ((a.word ≡ b.word) × (a.weight ≤ℤ b.weight))
-
--- each entry and the next one are in that order
+-- the words of entries don't fall
 abbrev pub AreInOrder : List KeptState → Type 0
 AreInOrder entries = (k : ℕ) (d : KeptState) → k + 1 < length entries
-    → IsNotAfter (slice_index_or entries k d) (slice_index_or entries (k + 1) d)
+    → (slice_index_or entries k d).word ≤ (slice_index_or entries (k + 1) d).word
 
--- the last entry has the same memory as this one, and weighs no more
-abbrev pub LastStandsFor : List KeptState → KeptState → Type 0
-LastStandsFor entries entry = (1 ≤ length entries) × ((slice_index_or entries (length entries - 1) entry).word ≡ entry.word)
-    × ((slice_index_or entries (length entries - 1) entry).weight ≤ℤ entry.weight)
+-- the last entry has the same memory as this one
+abbrev pub EndsWithMemory : List KeptState → KeptState → Type 0
+EndsWithMemory entries entry = (1 ≤ length entries) × ((slice_index_or entries (length entries - 1) entry).word ≡ entry.word)
 
--- an entry is put behind others, unless the last one stands for it
+-- the last entry stays if it weighs no more than this one; else this one is put in its place
+abbrev pub KeepsLighter : List KeptState → KeptState → List KeptState → Type 0
+KeepsLighter old entry new = ((new ≡ old) × ((slice_index_or old (length old - 1) entry).weight ≤ℤ entry.weight))
+    ⊎ ((new ≡ slice_set old (length old - 1) entry) × (entry.weight ≤ℤ (slice_index_or old (length old - 1) entry).weight))
+
+-- an entry is put behind others; or if the last one has the same memory, the lighter of the two stays
 abbrev pub IsLeastAdded : List KeptState → KeptState → List KeptState → Type 0
-IsLeastAdded old entry new = ((new ≡ old) × LastStandsFor old entry) ⊎ ((new ≡ old ++ entry ∷ []) × (LastStandsFor old entry → ⊥))
+IsLeastAdded old entry new = ((new ≡ old ++ entry ∷ []) × (EndsWithMemory old entry → ⊥))
+    ⊎ (EndsWithMemory old entry × KeepsLighter old entry new)
 
 -- the lists of a load, each at the index of its last customer
 abbrev pub IsStateRow : RunRules → ℤ → ℕ → List (List KeptState) → Type 0
