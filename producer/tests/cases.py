@@ -124,7 +124,7 @@ def forms():
         for name in names:
             said = certify("a.tsp", name, "-o", "named.branches", *words)
             need("shorter tour" not in said, f"{name}, {words}: another tour is read: {said}")
-            need(f"tsp check a.tsp {name} --form auto --branches named.branches" in said, f"another command: {said}")
+            need(f" check a.tsp {name} --form auto --branches named.branches" in said, f"another command: {said}")
     need("optimal" in judged("a.tsp", "named.json", "out.branches", "--form", "auto"), "named.json isn't the shortest tour")
     text = Path("a.tsp").read_text()
     for name, status in (("named.tour", 0), ("named.txt", 2)):  # an instance from a pipe is read once

@@ -117,7 +117,7 @@ def forms():
     for name in names:
         said = certify("a.tsp", name, *OUT)
         need(f"length {length}," in said and "as reckoned" not in said, f"{name}: not length {length}: {said}")
-        need(f"tsp check a.tsp {name} --form auto --potentials" in said, f"{name}: another command: {said}")
+        need(f" check a.tsp {name} --form auto --potentials" in said, f"{name}: another command: {said}")
 
 
 def judged_after(words, tour):

@@ -29,6 +29,28 @@ def time_limit():
         need(int(report["bound"]) > 0.7 * int(report["length"]), f"a poor bound: {report}")
 
 
+def bound_by_potentials(*words):
+    """The bound of a.tsp by the potentials of tsp-potentials."""
+    made = [Path(CERTIFY).with_name("tsp-potentials"), "a.tsp", "-o", "a.potentials", "--tsp", TSP, *words]
+    subprocess.run(made, check=True, capture_output=True, timeout=100 * PATIENCE)
+    said = subprocess.run([TSP, "bound", "a.tsp", "--potentials", "a.potentials"], capture_output=True, text=True).stdout
+    return int(said.partition("bound ")[2].split()[0])
+
+
+def no_time():
+    """A run whose time is over at once has the bound of potentials all the same, also for a named tour and without a matrix."""
+    write_points("a.tsp", "EUC_2D", 300, random.Random(17), side=10**6)
+    files = ["-o", "out.branches", "--threads", "1", "--cpu-seconds", "0.001"]
+    for least, *words in (
+        (bound_by_potentials(), "--tour-out", "out.tour"),
+        (bound_by_potentials(), "out.tour"),
+        (bound_by_potentials("--steps", "100") * 0.9999, "--tour-out", "out.tour", "--sparse"),
+    ):
+        certify("a.tsp", *words, *files)
+        bound = int(judged("a.tsp")["bound"])
+        need(bound >= least - 1, f"{words}: a bound of {bound}, and that of potentials is {least}")
+
+
 def large():
     """More than 5,000 points: the time limit, signals, and what isn't taken."""
     write_points("a.tsp", "EUC_2D", 5200, random.Random(15), side=10**6)
@@ -168,6 +190,13 @@ def bad_input():
     need_refused(faults)
 
 
+def need_deciding(said, path):
+    """The command that is printed at the end says yes, where a shell has this PATH."""
+    command = said.partition("this decides: ")[2].strip()
+    judged = subprocess.run(["/bin/sh", "-c", command], capture_output=True, text=True, env={**os.environ, "PATH": path})
+    need(judged.stdout.endswith("yes\n"), f"the printed command fails with PATH={path}: {command}: {judged.stderr}")
+
+
 def finding_tsp():
     """tsp is looked for beside the program, on PATH, and in the folders above. The script of a checkout needs PATH itself."""
     if Path(TSP).read_bytes()[:2] == b"#!":
@@ -177,8 +206,11 @@ def finding_tsp():
     shutil.copy(CERTIFY, "above/here")
     words = [os.path.abspath("above/here/tsp-certify"), "a.tsp", "-o", "out.branches", "--tour-out", "out.tour"]
     def find(path, *more):
-        return subprocess.run([*words, *more], capture_output=True, text=True, timeout=100 * PATIENCE,
+        done = subprocess.run([*words, *more], capture_output=True, text=True, timeout=100 * PATIENCE,
                               env={**os.environ, "PATH": path})
+        if done.returncode == 0:
+            need_deciding(done.stderr, path)
+        return done
 
     for place, path in ((None, "/nowhere"), ("above", "/nowhere"), ("on-path", os.path.abspath("on-path"))):
         if place:
@@ -219,7 +251,7 @@ def installing():
     need_installed("tsp-certify")
 
 
-CASES = [time_limit, large, interrupt, overwriting, log, bad_input, finding_tsp, installing]
+CASES = [time_limit, no_time, large, interrupt, overwriting, log, bad_input, finding_tsp, installing]
 
 if __name__ == "__main__":
     run(CASES)

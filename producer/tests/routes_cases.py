@@ -4,6 +4,7 @@
 examples/recheck.py, which shares no code with the program TSP or the producer, judges some of what is made too.
 """
 
+import math
 import random
 import re
 import signal
@@ -232,7 +233,7 @@ def forms():
     for name in ("named.sol", "copies.tour"):
         said = certify("a.vrp", name, "-o", "out.branches")
         need("shorter tour" not in said, f"{name}: other routes are read: {said}")
-        need(f"tsp check a.vrp {name} --form auto --branches out.branches" in said, f"{name}: another command: {said}")
+        need(f" check a.vrp {name} --form auto --branches out.branches" in said, f"{name}: another command: {said}")
 
 
 def threads():
@@ -261,6 +262,19 @@ def time_limit():
     write_certificate(150, "", "0 -1", "SCALE : 11", name="eleven")
     certify("a.vrp", "out.routes", "--tree", "eleven", "-o", "out.branches", "--seconds", "2")
     need("gap" in judged("a.vrp"), "a certificate at another scale has no gap")
+
+
+def no_time():
+    """A run whose time is over at once has nearly the radial bound: each customer pays for its part of a vehicle's way."""
+    chance = random.Random(13)
+    points = [(chance.randint(0, 1000), chance.randint(0, 1000)) for _ in range(60)]
+    demands = [0] + [chance.randint(1, 30) for _ in range(59)]
+    write_vrp("a.vrp", demands, 100, points)
+    radial = sum(2 * math.dist(points[0], point) * demand / 100 for point, demand in zip(points, demands))
+    for words in ([], ["--memory"]):
+        certify("a.vrp", *BOTH, "--cpu-seconds", "0.001", "--threads", "1", *words)
+        bound = int(judged("a.vrp")["bound"])
+        need(bound >= 0.99 * radial, f"{words}: a bound of {bound}, and the radial one is {radial:.0f}")
 
 
 def interrupt():
@@ -343,7 +357,7 @@ def bad_input():
 
 CASES = [
     small, memory, memory_limits, memory_states, memory_full, optimal, large_numbers, plan, forms, threads, time_limit,
-    interrupt, split, limits, log, bad_input,
+    no_time, interrupt, split, limits, log, bad_input,
 ]  # fmt: skip
 
 if __name__ == "__main__":

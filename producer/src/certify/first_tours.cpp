@@ -6,7 +6,6 @@
 #include <string>
 #include <utility>
 
-#include "potentials/ascent.h"
 #include "running/parameters.h"
 #include "tours/all_orders.h"
 #include "tours/arc_tours.h"
@@ -14,9 +13,9 @@
 #include "tours/tours.h"
 
 namespace certify {
-bool FirstTours::are_kicked() const {
-  return !instance_.directed && !options_.tour && instance_.nodes() > kTours.few_nodes;
-}
+bool FirstTours::are_weighed() const { return !instance_.directed && instance_.nodes() > kTours.few_nodes; }
+
+bool FirstTours::are_kicked() const { return are_weighed() && !options_.tour; }
 
 // By the words and the number of threads, so that it doesn't depend on the clock.
 bool FirstTours::are_hurried() const {
@@ -27,15 +26,25 @@ bool FirstTours::are_hurried() const {
   return needed * at_once > kTours.part_of_time * options_.limit.seconds;
 }
 
-void FirstTours::kick(const potentials::Problem& problem) {
-  const auto in_time = [&] { return !clock_.over(kTours.part_of_time / 2); };
+// Steps take far less time than what follows, and the bound of a run that has hardly any time is theirs.
+void FirstTours::weigh(const potentials::Problem& problem) {
   potentials::Ascent ascent(problem);
   const std::vector<double> duals =
-      ascent.run(kTours.steps_before_kicks, [&](int, double) { return in_time(); });
+      ascent.run(kTours.steps_before_kicks, [](int, double) { return !Clock::signal(); });
+  potentials_.resize(duals.size());
+  for (std::size_t k = 0; k < duals.size(); k++) potentials_[problem.original()[k]] = duals[k];
+  if (are_kicked()) kick(problem, ascent, duals);
+}
+
+// One kick for each node takes little time, and a tour without them is poor.
+void FirstTours::kick(const potentials::Problem& problem, const potentials::Ascent& ascent,
+                      const std::vector<double>& duals) {
   potentials::TourSearch search;
   search.seed = options_.seed;
   search.kicks = kTours.kicks_of_node * problem.nodes();
-  search.watch = [&](long, double) { return in_time(); };
+  search.watch = [&](long kicks, double) {
+    return kicks < problem.nodes() ? !Clock::signal() : !clock_.over(kTours.part_of_time);
+  };
   const Tour first = potentials::first_tour(problem);
   kicked_ = problem.outward(potentials::shorten(problem, first, duals, ascent.support(), search).tour);
 }
@@ -71,6 +80,7 @@ Start FirstTours::find() {
   start.upper = options_.upper;
   start.named = options_.tour.has_value();
   start.leaf = options_.leaf;
+  start.potentials = std::move(potentials_);
   start.families = options_.families && !instance_.directed;  // of an ATSP their gain was never measured
   if (instance_.directed) {
     find_arcs(start);

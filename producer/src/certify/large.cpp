@@ -43,7 +43,7 @@ int certify_large(const Options& options, const std::string& tsp, std::unique_pt
   Progress progress(options.log);
   Clock::catch_signals();
   const Clock clock(options.limit);
-  sparse::SparseSearch search(*problem, {given, options.seed, options.upper}, clock, progress);
+  sparse::SparseSearch search(*problem, {given, options.seed, options.upper, options.limit}, clock, progress);
   search.run();
   Ending ending{search.length(), search.bound()};
   if (given) ending.given = std::llround(problem->length(*given));

@@ -51,7 +51,7 @@ int certify_instance(const Options& options) {
   Clock::catch_signals();
   const Clock clock(options.limit);
   FirstTours first(options, instance, clock, progress);
-  if (first.are_kicked()) first.kick(*potentials::read_problem(tsp, options.instance, *file));
+  if (first.are_weighed()) first.weigh(*potentials::read_problem(tsp, options.instance, *file));
   file.reset();  // the text of a matrix is large
   Start start = first.find();
   if (!instance.allows(start.tour)) throw Refusal("no tour uses all fixed edges");

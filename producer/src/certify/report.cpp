@@ -5,6 +5,7 @@
 #include <iomanip>
 #include <iostream>
 
+#include "reading/tsp_program.h"
 #include "running/clock.h"
 #include "running/refusal.h"
 
@@ -37,6 +38,19 @@ void keep_shorter(const Options& options, const std::function<void(const std::st
   }
 }
 
+std::string judging_command(const Options& options, const Ending& ending) {
+  std::vector<std::string> words{call_of_tsp(options.tsp), "check", options.instance};
+  if (ending.kept || options.tour_out) {
+    words.push_back(ending.kept ? *ending.kept : *options.tour_out);
+  } else if (options.tour) {
+    words.insert(words.end(), {*options.tour, "--form", "auto"});
+  } else {
+    words.emplace_back("TOUR");
+  }
+  words.insert(words.end(), {"--branches", options.certificate});
+  return command_of(words);
+}
+
 void report(const Options& options, const Ending& ending) {
   const Weight bound = std::min(ending.bound, ending.length);
   std::cerr << "tsp-certify: length " << ending.length << ", bound " << bound << " as reckoned here, leaves "
@@ -64,10 +78,7 @@ void report(const Options& options, const Ending& ending) {
               << *options.tree << " --join PART.. -o CERTIFICATE puts parts together\n";
     return;
   }
-  const std::string named = options.tour ? *options.tour + " --form auto" : "TOUR";
-  const std::string tour = ending.kept ? *ending.kept : options.tour_out.value_or(named);
-  std::cerr << "tsp-certify: this decides: tsp check " << options.instance << " " << tour << " --branches "
-            << options.certificate << "\n";
+  std::cerr << "tsp-certify: this decides: " << judging_command(options, ending) << "\n";
 }
 }  // namespace
 

@@ -6,6 +6,7 @@
 
 #include "memory/memory_growth.h"
 #include "memory/run_diving.h"
+#include "routes/radial_duals.h"
 #include "routes/route_parameters.h"
 
 namespace certify::routes {
@@ -209,6 +210,17 @@ void RunCaseSolver::leave_duals(Rounds& rounds, RunOutcome& outcome) const {
   outcome.leaf = {std::move(rounds.best.duals), {}, std::move(rounds.best.memory)};
 }
 
+// The radial duals, without a memory, where they are better: a clock that is over may have left none.
+void RunCaseSolver::take_radial(const RunCase& here, RunOutcome& outcome) {
+  RunDuals duals;
+  static_cast<Duals&>(duals) = radial_duals(problem_.instance);
+  Memory none{std::vector<Bits>(problem_.instance.nodes())};
+  const auto made = bound_.rounded(duals, none, here.limits, 1, kNoValue, kMemory.most_states);
+  if (!made || made->value <= outcome.value) return;
+  outcome.value = made->value;
+  outcome.leaf = {std::move(duals), {}, std::move(none)};
+}
+
 void RunCaseSolver::branch(Rounds& rounds, RunOutcome& outcome) {
   rounds.cuts.violated(rounds.program.support(), true, kCapacityCuts.least_violation);
   outcome.branch = choose_run_branch(solved(rounds), rounds.cuts.between());
@@ -240,6 +252,7 @@ RunOutcome RunCaseSolver::solve(const RunCase& here, const Note& note) {
   outcome.runs = static_cast<int>(program.runs().size());
   if (outcome.done) return outcome;
   leave_duals(rounds, outcome);
+  if (here.whole) take_radial(here, outcome);
   if (!clock_.over(kRouteTree.part_of_time)) branch(rounds, outcome);
   return outcome;
 }

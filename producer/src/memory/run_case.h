@@ -66,6 +66,7 @@ class RunCaseSolver {
   bool give_up_bits(Rounds& rounds) const;
   void solve_rounds(Rounds& rounds, RunOutcome& outcome);
   void leave_duals(Rounds& rounds, RunOutcome& outcome) const;
+  void take_radial(const RunCase& here, RunOutcome& outcome);
   void branch(Rounds& rounds, RunOutcome& outcome);
 
   const RouteProblem& problem_;

@@ -85,6 +85,12 @@ double Ascent::seconds_for(int steps) {
   return step * steps + search_seconds_ * (kRenewals + 2);
 }
 
+double Ascent::steps_in(double seconds) {
+  const double none = seconds_for(0);
+  const double step = std::max((seconds_for(100) - none) / 100, 1e-9);
+  return (seconds - none) / step;
+}
+
 void Ascent::take_exact(const std::vector<Edge>& tree) {
   const double bound = bound_of(problem_, tree, numbers_);
   if (bound <= bound_exact_) return;

@@ -18,6 +18,8 @@ class Ascent {
   explicit Ascent(const Problem& problem, bool of_processors = false);
   // Seconds that this many steps take, by timing a step and the search for candidates.
   double seconds_for(int steps);
+  // As many steps take this time, by timing some.
+  double steps_in(double seconds);
   // Called after each step with its number and the best bound of the candidate graph; false ends the ascent.
   using Watch = std::function<bool(int, double)>;
   // The best numbers of the nodes. How the steps fall depends on their number.

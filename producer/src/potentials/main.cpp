@@ -77,10 +77,8 @@ class Run {
   int steps_for(Ascent& ascent) const {
     if (options_.steps || options_.limit.seconds == 0) return options_.steps.value_or(kSteps);
     const double part = options_.tour_out ? kPartForSteps : 1;
-    const double none = ascent.seconds_for(0);
-    const double step = std::max((ascent.seconds_for(100) - none) / 100, 1e-9);
-    const double left = part * options_.limit.seconds - time() - none;
-    return std::clamp(static_cast<int>(std::min(left / step, 1e9)), kLeastSteps, kMostSteps);
+    const double left = part * options_.limit.seconds - time();
+    return static_cast<int>(std::clamp<double>(ascent.steps_in(left), kLeastSteps, kMostSteps));
   }
 
   std::vector<double> climb(Ascent& ascent) {
@@ -156,10 +154,11 @@ struct Judging {
     return all;
   }
   std::string line(const Options& options) const {
-    std::string told = "tsp " + verb + " " + options.instance;
-    if (!tour.empty()) told += " " + tour;
-    for (const std::string& word : form) told += " " + word;
-    return told + " --potentials " + options.potentials;
+    std::vector<std::string> told{certify::call_of_tsp(options.tsp), verb, options.instance};
+    if (!tour.empty()) told.push_back(tour);
+    told.insert(told.end(), form.begin(), form.end());
+    told.insert(told.end(), {"--potentials", options.potentials});
+    return certify::command_of(told);
   }
 };
 

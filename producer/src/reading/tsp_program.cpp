@@ -4,6 +4,7 @@
 #include <sys/wait.h>
 #include <unistd.h>
 
+#include <algorithm>
 #include <cctype>
 #include <cerrno>
 #include <cstdlib>
@@ -67,7 +68,7 @@ std::string place_of_tsp(const std::optional<std::string>& named) {
   if (found) return *found;
   if (named) throw Refusal(*named + ": there is no program of this name on PATH; a path to it has a slash");
   for (const char* place : {"../tsp", "../../tsp"}) {
-    if (!error && runnable(at(place))) return at(place);
+    if (!error && runnable(at(place))) return at(place).lexically_normal();
   }
   throw Refusal("the program tsp is needed: name it by --tsp, or put it on PATH");
 }
@@ -122,6 +123,34 @@ std::string find_tsp(const std::optional<std::string>& named) {
   }
   throw Refusal(tsp +
                 ": this isn't Yokecairn's program tsp (task-spooler has the same name): name it by --tsp");
+}
+
+std::string call_of_tsp(const std::optional<std::string>& named) {
+  if (named) return *named;
+  const fs::path place = place_of_tsp(named);
+  const std::optional<std::string> found = on_path(place.filename());
+  std::error_code error;
+  const bool is_on_path = found && fs::equivalent(*found, place, error);
+  return is_on_path ? place.filename() : place;
+}
+
+std::string command_of(const std::vector<std::string>& words) {
+  const auto is_plain = [](char letter) {
+    return std::isalnum(static_cast<unsigned char>(letter)) != 0 ||
+           std::strchr("_@%+=:,./-", letter) != nullptr;
+  };
+  std::string command;
+  for (const std::string& word : words) {
+    if (!command.empty()) command += ' ';
+    if (!word.empty() && std::all_of(word.begin(), word.end(), is_plain)) {
+      command += word;
+      continue;
+    }
+    command += '\'';
+    for (const char letter : word) command += letter == '\'' ? std::string("'\\''") : std::string(1, letter);
+    command += '\'';
+  }
+  return command;
 }
 
 std::string canonical_text(const std::string& tsp, const std::string& path,

@@ -9,6 +9,11 @@ namespace certify {
 // two folders above. A name without a slash is looked for on PATH, as a shell does. Throws Refusal where it
 // isn't there, or isn't ours.
 std::string find_tsp(const std::optional<std::string>& named);
+// How a command calls the program that find_tsp finds: as it was named, by its name alone if that leads to it
+// on PATH, or else by its path.
+std::string call_of_tsp(const std::optional<std::string>& named);
+// A command as a shell takes it: words with other characters than those of most paths are quoted.
+std::string command_of(const std::vector<std::string>& words);
 // The canonical text of a file, which `tsp convert` prints. Other words may follow the path.
 std::string canonical_text(const std::string& tsp, const std::string& path,
                            const std::vector<std::string>& words);

@@ -3,6 +3,7 @@
 #include <algorithm>
 #include <cmath>
 
+#include "routes/radial_duals.h"
 #include "routes/route_parameters.h"
 
 namespace certify::routes {
@@ -159,17 +160,21 @@ void RouteCaseSolver::branch(Rounds& rounds, RouteOutcome& outcome) const {
   outcome.start = std::make_shared<const RouteStart>(std::move(start));
 }
 
-// The best numbers from above, or the duals as whole numbers where their bound is better.
+// The best numbers from above, or the duals as whole numbers where their bound is better. A clock that is
+// over may have left duals of the whole problem that are worth less than the radial ones.
 RouteOutcome RouteCaseSolver::settled(const RouteCase& here, const Duals& duals) {
   RouteOutcome outcome;
   outcome.numbers = here.numbers;
   if (!here.numbers.potentials.empty()) outcome.value = bound_.value(here.numbers, here.limits);
-  if (duals.potentials.empty()) return outcome;
-  LeafNumbers numbers = bound_.rounded(duals, 1);
-  const Value value = bound_.value(numbers, here.limits);
-  if (value <= outcome.value) return outcome;
-  outcome.value = value;
-  outcome.numbers = std::move(numbers);
+  const auto take = [&](const Duals& made) {
+    LeafNumbers numbers = bound_.rounded(made, 1);
+    const Value value = bound_.value(numbers, here.limits);
+    if (value <= outcome.value) return;
+    outcome.value = value;
+    outcome.numbers = std::move(numbers);
+  };
+  if (!duals.potentials.empty()) take(duals);
+  if (here.whole && outcome.value < aim(here.goal)) take(radial_duals(problem_.instance));
   return outcome;
 }
 

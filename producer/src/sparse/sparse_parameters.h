@@ -8,6 +8,7 @@
 namespace sparse {
 struct SparseParameters {
   int steps = 400;          // of the ascent: duals to begin with, and candidates
+  int fewest_steps = 100;   // of it, whatever the clock says: a bound without them is poor
   long kicks_of_node = 10;  // of the tour, before edge assembly in its regions
   int region = 1000, population = 30;
   double at_long_edges = 0.3;  // of the nodes, in regions of their own at the end of a pass

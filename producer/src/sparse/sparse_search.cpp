@@ -36,9 +36,16 @@ void SparseSearch::note(std::string_view event, Weight bound) {
   progress_.log(event, standing);
 }
 
+// As many steps as there is time for, since how they fall depends on their number.
 void SparseSearch::ascend() {
-  potentials::Ascent ascent(problem_);
-  duals_ = ascent.run(kSparse.steps, [&](int, double) { return !clock_.over(sparse_times().kicks); });
+  const certify::TimeLimit& limit = start_.limit;
+  potentials::Ascent ascent(problem_, limit.of_processors);
+  double steps = kSparse.steps;
+  if (clock_.limited()) {
+    const double left = sparse_times().kicks * limit.seconds - certify::Clock::since_start(limit);
+    steps = std::clamp<double>(ascent.steps_in(left), kSparse.fewest_steps, steps);
+  }
+  duals_ = ascent.run(static_cast<int>(steps), [](int, double) { return !certify::Clock::signal(); });
   support_ = ascent.support();
 }
 
@@ -46,7 +53,9 @@ Tour SparseSearch::looked_for() {
   potentials::TourSearch search;
   search.seed = start_.seed;
   search.kicks = kSparse.kicks_of_node * problem_.nodes();
-  search.watch = [&](long, double) { return !clock_.over(sparse_times().kicks); };
+  search.watch = [&](long kicks, double) {  // the exchanges before the first kick take little time
+    return kicks == 0 ? !certify::Clock::signal() : !clock_.over(sparse_times().kicks);
+  };
   return potentials::shorten(problem_, potentials::first_tour(problem_), duals_, support_, search).tour;
 }
 

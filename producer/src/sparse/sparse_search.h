@@ -15,6 +15,7 @@ struct SparseStart {
   std::optional<Tour> tour;  // the named one, by the numbers of the problem
   std::uint64_t seed = 1;
   std::optional<Weight> upper;  // a bound of as much is enough
+  certify::TimeLimit limit{};   // that of the clock
 };
 
 class SparseSearch {

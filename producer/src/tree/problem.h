@@ -17,6 +17,7 @@ struct Start {
   bool families = true;               // cuts may be families of any sets
   std::optional<Certificate> tree{};  // that is gone on with
   std::optional<int> leaf{};          // the one leaf of it that is, from 1 on
+  std::vector<double> potentials{};   // of a TSP, where some are known: no bound is below theirs
 };
 
 // What all cases have in common. It doesn't change.

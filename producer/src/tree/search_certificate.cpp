@@ -1,10 +1,28 @@
 #include <algorithm>
+#include <cmath>
+#include <numeric>
 #include <utility>
 
 #include "tree/joining.h"
 #include "tree/search.h"
 
 namespace certify {
+namespace {
+constexpr double kMostPotential = 1e15;  // that a file may have
+
+// Potentials less their mean, as whole numbers at a scale.
+Numbers numbers_at(Weight scale, const std::vector<double>& potentials) {
+  Numbers numbers;
+  const double sum = std::accumulate(potentials.begin(), potentials.end(), 0.0);
+  const double mean = potentials.empty() ? 0 : sum / static_cast<double>(potentials.size());
+  for (const double potential : potentials) {
+    const double scaled = (potential - mean) * static_cast<double>(scale);
+    numbers.potentials.push_back(std::llround(std::clamp(scaled, -kMostPotential, kMostPotential)));
+  }
+  return numbers;
+}
+}  // namespace
+
 // The families of a certificate are the first cuts. Their numbers in the pool.
 std::vector<int> Search::take_families(const Certificate& tree) {
   std::vector<int> cuts;
@@ -64,6 +82,7 @@ Case Search::first_case() {
     first.whole = leaf.decisions.empty();
     notes_ = {{"tree", identity_of(*tree)}, {"leaf", std::to_string(number)}};
   }
+  if (!problem_.start.tree) first.numbers = numbers_at(scale(), problem_.start.potentials);
   first.decisions = above_;
   first.cuts = pool_.part(0, pool_.size());
   first.known = pool_.size();

@@ -111,9 +111,11 @@ TEST_CASE("kicks give the tour to begin with, which edge assembly may only bette
   options.tour = "named";
   CHECK(!first.are_hurried());  // a tour is there
   CHECK(!first.are_kicked());
+  CHECK(first.are_weighed());  // for a bound that no clock takes away
   options.tour.reset();
-  first.kick(problem);
+  first.weigh(problem);
   const Start start = first.find();
+  CHECK(start.potentials.size() == 60);
   CHECK(instance.allows(start.tour));
   for (const Tour& tour : start.further) {
     CHECK(length_of(instance.weights, start.tour) <=
