@@ -426,3 +426,18 @@ def told_of_crate(users: Users, crate: Crate) -> list[str]:
     heads = {str(path.relative_to(crate.folder)): head for path, head in listed if path.name not in LISTS}
     width = max(map(len, heads))
     return found + [f"{place:{width}}  {textwrap.shorten(sentence(head), WIDTH - width - 2, placeholder=' ..')}" for place, head in heads.items()]
+
+
+def edits_of_crate(users: Users, crate: Crate, path: Path | None = None) -> list[str]:
+    """The wrong edits of a crate, or of one file, by the file and the function or definition that they change first."""
+    rows: dict[tuple[str, str], list[Edit]] = defaultdict(list)
+    for edit in crate.edits if path is None else users.edits_of(crate, path):
+        pair = next((it for it in edit.pairs if path is None or it.path == str(path.relative_to(crate.folder))), edit.pairs[0])
+        function = crate.function_of(pair)
+        rows[pair.path, function.shown if function else edit.breaks].append(edit)
+    found: list[str] = []
+    for place in dict.fromkeys(place for place, _ in sorted(rows)):
+        found += ["", place] if found else [place]
+        for (_, name), edits in sorted(it for it in rows.items() if it[0][0] == place):
+            found += [f"  {name}", *(f"    {edit.path.parent.name}/{edit.path.stem}" for edit in edits)]
+    return found or ["no wrong edit changes it"]

@@ -6,7 +6,8 @@ import unittest
 from pathlib import Path, PurePath
 
 from around.kinds import Kind, kind_of
-from around.told import Told, few, sentence, told_of_crate
+from around.outside import Outside, first_paragraph, first_remark
+from around.told import Told, edits_of_crate, few, sentence, told_of_crate
 from around.users import Users
 from code_text import Function
 from crates_text import ROOT, crates
@@ -76,6 +77,11 @@ class Planted(unittest.TestCase):
         self.assertIn("cd crates/low && rt check --only shape::squared, then rt check", told)
         self.assertIn("low: proofs of squared", self.lines("low/proofs/Sums.antt"))
 
+    def test_edits_of_a_file(self) -> None:
+        low = self.users.crates["low"]
+        self.assertEqual(edits_of_crate(self.users, low, low.folder / "src/shape.rt"), ["src/shape.rt", "  Circle::area", "    must-fail/area"])
+        self.assertEqual(edits_of_crate(self.users, low, low.folder / "src/lib.rt"), ["no wrong edit changes it"])
+
     def test_edit(self) -> None:
         told = self.lines("low/must-fail/area.edit")
         self.assertIn("it changes: Circle::area (shape), squared (shape)", told)
@@ -122,6 +128,35 @@ class Here(unittest.TestCase):
     def test_crate(self) -> None:
         told = told_of_crate(self.users, self.users.crates["tsp_tool"])
         self.assertTrue(any(line.startswith("src/main.rt") for line in told))
+
+
+class Others(unittest.TestCase):
+    """The files outside crates/."""
+
+    outside = Outside()
+
+    def test_each_has_a_place(self) -> None:
+        lost = [path for path in self.outside.files if self.outside.place(path) is None]
+        self.assertEqual(lost, [])
+        self.assertEqual([path for path in self.outside.places if not (ROOT / path).exists()], [])
+
+    def test_users(self) -> None:
+        """Modules that import it, headers that are included, pages, and suites."""
+        self.assertIn("users.py", self.outside.users(PurePath("scripts/walks/walk.py"))["scripts/around"])
+        self.assertIn("quotients.h", self.outside.users(PurePath("producer/src/cuts/families.cpp"))["producer/src/cuts"])
+        self.assertIn("TESTING.md", self.outside.users(PurePath("docs/format.md"))["docs"])
+        self.assertEqual(self.outside.suites(PurePath("tests/second/run")), ["second"])
+
+    def test_lines(self) -> None:
+        told = self.outside.lines(PurePath("bench/whole"))
+        self.assertIn("  Times whole runs of the program, and compares them with a native program: bench/whole [PROGRAM] [--rows TEXT]", told)
+        self.assertLessEqual({"where", "users", "rule", "after a change"}, set(told))
+
+    def test_heads(self) -> None:
+        self.assertEqual(first_remark('#!/usr/bin/env python3\n"""One\nthing.\n\nMore."""\nx = """y"""\n'), "One thing.")
+        self.assertEqual(first_remark("/* One\n * thing. */\n"), "One thing.")
+        self.assertEqual(first_remark("#!/bin/sh\n# One\n# thing.\n#\n# More.\nexit\n"), "One thing.")
+        self.assertEqual(first_paragraph("# Title\n\n<!-- mark -->\n[One](two) thing.\n\nMore.\n"), "One thing.")
 
 
 class Words(unittest.TestCase):
