@@ -1,6 +1,6 @@
--- The goals of `least_bound` in src/potentials.rt, which rounds a sum up to a whole number at a scale: what it ensures.
+-- The goals of `least_bound` in src/bounds.rt, which rounds a sum up to a whole number at a scale: what it ensures.
 use Rattle.tsp_theory.proofs.Sums.{least_computed}
-use Rattle.tsp_bound.proofs.potentials.least_bound.Goals as goal
+use Rattle.tsp_theory.proofs.bounds.least_bound.Goals as goal
 
 -- plan: the quotient is rounded up, which is the least whole number no less than it (`least_computed`)
 pub returns : goal.returns
