@@ -7,7 +7,7 @@ mod Divisions
 mod SmallFamilies
 pub mod Solutions
 mod CaseLaws
-pub mod CaseTrees
+pub mod LeavesBoundCycles
 pub mod FamilyCrossings
 mod SmallCaseTrees
 pub mod SetSums

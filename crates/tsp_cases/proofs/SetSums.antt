@@ -2,7 +2,7 @@
 -- tsp_branch and tsp_routing import it, too.
 use Rattle.tsp_cases.proofs.Prelude.{◌≡◌, ◌≢◌, ℕ, suc, ◌+◌, ◌<◌, ◌==◌, Bool, true, false, not, List, [], ◌∷◌, ◌++◌, length, get_or, inl, inr, refl, ap, sym, subst, ◌∙◌, arith, drop, drop-cons, add-one, ◌≤◌, Option, None, Some, ◌≤ℤ◌, set, ∥∥₁_elim, props, cases_Bool, cases_eq, eq-eqb, ne_eqb, or_parts, ints, int_wrap-add_right, int_wrap-add_same, int_wrap_fits, SFits-int_wrap, fits_signed_from_abs, append_assoc, get_or-set_same, get_or-set_other, recursion_from_All, All-from_recursion, Vec, w64, int_wrap, All, AllByRecursion, ℤ, pos, neg_ℤ, ◌+ℤ◌, ◌*ℤ◌, if◌then◌else◌, FitsSigned, slice_index_or, ◌-ℤ◌, MatchOption, IsFromTo, moved_on, moved_to, size_of, weight_between, is_same_pair, total, sum_int_by, crossing, IsMoved}
 use Rattle.tsp_format.proofs.Basics.{both_all}
-use Rattle.tsp_cases.proofs.CaseTrees.{agreed_rows}
+use Rattle.tsp_cases.proofs.LeavesBoundCycles.{agreed_rows}
 use Rattle.tsp_cases.proofs.FamilyCrossings.{combed_size, combed_fits, families_crossed_few, multipliers_below, sets_tell_combs, sets_give_leaves}
 use Rattle.tsp_cases.proofs.PartWalks.{apart_from_pairs}
 use Rattle.tsp_cases.specs.CaseTrees.{combed, least_of, leaf_weight, HasNoLink, IsRowBound, multiplied, IsFoundAt}

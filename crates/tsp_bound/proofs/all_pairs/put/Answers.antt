@@ -2,7 +2,7 @@
 use Rattle.tsp_bound.proofs.Prelude.{◌≡◌, ◌-◌, ◌+◌, ◌*◌, ◌<◌, ◌≤ℤ◌, ◌∙◌, ℤ, ℕ, List, refl, length, get_or, arith, rules, ap, sym, subst, set, pos, w64, to_z, of_z, SFits, get_or_default, least_at}
 use Rattle.tsp_bound.specs.declared.search.Link.{Link}
 use Rattle.tsp_bound.specs.states.Components.{kept_at, empty_link}
-use Rattle.tsp_bound.proofs.Listing.{bound_seen}
+use Rattle.tsp_bound.proofs.AllPairs.{bound_seen}
 use Rattle.tsp_bound.proofs.all_pairs.put.Goals as goal
 
 -- plan: the new link replaces the heaviest one, and the number of the place is at most the weight of each link that

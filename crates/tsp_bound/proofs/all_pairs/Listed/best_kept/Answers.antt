@@ -4,7 +4,7 @@ use Rattle.tsp_bound.proofs.Prelude.{◌≡◌, ◌≢◌, ◌+◌, ◌-◌, ◌
 use Rattle.tsp_bound.proofs.RoundJoins.{lower_reached}
 use Rattle.tsp_bound.specs.declared.search.Link.{Link}
 use Rattle.tsp_bound.specs.states.Components.{label_at, weight_over, kept_at, empty_link, IsOwnLink}
-use Rattle.tsp_bound.proofs.Listing.{IsEnding, ending_offered}
+use Rattle.tsp_bound.proofs.AllPairs.{IsEnding, ending_offered}
 use Rattle.tsp_bound.proofs.all_pairs.Listed.best_kept.Goals as goal
 use Rattle.tsp_bound.proofs.all_pairs.Listed.best_kept.Goals.{then-link-ne9223372036854775807+then-index-own, else-link-ne9223372036854775807, else-link-ne9223372036854775807-via-then-link-ne9223372036854775807+else-index-own, else-link-ne9223372036854775807-via-else-link-ne9223372036854775807}
 

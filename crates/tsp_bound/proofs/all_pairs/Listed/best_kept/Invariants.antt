@@ -2,7 +2,7 @@
 use Rattle.std.proofs.Common.{◌≢◌, ◌<◌, ℕ, pos, length, IfSome}
 use Rattle.tsp_bound.specs.states.Components.{label_at, weight_over, kept_at}
 use Rattle.tsp_bound.proofs.RoundJoins.{IsReached}
-use Rattle.tsp_bound.proofs.Listing.{IsEnding}
+use Rattle.tsp_bound.proofs.AllPairs.{IsEnding}
 use Rattle.tsp_bound.proofs.all_pairs.Listed.best_kept.Given as goal
 
 -- if a listed link before this one leaves the component, `best` does so too, and weighs no more

@@ -4,7 +4,7 @@ use Rattle.tsp_bound.proofs.Prelude.{◌≡◌, ◌≢◌, ◌≤ℤ◌, ◌∙�
 use Rattle.tsp_bound.specs.declared.search.Link.{Link}
 use Rattle.tsp_bound.specs.states.Components.{label_at, weight_over}
 use Rattle.tsp_bound.proofs.Searches.{no_more_seen}
-use Rattle.tsp_bound.proofs.Listing.{kept_link}
+use Rattle.tsp_bound.proofs.AllPairs.{kept_link}
 use Rattle.tsp_bound.proofs.all_pairs.ListedComponents.nearest.Goals as goal
 
 -- plan: the best listed link weighs at most the number of its place, so no unlisted link is less (`kept_link`)

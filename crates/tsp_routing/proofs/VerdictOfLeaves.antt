@@ -19,8 +19,8 @@ use Rattle.tsp_routing.proofs.RunJudging.{whole_placed}
 use Rattle.tsp_cases.specs.JudgedLeaves.{AreJudgedBy}
 use Rattle.tsp_cases.specs.ListedCases.{AreGoodLeavesBy}
 use Rattle.tsp_cases.proofs.Solutions.{one_found}
-use Rattle.tsp_routing.proofs.PlanBounds.{plan_tree_bounds_are_unique, all_crossed, one_light}
-use Rattle.tsp_routing.proofs.RunBounds.{run_bounds_are_unique}
+use Rattle.tsp_routing.proofs.QRoutesBoundPlans.{plan_tree_bounds_are_unique, all_crossed, one_light}
+use Rattle.tsp_routing.proofs.RunsBoundPlans.{run_bounds_are_unique}
 
 -- ---- the verdict on the leaves, after both passes
 

@@ -7,7 +7,7 @@ use Rattle.tsp_format.specs.Steps.{SubsetRow}
 use Rattle.tsp_routing.proofs.CutNeeds.{Apart, apart_from_pairs, apart_parts, routes_fit_capacity}
 use Rattle.tsp_cases.specs.Cases.{BoundsKept}
 use Rattle.tsp_cases.proofs.Solutions.{least_found_bounds}
-use Rattle.tsp_routing.proofs.PlanBounds.{sets_of_plan, keeps_either, every_plan}
+use Rattle.tsp_routing.proofs.QRoutesBoundPlans.{sets_of_plan, keeps_either, every_plan}
 use Rattle.tsp_routing.proofs.Plans.{all_same, times_more, parts_all, lengths_are_weights, plans_have_few_routes, split_surplus, between_weight, times_less}
 use Rattle.tsp_routing.proofs.Prelude.{get_or, ◌≡◌, ◌≢◌, ℕ, zero, suc, ◌+◌, ◌*◌, ◌≤◌, ◌==◌, ◌&&◌, ◌||◌, Bool, true, false, not, List, [], ◌∷◌, ◌++◌, length, refl, sym, ap, ap₂, arith, inl, inr, if◌then◌else◌, ℤ, pos, ◌+ℤ◌, ◌*ℤ◌, ◌≤ℤ◌, AllByRecursion, concat, ints, cases_eq, ne_eqb, eq-eqb, recursion_from_All, suc_ℤ-*ℤ, zero-*ℤ, links_to, sum_int_by, plan_length, weight_of, sum_int_by-add, sum_int_by-le, has, All-from_recursion, IsCustomer, ◌-◌, entry, weight_between, difference, multiplied, crossings_of, All, Option, Some, None, LeafNumbers, Decision, leaves_of}
 use Rattle.tsp_routing.proofs.QRouteRests.{loads_low}
