@@ -2,7 +2,8 @@
 -- unlisted link is below.
 use Rattle.tsp_bound.proofs.Prelude.{◌≡◌, ◌≢◌, ℕ, ◌+◌, ◌*◌, ◌<◌, ◌≤◌, List, Option, length, set, drop, take, get_or, ℤ, pos, ◌≤ℤ◌, ◌<ℤ◌, ◌⊎◌, inl, inr, refl, arith, ap, sym, subst, ◌∙◌, IfSome, w64, to_z, of_z, SFits, cases_eq, cases_lt, ints, to_z-of_z, get_or-set_same, get_or-set_other, get_or-take, get_or-drop, least_at}
 use Rattle.tsp_bound.specs.declared.search.Link.{Link}
-use Rattle.tsp_bound.specs.states.Components.{IsKeptLink, IsOffered, kept_at, empty_link, IsOwnLink, IsKnown, IsPut, IsTaken, IsSeen, AreOffered}
+use Rattle.tsp_bound.specs.states.Components.{IsKeptLink, IsOffered, kept_at, empty_link, IsOwnLink, IsKnown, IsPut, IsTaken, IsSeen, AreOffered, links_kept}
+use Rattle.tsp_bound.specs.states.Boxes.{no_weight}
 
 pub no_more_where_not : (a b : ℤ) → (b <ℤ a → ⊥) → a ≤ℤ b
 no_more_where_not a b h = grind (arith, ints, h)
@@ -19,14 +20,14 @@ bound_seen old dropped bound f g h first second =
     omega (arith, ints, a, b, c, first, second)
 
 -- a link of the list is the new one, or it was there before
-link_put : (old links : List Link) (x slot : ℕ) (link : Link) (y k : ℕ) → links ≡ set old (12 * x + slot) link → 12 * x + slot < length old → slot < 12 → k < 12
+link_put : (old links : List Link) (x slot : ℕ) (link : Link) (y k : ℕ) → links ≡ set old (links_kept * x + slot) link → links_kept * x + slot < length old → slot < links_kept → k < links_kept
     → ((y ≡ x) × (kept_at links y k ≡ link)) ⊎ (kept_at links y k ≡ kept_at old y k)
-link_put old links x slot link y k is inside few k_in = elim (cases_eq (12 * y + k) (12 * x + slot)) [
+link_put old links x slot link y k is inside few k_in = elim (cases_eq (links_kept * y + k) (links_kept * x + slot)) [
   | inl same ↦ inl (
     omega (arith, same, few, k_in),
-    ap (λ (ls : List Link). kept_at ls y k) is ∙ (ap (λ i. get_or (set old (12 * x + slot) link) i empty_link) same ∙ get_or-set_same old (12 * x + slot) link empty_link inside),
+    ap (λ (ls : List Link). kept_at ls y k) is ∙ (ap (λ i. get_or (set old (links_kept * x + slot) link) i empty_link) same ∙ get_or-set_same old (links_kept * x + slot) link empty_link inside),
   )
-  | inr other ↦ inr (ap (λ (ls : List Link). kept_at ls y k) is ∙ get_or-set_other old (12 * x + slot) (12 * y + k) link empty_link other)
+  | inr other ↦ inr (ap (λ (ls : List Link). kept_at ls y k) is ∙ get_or-set_other old (links_kept * x + slot) (links_kept * y + k) link empty_link other)
 ]
 
 bound_put : (old bounds : List ℤ) (x : ℕ) (bound : ℤ) (y : ℕ) → bounds ≡ set old x bound → x < length old → bound ≤ℤ least_at old x → least_at bounds y ≤ℤ least_at old y
@@ -40,8 +41,8 @@ bound_put old bounds x bound y is inside lower = elim (cases_eq y x) [
 ]
 
 pub own_taken : (n : ℕ) (w : ℕ → ℕ → ℤ) (link : Link) (old_links : List Link) (old_bounds : List ℤ) (links : List Link) (bounds : List ℤ)
-    → length old_links ≡ 12 * n → link.from < n → link.to < n → link.weight ≡ w link.from link.to → IsTaken link old_links old_bounds links bounds
-    → ((x k : ℕ) → x < n → k < 12 → IsOwnLink n w x (kept_at old_links x k)) → (x k : ℕ) → x < n → k < 12 → IsOwnLink n w x (kept_at links x k)
+    → length old_links ≡ links_kept * n → link.from < n → link.to < n → link.weight ≡ w link.from link.to → IsTaken link old_links old_bounds links bounds
+    → ((x k : ℕ) → x < n → k < links_kept → IsOwnLink n w x (kept_at old_links x k)) → (x k : ℕ) → x < n → k < links_kept → IsOwnLink n w x (kept_at links x k)
 own_taken n w link old_links old_bounds links bounds long from_in to_in is (inl same) own x k x_in k_in =
     subst (λ (ls : List Link). IsOwnLink n w x (kept_at ls x k)) (sym same.0) (own x k x_in k_in)
 own_taken n w link old_links old_bounds links bounds long from_in to_in is (inr put) own x k x_in k_in =
@@ -53,14 +54,14 @@ own_taken n w link old_links old_bounds links bounds long from_in to_in is (inr 
 -- a pair that is known, as its link is listed or weighs at least the number of its place, stays known
 -- plan: a link that goes away weighs no less than the new number of its place
 pub known_taken : (n : ℕ) (w : ℕ → ℕ → ℤ) (link : Link) (old_links : List Link) (old_bounds : List ℤ) (links : List Link) (bounds : List ℤ)
-    → length old_links ≡ 12 * n → length old_bounds ≡ n → link.from < n → IsTaken link old_links old_bounds links bounds
+    → length old_links ≡ links_kept * n → length old_bounds ≡ n → link.from < n → IsTaken link old_links old_bounds links bounds
     → (x y : ℕ) → IsKnown w old_links old_bounds x y → IsKnown w links bounds x y
 known_taken n w link old_links old_bounds links bounds long as_many from_in (inl same) x y known unlisted =
     subst (λ (ls : List Link). IsKnown w ls bounds x y) (sym same.0) (subst (λ (bs : List ℤ). IsKnown w old_links bs x y) (sym same.1) known) unlisted
 known_taken n w link old_links old_bounds links bounds long as_many from_in (inr put) x y known unlisted =
     no_more_where_not (least_at bounds x) (w x y) (λ less.
     let lower : least_at bounds x ≤ℤ least_at old_bounds x = bound_put old_bounds bounds link.from put.bound x put.bounds_is (omega (arith, as_many, from_in)) put.lower in
-    let old : least_at old_bounds x ≤ℤ w x y = known (λ k k_in to_is weight_is. elim (cases_eq (12 * x + k) (12 * link.from + put.slot)) [
+    let old : least_at old_bounds x ≤ℤ w x y = known (λ k k_in to_is weight_is. elim (cases_eq (links_kept * x + k) (links_kept * link.from + put.slot)) [
       | inl same ↦
           let x_is : x ≡ link.from = omega (arith, same, put.few, k_in) in
           let k_is : k ≡ put.slot = omega (arith, same, put.few, k_in) in
@@ -71,14 +72,14 @@ known_taken n w link old_links old_bounds links bounds long as_many from_in (inr
           omega (arith, ints, here, gone, below, less)
       | inr other ↦
           let still : kept_at links x k ≡ kept_at old_links x k =
-          ap (λ (ls : List Link). kept_at ls x k) put.links_is ∙ get_or-set_other old_links (12 * link.from + put.slot) (12 * x + k) link empty_link other in
+          ap (λ (ls : List Link). kept_at ls x k) put.links_is ∙ get_or-set_other old_links (links_kept * link.from + put.slot) (links_kept * x + k) link empty_link other in
           unlisted k k_in (ap (λ (l : Link). l.to) still ∙ to_is) (ap (λ (l : Link). l.weight) still ∙ weight_is)
     ]) in
     omega (arith, ints, lower, old, less))
 
 -- the pair of the new link is known
 pub known_new : (n : ℕ) (w : ℕ → ℕ → ℤ) (link : Link) (old_links : List Link) (old_bounds : List ℤ) (links : List Link) (bounds : List ℤ)
-    → length old_links ≡ 12 * n → link.from < n → link.weight ≡ w link.from link.to → IsTaken link old_links old_bounds links bounds
+    → length old_links ≡ links_kept * n → link.from < n → link.weight ≡ w link.from link.to → IsTaken link old_links old_bounds links bounds
     → IsKnown w links bounds link.from link.to
 known_new n w link old_links old_bounds links bounds long from_in is (inl same) unlisted =
     let high = same.2 in
@@ -86,7 +87,7 @@ known_new n w link old_links old_bounds links bounds long from_in is (inl same) 
     omega (arith, ints, here, high, is)
 known_new n w link old_links old_bounds links bounds long from_in is (inr put) unlisted =
     let here : kept_at links link.from put.slot ≡ link = ap (λ (ls : List Link). kept_at ls link.from put.slot) put.links_is
-    ∙ get_or-set_same old_links (12 * link.from + put.slot) link empty_link (omega (arith, long, from_in, put.few)) in
+    ∙ get_or-set_same old_links (links_kept * link.from + put.slot) link empty_link (omega (arith, long, from_in, put.few)) in
     absurd (unlisted put.slot put.few (ap (λ (l : Link). l.to) here) (ap (λ (l : Link). l.weight) here ∙ is))
 
 -- ---- a pass over the pairs
@@ -102,7 +103,7 @@ seen_more first last from next x y (inr (inr own)) = elim (cases_eq y next) [
 -- a pair more: its link at each of both places
 pub listed_more : (n : ℕ) (w : ℕ → ℕ → ℤ) (first last from next : ℕ) (there back : Link) (old_links : List Link) (old_bounds : List ℤ)
     (some_links : List Link) (some_bounds : List ℤ) (links : List Link) (bounds : List ℤ)
-    → length old_links ≡ 12 * n → length old_bounds ≡ n → length some_links ≡ 12 * n → length some_bounds ≡ n → from < n → next < n
+    → length old_links ≡ links_kept * n → length old_bounds ≡ n → length some_links ≡ links_kept * n → length some_bounds ≡ n → from < n → next < n
     → there.from ≡ from → there.to ≡ next → there.weight ≡ w from next → back.from ≡ next → back.to ≡ from → back.weight ≡ w next from
     → IsTaken there old_links old_bounds some_links some_bounds → IsTaken back some_links some_bounds links bounds
     → AreOffered n w first last from next old_links old_bounds → AreOffered n w first last from (next + 1) links bounds
@@ -180,9 +181,9 @@ ending_offered n w label from best link new old own offered = elim offered.one [
 -- plan: by whether a link to another component is listed: it weighs at least the best listed one, or at least the
 -- number of the place
 pub kept_link : (n : ℕ) (w : ℕ → ℕ → ℤ) (label : ℕ → ℕ) (from : ℕ) (links : List Link) (bounds : List ℤ) (link : Link) → from < n
-    → link.weight ≤ℤ pos 9223372036854775807 → link.weight ≢ pos 9223372036854775807
+    → link.weight ≤ℤ no_weight → link.weight ≢ no_weight
     → AreOffered n w n 0 0 0 links bounds → IsOwnLink n w from link
-    → ((k : ℕ) → k < 12 → (kept_at links from k).weight ≢ pos 9223372036854775807 → label (kept_at links from k).to ≢ label from
+    → ((k : ℕ) → k < links_kept → (kept_at links from k).weight ≢ no_weight → label (kept_at links from k).to ≢ label from
     → link.weight ≤ℤ (kept_at links from k).weight)
     → link.weight ≤ℤ least_at bounds from → IsKeptLink n w label from link
 kept_link n w label from links bounds link from_in fits some listed own least below = record {
@@ -191,7 +192,7 @@ kept_link n w label from links bounds link from_in fits some listed own least be
   weight_is = (own some).2;
   least = λ x x_in out. no_more_where_not link.weight (w from x) (λ less.
       let number : least_at bounds from ≤ℤ w from x = known x x_in (λ e. out (ap label e)) (λ k k_in to_is weight_is.
-      let is_one : (kept_at links from k).weight ≢ pos 9223372036854775807 = λ e. omega (arith, ints, e, weight_is, less, fits) in
+      let is_one : (kept_at links from k).weight ≢ no_weight = λ e. omega (arith, ints, e, weight_is, less, fits) in
       let more = least k k_in is_one (subst (λ (i : ℕ). label i ≢ label from) (sym to_is) out) in
       omega (arith, ints, more, weight_is, less)) in
       omega (arith, ints, number, below, less));

@@ -11,7 +11,7 @@ ghost use Rattle.tsp_bound.specs.states.Potentials.{scale_of, numbers_of, triple
 use crate::multipliers_by_node::ByNode;
 use crate::potentials::{Multipliers, Potentials, total, total_of};
 use crate::prim::two_root_edges;
-use crate::rounds::grow_in_rounds as grow;
+use crate::rounds::grow_in_rounds;
 use crate::weights::PotentialWeights;
 use std::alloc::{AllocError, Global};
 use tsp_io::{Refused, filled, push, with_capacity};
@@ -143,7 +143,7 @@ fn least_edges<'a, C: Symmetric>(
     let weights = PotentialWeights { c, p, m };
     let mut row = filled(alloc, 0, c.count() as usize + 1)?;
     let (first, second) = two_root_edges(&weights, &mut row);
-    let grown = grow(alloc, &weights, &mut row)?;
+    let grown = grow_in_rounds(alloc, &weights, &mut row)?;
     let edges = tree_of(
         alloc,
         c.count() as usize,

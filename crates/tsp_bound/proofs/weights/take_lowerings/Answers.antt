@@ -1,8 +1,8 @@
--- The goals of `lower` in src/weights.rt, which takes multipliers off a row of weights: its loop and what it ensures.
+-- The goals of `take_lowerings` in src/weights.rt, which takes multipliers off a row of weights: its loop and what it ensures.
 use Rattle.tsp_bound.proofs.Prelude.{◌≡◌, ◌≤◌, ℕ, ℤ, List, length, refl, ap, subst, inl, arith, to_z, of_z, w64, pos, neg_ℤ, ◌-ℤ◌, slice_index_or, ◌==◌, if◌then◌else◌, ints, drop_all, least_at, IsMoved, moved_on, node_moved}
 use Rattle.tsp_bound.specs.states.ByNode.{lowered_by}
 use Rattle.tsp_bound.proofs.LoweredWeights.{lowered_left}
-use Rattle.tsp_bound.proofs.weights.lower.Goals as goal
+use Rattle.tsp_bound.proofs.weights.take_lowerings.Goals as goal
 
 -- plan: one pair more lowers the entry of its other node (`node_moved`), and no other
 pub lowerings-preserved : goal.lowerings-preserved
