@@ -11,7 +11,7 @@ ghost use Rattle.tsp_branch.specs.states.LeafRows.{AreExact, is_same_place, has_
 
 use crate::case_leaf::{CaseLeaf, LeafSum, change_between};
 use std::alloc::Global;
-use tsp_bound::{BoxedWeights, Growing, Grown, NumberedSite, grow_in_rounds as grow, least_weight};
+use tsp_bound::{BoxedWeights, Growing, Grown, NumberedSite, grow_in_rounds, least_weight};
 use tsp_cases::{Multipliers, SetPlace, sum_left};
 use tsp_io::Refused;
 use tsp_theory::{Costs, Region, Site, Weights, least_bound, weight_in};
@@ -127,7 +127,7 @@ impl<C: Costs> Weights for BoxedLeaf<'_, C> {
 
 impl<C: Costs> Growing for BoxedLeaf<'_, C> {
     fn grow(&self, alloc: Global, row: &mut [i64]) -> Result<Grown, Refused> {
-        grow(alloc, self, row)
+        grow_in_rounds(alloc, self, row)
     }
 }
 

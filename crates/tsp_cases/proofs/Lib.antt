@@ -15,4 +15,3 @@ pub mod OpenCases
 pub mod Passes
 pub mod TreeBranches
 pub mod GoodFamilies
-pub mod RowsKept

@@ -5,7 +5,7 @@
 //! `specs/PlanVerdicts.antt` the limits of potentials and multipliers.
 
 ghost use Rattle.std.specs.Prelude.{◌≡◌, ◌≤◌, ◌+◌, ◌-◌, ◌^◌, ◌-ℤ◌, ◌*ℤ◌, ◌*◌, ◌<◌, ◌≤ℤ◌, ◌==◌, if◌then◌else◌, ◌∷◌, ◌↔◌};
-ghost use Rattle.tsp_cases.specs.states.Kept.{AreMoved};
+ghost use Rattle.tsp_cases.specs.states.Sets.{AreMoved};
 ghost use Rattle.tsp_cases.specs.states.OpenCases.{stack_of, IsOpenCase, decisions_in};
 ghost use Rattle.tsp_routing.specs.PlanBounds.{limits_total, least_product, IsPlanBound, low_of, high_of, least_times, IsFoundByQRoutes, IsLeastQRoute, most_capacity_in_parts, most_surplus};
 ghost use Rattle.tsp_routing.specs.PlanLinks.{IsFewest, sum_of_customers};
