@@ -6,7 +6,7 @@ use Rattle.std.specs.Bool.{OnTrue}
 use Rattle.std.specs.Int.Signed.{lt_z, le_z}
 use Rattle.tsp_bound.specs.declared.area.Area.{Area}
 use Rattle.tsp_bound.specs.declared.search.Best.{Best}
-use Rattle.tsp_bound.specs.states.Boxes.{up, node_of, box_at, AreHeldFrom, AreHeld, IsRefit, IsBelowAll, IsFound, IsBest, IsSearched}
+use Rattle.tsp_bound.specs.states.Boxes.{up, node_of, box_at, AreHeldFrom, AreHeld, IsRefit, IsBelowAll, IsFound, IsBest, IsSearched, no_weight}
 use Rattle.tsp_bound.specs.states.Components.{IsNearest}
 use Rattle.tsp_bound.specs.states.Potentials.{IsInverse}
 
@@ -158,7 +158,7 @@ searched_all w places outside from old new all j j_in out =
 -- ---- the best place after the search is the nearest one, as `Components` asks
 
 pub found_some : (w : ℕ → ℕ → ℤ) (places : List ℕ) (outside : ℕ → Bool) (from : ℕ) (best : Best) → IsBest w places outside from best
-    → best.weight ≢ pos 9223372036854775807 → IsFound w places outside from best
+    → best.weight ≢ no_weight → IsFound w places outside from best
 found_some w places outside from best all other = elim all.found [
   | inl same ↦ absurd (other (ap (λ (b : Best). b.weight) same))
   | inr found ↦ found

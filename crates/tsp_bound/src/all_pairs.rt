@@ -3,7 +3,8 @@
 //! these don't suffice. The number twelve affects only speed.
 
 ghost use Rattle.std.specs.Prelude.{◌≡◌, ◌≤◌, ◌<◌, ◌+◌, ◌*◌, ◌^◌, ℕ, length};
-ghost use Rattle.tsp_bound.specs.states.Components.{label_at, weight_over, AreOffered, IsPut, IsTaken};
+ghost use Rattle.tsp_bound.specs.states.Components.{label_at, weight_over, AreOffered, IsPut, IsTaken, links_kept};
+ghost use Rattle.tsp_bound.specs.states.Boxes.{no_weight};
 
 use crate::boxes::{BoxedWeights, lesser, own_labels, rename};
 use crate::rounds::{Components, better};
@@ -12,9 +13,9 @@ use std::alloc::Global;
 use tsp_io::{Refused, filled};
 use tsp_theory::weight_in;
 
-/// How many edges are kept for each place. Clauses here, `specs/states/Components.antt` and proofs
-/// contain the number 12, too, so change all of them together.
-const KEPT: usize = 12;
+/// How many links are kept for each place. `links_kept` in `specs/states/Components.antt` is the same
+/// number, so change both together.
+const LINKS_KEPT: usize = 12;
 
 /// How many columns of the rows are passed over at a time.
 ///
@@ -29,14 +30,14 @@ struct Columns {
     last: usize,
 }
 
-/// The index of the heaviest of the twelve links that begin at `first`.
+/// The index of the heaviest of the links of a place, which begin at `first`.
 fn heaviest(links: &[Link], first: usize) -> usize
-    requires { first + 12 ≤ length links.now }
+    requires { first + links_kept ≤ length links.now }
     ensures low { first ≤ result }
-    ensures high { result < first + 12 }
+    ensures high { result < first + links_kept }
 {
     let mut found = first;
-    'links: for k in first + 1..first + KEPT {
+    'links: for k in first + 1..first + LINKS_KEPT {
         if links[found].weight < links[k].weight {
             found = k;
         }
@@ -47,24 +48,24 @@ fn heaviest(links: &[Link], first: usize) -> usize
 /// Replaces the heaviest link of the link's own place. The bound of that place is then no more than
 /// the weight of any link that isn't kept.
 fn put(links: &mut [Link], bounds: &mut [i64], link: Link)
-    requires long { length links.old ≡ 12 * length bounds.old }
+    requires long { length links.old ≡ links_kept * length bounds.old }
     requires from { link.from < length bounds.old }
     requires few { length bounds.old < 2 ^ 31 }
     ensures { IsPut link links.old bounds.old links.new bounds.new }
 {
     let place = link.from as usize;
-    let slot = heaviest(links, KEPT * place);
+    let slot = heaviest(links, LINKS_KEPT * place);
     let old = links[slot];
     let dropped = lesser(bounds[place], old.weight);
     links[slot] = link;
-    let left = links[heaviest(links, KEPT * place)].weight;
+    let left = links[heaviest(links, LINKS_KEPT * place)].weight;
     bounds[place] = lesser(dropped, left);
 }
 
 /// Keeps a link if it weighs less than one of those kept for its place.
 #[inline]
 fn take(links: &mut [Link], bounds: &mut [i64], link: Link)
-    requires long { length links.old ≡ 12 * length bounds.old }
+    requires long { length links.old ≡ links_kept * length bounds.old }
     requires from { link.from < length bounds.old }
     requires few { length bounds.old < 2 ^ 31 }
     ensures { IsTaken link links.old bounds.old links.new bounds.new }
@@ -84,7 +85,7 @@ fn take_row<W: BoxedWeights>(
     columns: Columns,
 )
     requires room { length row.old ≡ W.nodes placed.now.w.now + 1 }
-    requires long { length links.old ≡ 12 * length bounds.old }
+    requires long { length links.old ≡ links_kept * length bounds.old }
     requires as_many { length bounds.old ≡ length placed.now.order.now }
     requires even { (i j : ℕ) → W.at placed.now.w.now i j ≡ W.at placed.now.w.now j i }
     requires from { from < columns.last }
@@ -133,7 +134,7 @@ fn take_columns<W: BoxedWeights>(
     columns: Columns,
 )
     requires room { length row.old ≡ W.nodes placed.now.w.now + 1 }
-    requires long { length links.old ≡ 12 * length bounds.old }
+    requires long { length links.old ≡ links_kept * length bounds.old }
     requires as_many { length bounds.old ≡ length placed.now.order.now }
     requires even { (i j : ℕ) → W.at placed.now.w.now i j ≡ W.at placed.now.w.now j i }
     requires first { columns.first ≤ columns.last }
@@ -158,7 +159,7 @@ fn take_all<W: BoxedWeights>(
     bounds: &mut [i64],
 )
     requires room { length row.old ≡ W.nodes placed.now.w.now + 1 }
-    requires long { length links.old ≡ 12 * length bounds.old }
+    requires long { length links.old ≡ links_kept * length bounds.old }
     requires as_many { length bounds.old ≡ length placed.now.order.now }
     requires even { (i j : ℕ) → W.at placed.now.w.now i j ≡ W.at placed.now.w.now j i }
     requires none { AreOffered (length placed.now.order.now)
@@ -186,7 +187,7 @@ pub(crate) struct Listed<'a, W: BoxedWeights> {
     bounds: Vec<i64>,
     ghost as_many: { length labels.items ≡ length placed.order.now },
     ghost low: { (x : ℕ) → x < length placed.order.now → label_at labels.items x < length placed.order.now },
-    ghost long: { length links.items ≡ 12 * length placed.order.now },
+    ghost long: { length links.items ≡ links_kept * length placed.order.now },
     ghost as_many_bounds: { length bounds.items ≡ length placed.order.now },
     ghost listed: { AreOffered (length placed.order.now) (weight_over (W.at placed.w.now) placed.order.now)
         (length placed.order.now) 0 0 0 links.items bounds.items },
@@ -222,7 +223,7 @@ impl<'a, W: BoxedWeights> Listed<'a, W> {
             to: 0,
         };
         let labels = own_labels(alloc, count as u32)?;
-        let mut links = filled(alloc, none, KEPT * count)?;
+        let mut links = filled(alloc, none, LINKS_KEPT * count)?;
         let mut bounds = filled(alloc, i64::MAX, count)?;
         take_all(&placed, row, &mut links, &mut bounds);
         Ok(Listed {
@@ -239,15 +240,15 @@ impl<'a, W: BoxedWeights> Listed<'a, W> {
         requires { from < length self.now.placed.order.now }
         ensures own { IsOwnLink (length self.now.placed.order.now)
             (weight_over (W.at self.now.placed.w.now) self.now.placed.order.now) from result }
-        ensures least { (k : ℕ) → k < 12
-            → (kept_at self.now.links.items from k).weight ≢ pos 9223372036854775807
+        ensures least { (k : ℕ) → k < links_kept
+            → (kept_at self.now.links.items from k).weight ≢ no_weight
             → label_at self.now.labels.items (kept_at self.now.links.items from k).to ≢ label_at self.now.labels.items from
             → result.weight ≤ℤ (kept_at self.now.links.items from k).weight }
     {
         let own = self.labels[from as usize];
-        let first = KEPT * from as usize;
+        let first = LINKS_KEPT * from as usize;
         let mut best = None;
-        'links: for k in 0..KEPT {
+        'links: for k in 0..LINKS_KEPT {
             let link = self.links[first + k];
             if link.weight != i64::MAX && self.labels[link.to as usize] != own {
                 best = Some(better(best, link));

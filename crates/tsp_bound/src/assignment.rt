@@ -7,8 +7,8 @@ ghost use Rattle.std.specs.Prelude.{◌≡◌, ◌≢◌, ◌↔◌, ◌≤◌, 
 ghost use Rattle.tsp_theory.specs.Tour.{IsCycle, length_of};
 ghost use Rattle.tsp_bound.specs.states.Duals.{dual_scale, rows_of, columns_of, dual_of, scaled};
 
-use crate::potentials::{Duals, least_bound, scaled_cost, total};
-use tsp_theory::{Costs, duals_bound_cycles};
+use crate::potentials::{Duals, scaled_cost, total};
+use tsp_theory::{Costs, duals_bound_cycles, least_bound};
 
 /// The first pair of different nodes, by rows, whose duals sum to more than the scaled cost.
 #[derive(Clone, Copy, Debug, PartialEq, Eq)]

@@ -9,13 +9,13 @@ ghost use Rattle.tsp_theory.specs.Tour.{IsCycle, length_of};
 ghost use Rattle.tsp_bound.specs.states.Potentials.{scale_of, numbers_of, triples_of, triples_in, node_count, weight_less};
 
 use crate::multipliers_by_node::ByNode;
-use crate::potentials::{Multipliers, Potentials, least_bound, total, total_of};
+use crate::potentials::{Multipliers, Potentials, total, total_of};
 use crate::prim::two_root_edges;
-use crate::rounds::grow_in_rounds as grow;
+use crate::rounds::grow_in_rounds;
 use crate::weights::PotentialWeights;
 use std::alloc::{AllocError, Global};
 use tsp_io::{Refused, filled, push, with_capacity};
-use tsp_theory::{Costs, Symmetric, adjusted_bounds_bound_cycles};
+use tsp_theory::{Costs, Symmetric, adjusted_bounds_bound_cycles, least_bound};
 
 /// A minimum 1-tree, its weight, and the bound on the length of every cycle.
 #[derive(Debug, Drop)]
@@ -143,7 +143,7 @@ fn least_edges<'a, C: Symmetric>(
     let weights = PotentialWeights { c, p, m };
     let mut row = filled(alloc, 0, c.count() as usize + 1)?;
     let (first, second) = two_root_edges(&weights, &mut row);
-    let grown = grow(alloc, &weights, &mut row)?;
+    let grown = grow_in_rounds(alloc, &weights, &mut row)?;
     let edges = tree_of(
         alloc,
         c.count() as usize,

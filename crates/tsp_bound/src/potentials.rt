@@ -1,8 +1,8 @@
 //! The numbers of a potentials file: `Potentials` and `Multipliers` for a TSP, `Duals` for an ATSP.
 //! `new` tests their limits, so that no later sum or weight overflows. tsp_verdict makes them.
 
-ghost use Rattle.tsp_bound.specs.Prelude.{All, IsTrue, length, pos, neg_ℤ, most_nodes, most_potential, most_triples, most_multiplier, most_scale, most_weight, IsNode, IsFromTo, triples_total, AreNodePotentials, IsMultiplier, AreMultipliers, IsScale, ArePotentials, total, IsLeastBound, IsBoundSized, AreDuals};
-ghost use Rattle.std.specs.Prelude.{◌↔◌, ◌≡◌, ◌≤◌, ◌*◌, ◌^◌, ◌*ℤ◌, ◌≤ℤ◌};
+ghost use Rattle.tsp_bound.specs.Prelude.{All, IsTrue, length, pos, neg_ℤ, most_nodes, most_potential, most_triples, most_multiplier, most_scale, most_weight, IsNode, IsFromTo, triples_total, AreNodePotentials, IsMultiplier, AreMultipliers, IsScale, ArePotentials, total, AreDuals};
+ghost use Rattle.std.specs.Prelude.{◌↔◌, ◌≡◌, ◌≤◌, ◌*◌, ◌*ℤ◌, ◌≤ℤ◌};
 
 use tsp_format::{MOST_MULTIPLIER, MOST_MULTIPLIERS, MOST_POTENTIAL, MOST_SCALE};
 use tsp_theory::Costs;
@@ -151,17 +151,6 @@ pub(crate) fn total_of(triples: &[(u32, u32, i64)]) -> i128
         sum += i128::from(triple.2);
     }
     sum
-}
-
-/// The least integer that, times the scale, is at least the sum.
-pub(crate) fn least_bound(scale: i64, sum: i128) -> i128
-    requires scale { IsScale scale }
-    requires size { IsFromTo (neg_ℤ (pos (2 ^ 100))) (pos (2 ^ 100)) sum }
-    ensures value { IsLeastBound scale sum result }
-    ensures size { IsBoundSized result }
-{
-    // Euclidean division rounds down, so dividing the negated sum rounds up.
-    -(-sum).div_euclid(i128::from(scale))
 }
 
 // ---- costs as counts of 1 / SCALE of a certificate

@@ -39,12 +39,12 @@ impl<C: Costs> tsp_theory::Weights for PotentialWeights<'_, C> {
 
     fn fill(&self, from: u32, row: &mut [i64]) {
         weigh_all(self, from, row);
-        lower(row, self.m.at(from));
+        take_lowerings(row, self.m.at(from));
     }
 
     fn fill_at(&self, from: u32, to: &[u32], row: &mut [i64]) {
         weigh(self, from, to, row);
-        lower(row, self.m.at(from));
+        take_lowerings(row, self.m.at(from));
     }
 }
 
@@ -88,7 +88,7 @@ fn weigh<C: Costs>(w: &PotentialWeights<C>, from: u32, to: &[u32], row: &mut [i6
 /// Subtracts the multipliers of a node's pairs from its row.
 ///
 /// Places that weren't written may contain any number, so the differences wrap around.
-fn lower(row: &mut [i64], lowerings: &[(u32, i64)])
+fn take_lowerings(row: &mut [i64], lowerings: &[(u32, i64)])
     requires { All (λ lowering. (lowering.0 < length row.old)
         × IsFromTo (pos 0) (pos most_multiplier) lowering.1) lowerings.now }
     ensures { (x : ℕ) → IsMoved (neg_ℤ (lowered_by lowerings.now x)) (least_at row.old x) (least_at row.new x) }

@@ -8,7 +8,7 @@ use Rattle.tsp_format.specs.Words.{IsSymmetric}
 use Rattle.tsp_theory.specs.Tour.{sum_int_by}
 use Rattle.tsp_theory.specs.Tree.{weight_of, IsLeastOneTree}
 use Rattle.tsp_bound.specs.states.ByNode.{node_in}
-use Rattle.tsp_cases.proofs.CaseTrees.{leaf_even}
+use Rattle.tsp_cases.proofs.LeavesBoundCycles.{leaf_even}
 use Rattle.tsp_cases.proofs.FamilyCrossings.{combed_size, combed_fits}
 use Rattle.tsp_cases.proofs.PartWalks.{apart_from_pairs}
 use Rattle.tsp_cases.specs.Crossings.{has}

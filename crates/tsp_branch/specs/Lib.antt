@@ -1,5 +1,5 @@
 -- Definitions for this crate's contracts: the verdict on a branches file for tours (BranchVerdicts, from which
--- tsp_verdict proves its reasons), and a leaf's rows of weights (states). Bounds are defined in tsp_cases.
+-- tsp_verdict proves its reasons), and rows of weights (states). Bounds are defined in tsp_cases.
 pub mod Prelude
 pub mod states
 pub mod BranchVerdicts

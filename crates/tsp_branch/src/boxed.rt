@@ -2,7 +2,7 @@
 //! over kept rows, over boxes of points (`BoxedLeaf`), or over rows (`leaf_rows.rt`): which way
 //! only affects speed, because `IsBoundOfWeights` pins the bound.
 
-ghost use Rattle.tsp_branch.specs.Prelude.{All, false, length, pos, neg_ℤ, IfOk, true, ℕ, IsNode, IsFromTo, IsBoundSized, IsScale, IsLeastBound, weight_between, most_between, least_at, decided_number, most_combed, set_weight, lent_in, AreFewChanges, changes, decided, decisions_in};
+ghost use Rattle.tsp_branch.specs.Prelude.{All, false, length, pos, neg_ℤ, IfOk, true, ℕ, IsNode, IsFromTo, IsBoundSized, IsScale, weight_between, most_between, least_at, decided_number, most_combed, set_weight, lent_in, AreFewChanges, changes, decided, decisions_in};
 ghost use Rattle.std.specs.Int.{w64, int_wrap};
 ghost use Rattle.std.specs.Prelude.{◌≡◌, ◌+◌, ◌+ℤ◌, ◌*ℤ◌, ◌≤ℤ◌, ◌<◌, ◌*◌, ◌≤◌, ◌^◌};
 ghost use Rattle.tsp_format.specs.Limits.{most_weight};
@@ -11,10 +11,10 @@ ghost use Rattle.tsp_branch.specs.states.LeafRows.{AreExact, is_same_place, has_
 
 use crate::case_leaf::{CaseLeaf, LeafSum, change_between};
 use std::alloc::Global;
-use tsp_bound::{BoxedWeights, Growing, Grown, NumberedSite, grow_in_rounds as grow, least_weight};
+use tsp_bound::{BoxedWeights, Growing, Grown, NumberedSite, grow_in_rounds, least_weight};
 use tsp_cases::{Multipliers, SetPlace, sum_left};
 use tsp_io::Refused;
-use tsp_theory::{Costs, Region, Site, Weights, weight_in};
+use tsp_theory::{Costs, Region, Site, Weights, least_bound, weight_in};
 
 /// A leaf whose weights a box can bound.
 ///
@@ -127,7 +127,7 @@ impl<C: Costs> Weights for BoxedLeaf<'_, C> {
 
 impl<C: Costs> Growing for BoxedLeaf<'_, C> {
     fn grow(&self, alloc: Global, row: &mut [i64]) -> Result<Grown, Refused> {
-        grow(alloc, self, row)
+        grow_in_rounds(alloc, self, row)
     }
 }
 
@@ -323,16 +323,5 @@ pub fn tour_leaf_bound<W: Growing>(
     ensures size { IfOk result (λ bound. IsBoundSized bound) }
 {
     let weight = least_weight(alloc, w, row)?;
-    Ok(rounded_up(scale, weight + given_back))
-}
-
-/// The least integer that, times the scale, is at least the sum.
-pub(crate) fn rounded_up(scale: i64, sum: i128) -> i128
-    requires scale { IsScale scale }
-    requires size { IsFromTo (neg_ℤ (pos (2 ^ 100))) (pos (2 ^ 100)) sum }
-    ensures value { IsLeastBound scale sum result }
-    ensures size { IsBoundSized result }
-{
-    // Euclidean division rounds down, so dividing the negated sum rounds up.
-    -(-sum).div_euclid(i128::from(scale))
+    Ok(least_bound(scale, weight + given_back))
 }

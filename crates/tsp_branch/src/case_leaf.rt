@@ -7,14 +7,17 @@ ghost use Rattle.std.specs.Int.{w64, int_wrap};
 ghost use Rattle.std.specs.Prelude.{◌≡◌, ◌+◌, ◌<◌, ◌^◌, ◌-ℤ◌, ◌*ℤ◌, ◌≤◌, ◌⊎◌, ◌≤ℤ◌, ◌≢◌};
 ghost use Rattle.tsp_cases.specs.ListedCases.{AreGoodNumbers, as_leaf_numbers};
 ghost use Rattle.tsp_cases.specs.declared.decision.Decision.{Decision};
-ghost use Rattle.tsp_cases.specs.states.Kept.{AreMoved, AreRowsIfAny, kept_weight};
+ghost use Rattle.tsp_cases.specs.states.Sets.{AreMoved};
+ghost use Rattle.tsp_branch.specs.states.KeptRows.{AreRowsIfAny, kept_weight};
 ghost use Rattle.tsp_branch.specs.states.LeafRows.{no_link, IsOpenRow, IsShut};
 
-use crate::boxed::{bound_of_trees, rounded_up};
+use crate::boxed::bound_of_trees;
+use crate::kept_rows::LeafContext;
+use crate::leaf_numbers::sum_with;
 use std::alloc::Global;
-use tsp_cases::{DECIDED, Decision, LeafContext, Multipliers, OpenCase, sum_left, sum_with};
+use tsp_cases::{DECIDED, Decision, Multipliers, OpenCase, sum_left};
 use tsp_io::Refused;
-use tsp_theory::{Costs, Weights, add_at};
+use tsp_theory::{Costs, Weights, add_at, least_bound};
 
 /// A leaf with good numbers.
 #[derive(Drop)]
@@ -260,7 +263,7 @@ impl<W: Weights> AllowedRows<'_, W> {
         ensures size { IfSome result IsBoundSized }
     {
         let least = self.sum_of_least(row)?;
-        Some(rounded_up(sum.scale, least + sum.given_back))
+        Some(least_bound(sum.scale, least + sum.given_back))
     }
 
     /// The sum of the least weights of the allowed links from each node.

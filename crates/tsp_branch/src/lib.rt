@@ -12,6 +12,8 @@
 
 mod boxed;
 mod case_leaf;
+mod kept_rows;
+mod leaf_numbers;
 mod leaf_rows;
 mod tour_verdict;
 

@@ -11,16 +11,17 @@ ghost use Rattle.tsp_cases.specs.Families.{IsFamily};
 ghost use Rattle.tsp_cases.specs.Crossings.{families_in};
 ghost use Rattle.tsp_cases.specs.ListedCases.{AreGoodNumbers};
 ghost use Rattle.tsp_cases.specs.JudgedLeaves.{IsFoundOfCase, IsSizedLeaf, IsSizedVerdict};
-ghost use Rattle.tsp_cases.specs.states.Kept.{HoldsRows, IsScratch};
+ghost use Rattle.tsp_branch.specs.states.KeptRows.{HoldsRows, IsScratch};
 ghost use Rattle.tsp_branch.specs.BranchVerdicts.{IsBranchVerdict, BoundsCycles, AreJudgedLeaves};
 
 use crate::case_leaf::CaseLeaf;
+use crate::kept_rows::{LeafContext, Scratch};
+use crate::leaf_numbers::judge_numbers;
 use std::alloc::Global;
 use tsp_cases::{
     BranchingCertificate, CheckedTree, Decision, Families, JudgedCases, JudgedFamilies, JudgedLeaf,
-    LeafContext, LeafJudge, Multipliers, OpenCase, Scratch, SetPlace, TreeVerdict, WholeTree,
-    case_trees_bound_cycles, fill_moved, judge_cases, judge_families, judge_leaves, judge_numbers,
-    sets_by_node,
+    LeafJudge, Multipliers, OpenCase, SetPlace, TreeVerdict, WholeTree, case_trees_bound_cycles,
+    fill_moved, judge_cases, judge_families, judge_leaves, sets_by_node,
 };
 use tsp_io::Refused;
 use tsp_theory::Costs;
@@ -232,8 +233,7 @@ pub(crate) struct CycleJudge<'a, C: Costs> {
 impl<C: Costs> LeafJudge for CycleJudge<'_, C> {
     ghost use Rattle.tsp_branch.specs.Prelude.{length, DecideOnce, decided_number, IsFoundAt, lent_in, good_in, marks_in};
     ghost use Rattle.tsp_cases.specs.ListedCases.{AreGoodNumbers};
-    ghost use Rattle.tsp_cases.specs.states.Kept.{HoldsRows};
-    ghost use Rattle.tsp_cases.specs.states.Kept.{IsScratch};
+    ghost use Rattle.tsp_branch.specs.states.KeptRows.{HoldsRows, IsScratch};
 
     type Memory = Scratch;
 

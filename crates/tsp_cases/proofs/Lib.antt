@@ -7,7 +7,7 @@ mod Divisions
 mod SmallFamilies
 pub mod Solutions
 mod CaseLaws
-pub mod CaseTrees
+pub mod LeavesBoundCycles
 pub mod FamilyCrossings
 mod SmallCaseTrees
 pub mod SetSums
@@ -15,4 +15,3 @@ pub mod OpenCases
 pub mod Passes
 pub mod TreeBranches
 pub mod GoodFamilies
-pub mod RowsKept

@@ -14,8 +14,7 @@ use Rattle.tsp_cases.specs.declared.judged.JudgedLeaf.TheVariants as leaves
 use Rattle.tsp_cases.specs.declared.judged.TreeVerdict.{TreeVerdict}
 use Rattle.tsp_cases.specs.declared.judged.TreeVerdict.TheVariants as verdict
 use Rattle.tsp_cases.specs.declared.decision.Decision.{Decision}
-use Rattle.tsp_cases.specs.states.Kept.{AreSmall}
-use Rattle.tsp_cases.specs.states.OpenCases.{stack_of, IsNextStack}
+use Rattle.tsp_cases.specs.states.OpenCases.{AreSmall, stack_of, IsNextStack}
 
 -- a list that was written over whole
 pub written : {A : Type 0} (len : ℕ) (xs rest : List A) → length xs ≡ len → take len (xs ++ rest) ≡ xs

@@ -5,7 +5,7 @@ pub use Rattle.std.proofs.Math.ListN.{length-set, set}
 pub use Rattle.std.proofs.Math.Logic.{∥∥₁_elim}
 pub use Rattle.std.proofs.Props.{props}
 pub use Rattle.std.proofs.lemmas.Bool.{and_from, and_parts, and_right, both_ways, cases_Bool, cases_eq, cases_lt, cases_order, eq-eqb, eqb-false, eqb-true, false_from_ne_true, iff_false, leb-true, ne_eqb, not-true, or_cases, or_from, or_parts}
-pub use Rattle.std.proofs.lemmas.Int.{SFits-int_wrap, fits_signed_from_abs, int_wrap-add_left, int_wrap-add_right, int_wrap-add_same, int_wrap_fits, ints, to_z-of_z, wrapping_add_is}
+pub use Rattle.std.proofs.lemmas.Int.{SFits-int_wrap, fits_signed_from_abs, int_wrap-add_right, int_wrap-add_same, int_wrap_fits, ints, to_z-of_z, wrapping_add_is}
 pub use Rattle.std.proofs.lemmas.List.{append-nil, append_assoc, drop_all, drop_more, get_or-map, get_or-replicate, get_or-set_other, get_or-set_same, get_or-take, get_or_append_left, get_or_default, get_or_past, get_or_push, length-map, length-replicate, length-reverse, length-take-le, length_push, reverse-append, take-append-le, take_all, take_more, take_more_set}
 pub use Rattle.std.proofs.lemmas.List.Elements.{All-cons, All-contains, All-from_recursion, All-head, All-more, All-nil, All-push, All-tail, All-weaker, Contains-get_or, recursion_from_All}
 pub use Rattle.std.proofs.lemmas.List.Folds.{Any-from_list_any, list_any_at, list_any_more, list_any_none}

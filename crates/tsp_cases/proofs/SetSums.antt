@@ -1,8 +1,8 @@
 -- For src/sets.rt: sums over the sets that have a node, set by set, and the weights that they and the decisions give.
 -- tsp_branch and tsp_routing import it, too.
-use Rattle.tsp_cases.proofs.Prelude.{◌≡◌, ◌≢◌, ℕ, suc, ◌+◌, ◌<◌, ◌==◌, Bool, true, false, not, List, [], ◌∷◌, ◌++◌, length, get_or, inl, inr, refl, ap, sym, subst, ◌∙◌, arith, drop, drop-cons, add-one, ◌≤◌, Option, None, Some, ◌≤ℤ◌, set, ∥∥₁_elim, props, cases_Bool, cases_eq, eq-eqb, ne_eqb, or_parts, ints, int_wrap-add_right, int_wrap-add_same, int_wrap_fits, SFits-int_wrap, fits_signed_from_abs, append_assoc, get_or-set_same, get_or-set_other, recursion_from_All, All-from_recursion, Vec, w64, int_wrap, All, AllByRecursion, ℤ, pos, neg_ℤ, ◌+ℤ◌, ◌*ℤ◌, if◌then◌else◌, FitsSigned, slice_index_or, ◌-ℤ◌, MatchOption, IsFromTo, moved_on, moved_to, size_of, weight_between, is_same_pair, total, sum_int_by, crossing, IsMoved}
+use Rattle.tsp_cases.proofs.Prelude.{◌≡◌, ◌≢◌, ℕ, suc, ◌+◌, ◌<◌, ◌==◌, Bool, true, false, not, List, [], ◌∷◌, ◌++◌, length, get_or, inl, inr, refl, ap, sym, subst, ◌∙◌, arith, drop, drop-cons, add-one, ◌≤◌, Option, None, Some, ◌≤ℤ◌, set, ∥∥₁_elim, props, cases_Bool, cases_eq, eq-eqb, ne_eqb, or_parts, ints, int_wrap-add_right, int_wrap-add_same, int_wrap_fits, SFits-int_wrap, fits_signed_from_abs, append_assoc, get_or-set_same, get_or-set_other, recursion_from_All, All-from_recursion, Vec, w64, int_wrap, All, AllByRecursion, ℤ, pos, neg_ℤ, ◌+ℤ◌, ◌*ℤ◌, if◌then◌else◌, FitsSigned, slice_index_or, ◌-ℤ◌, MatchOption, IsFromTo, moved_on, moved_to, size_of, weight_between, is_same_pair, total, sum_int_by, crossing, IsMoved, both_ways, zero}
 use Rattle.tsp_format.proofs.Basics.{both_all}
-use Rattle.tsp_cases.proofs.CaseTrees.{agreed_rows}
+use Rattle.tsp_cases.proofs.LeavesBoundCycles.{agreed_rows}
 use Rattle.tsp_cases.proofs.FamilyCrossings.{combed_size, combed_fits, families_crossed_few, multipliers_below, sets_tell_combs, sets_give_leaves}
 use Rattle.tsp_cases.proofs.PartWalks.{apart_from_pairs}
 use Rattle.tsp_cases.specs.CaseTrees.{combed, least_of, leaf_weight, HasNoLink, IsRowBound, multiplied, IsFoundAt}
@@ -386,3 +386,15 @@ found_by_rows n k cost scale held number families case ps ms w back (Some bound)
 -- the sum that a leaf gives back, in the order of the code
 pub back_of : (taken less taken_sum least_sum twice : ℤ) → taken ≡ taken_sum → less ≡ least_sum -ℤ twice → taken +ℤ less ≡ (taken_sum +ℤ least_sum) -ℤ twice
 back_of taken less taken_sum least_sum twice p q = omega (arith, ints, p, q)
+
+-- the potential of a node plus its end is the potential less its multipliers
+pub moved_from_ends : (potential end held taken : ℤ) → held ≡ int_wrap w64 (potential +ℤ end) → int_wrap w64 end ≡ int_wrap w64 taken → int_wrap w64 held ≡ int_wrap w64 (potential +ℤ taken)
+moved_from_ends potential end held taken held_is end_is =
+    let turned : potential +ℤ end ≡ end +ℤ potential = omega (arith, ints) in
+    let back : taken +ℤ potential ≡ potential +ℤ taken = omega (arith, ints) in
+    ap (int_wrap w64) held_is ∙ int_wrap_fits w64 (int_wrap w64 (potential +ℤ end)) (SFits-int_wrap w64 (potential +ℤ end)) ∙ ap (int_wrap w64) turned
+    ∙ int_wrap-add_same w64 end taken potential end_is ∙ ap (int_wrap w64) back
+
+pub some_left : (k : ℕ) → (k == 0) ≡ false → 1 ≤ k
+some_left zero is = absurd (both_ways true is refl)
+some_left (suc k) is = omega arith

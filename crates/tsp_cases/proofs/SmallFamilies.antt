@@ -5,7 +5,7 @@ use Rattle.std.proofs.Math.Nat.{min_comm, max_comm}
 use Rattle.std.proofs.lemmas.List.FromFn.{length-range_with_len, get_or-range_with_len, length-map-range_with_len, get_or-map-range_with_len}
 use Rattle.std.specs.Int.Signed.{le_z_yes}
 use Rattle.tsp_format.specs.Words.{IsSymmetric}
-use Rattle.tsp_cases.proofs.CaseTrees.{leaf_even}
+use Rattle.tsp_cases.proofs.LeavesBoundCycles.{leaf_even}
 use Rattle.tsp_cases.proofs.Divisions.{same_least}
 use Rattle.tsp_cases.proofs.PartWalks.{run_range, cycle_from}
 use Rattle.tsp_cases.proofs.SmallCaseTrees.{of_six, near_one, grows_well, least_tree}

@@ -12,7 +12,7 @@ use Rattle.tsp_cases.specs.declared.judged.JudgedLeaf.TheVariants as leaves
 use Rattle.tsp_cases.specs.declared.judged.TreeVerdict.{TreeVerdict}
 use Rattle.tsp_cases.specs.declared.judged.TreeVerdict.TheVariants as verdict
 use Rattle.tsp_cases.specs.declared.decision.Decision.{Decision}
-use Rattle.tsp_cases.specs.states.Kept.{AreSmall}
+use Rattle.tsp_cases.specs.states.OpenCases.{AreSmall}
 
 -- the lower one of the lowest bound so far and that of a leaf, if both exist; otherwise the one that does
 abbrev pub IsLowest : Option ℤ → Option ℤ → Option ℤ → Type 0

@@ -9,5 +9,4 @@ pub mod CaseTrees
 pub mod Families
 pub mod JudgedLeaves
 pub mod ListedCases
-pub mod JudgedSets
 pub mod JudgedTrees

@@ -3,28 +3,24 @@
 //! its number, as `AreCasesJudged` in `specs/JudgedTrees.antt` counts it. `judge_leaves` passes once
 //! over BRANCH_SECTION and judges each leaf by a `LeafJudge`: tsp_branch has one for tours,
 //! tsp_routing has some for routes. The result is the least bound or the first bad leaf, which
-//! `AreJudgedBy` in `specs/JudgedLeaves.antt` pins. Also which numbers of a leaf for tours are good;
-//! docs/format.md lists these limits.
+//! `AreJudgedBy` in `specs/JudgedLeaves.antt` pins.
 
 ghost use Rattle.std.specs.Prelude.{◌≡◌, ◌≤◌, ◌<◌, ◌^◌, ◌+◌, ◌∷◌, ◌++◌, ◌↔◌};
 ghost use Rattle.tsp_cases.specs.Cases.{DecideOnce, cases_of, leaves_of, LeafNumbers};
 ghost use Rattle.tsp_cases.specs.Crossings.{AreFamiliesOf};
-ghost use Rattle.tsp_cases.specs.Families.{most_or_least, sum_with};
+ghost use Rattle.tsp_cases.specs.Families.{};
 ghost use Rattle.tsp_cases.specs.JudgedLeaves.{AreJudgedBy, IsSizedVerdict, IsJudgedLeaf, IsSizedLeaf, IsFoundOfCase, IsLowest};
 ghost use Rattle.tsp_cases.specs.JudgedTrees.{AreCasesJudged};
-ghost use Rattle.tsp_cases.specs.ListedCases.{AreBranchesWithin, IsStepOf, IsListedStep, AreBranchesJudged, AreGoodNumbers, as_leaf_numbers, listed_steps, all_grown};
-ghost use Rattle.tsp_cases.specs.Prelude.{All, IfOk, true, false, length, are_whole, steps_of, IsScale, IsSymmetric, [], ℕ, ℤ, Bool, List, Option, IsTrue, pos, neg_ℤ, take, drop, IsNode, IsFromTo};
+ghost use Rattle.tsp_cases.specs.ListedCases.{AreBranchesWithin, IsStepOf, IsListedStep, AreBranchesJudged, listed_steps, all_grown};
+ghost use Rattle.tsp_cases.specs.Prelude.{All, IfOk, true, false, length, are_whole, steps_of, IsScale, IsSymmetric, [], ℕ, ℤ, Bool, List, Option, IsTrue, pos, neg_ℤ, take, IsNode, IsFromTo};
 ghost use Rattle.tsp_cases.specs.declared.decision.Decision.{Decision};
-ghost use Rattle.tsp_cases.specs.states.Kept.{AreSmall};
-ghost use Rattle.tsp_cases.specs.states.OpenCases.{IsDecision, IsNextStack, stack_of, IsOpenCase, decisions_in};
+ghost use Rattle.tsp_cases.specs.states.OpenCases.{AreSmall, IsDecision, IsNextStack, stack_of, IsOpenCase, decisions_in};
 
 use crate::decision::Decision;
-use crate::family::{Crossings, Families};
 use crate::judged::{CheckedTree, JudgedCases, JudgedLeaf, TreeVerdict};
 use crate::open_case::OpenCase;
-use crate::sets::Multipliers;
 use std::alloc::Global;
-use tsp_format::{MOST_POTENTIAL, TreeStep};
+use tsp_format::TreeStep;
 use tsp_io::{Refused, filled};
 use tsp_theory::Costs;
 
@@ -202,7 +198,7 @@ pub fn judge_leaves<J: LeafJudge>(
                 let JudgedLeaf::Found(own) = judged else {
                     return Ok(TreeVerdict::BadLeaf(leaf));
                 };
-                lowest = lower(lowest, own);
+                lowest = lesser_bound(lowest, own);
                 judge.leave(&mut *memory, &case.stack);
                 case.next()?;
             }
@@ -373,10 +369,10 @@ pub fn copy_within(numbers: &[i128], least: i64, most: i64, copy: &mut [i64]) ->
     true
 }
 
-// ---- the lower one of two bounds, each of which may be missing
+// ---- the lesser of two bounds, each of which may be missing
 
-/// The lower one of two bounds, each of which may be missing.
-pub fn lower(lowest: Option<i128>, own: Option<i128>) -> Option<i128>
+/// The lesser of two bounds, each of which may be missing.
+fn lesser_bound(lowest: Option<i128>, own: Option<i128>) -> Option<i128>
     ensures { IsLowest lowest own result }
 {
     let Some(low) = lowest else {
@@ -386,65 +382,4 @@ pub fn lower(lowest: Option<i128>, own: Option<i128>) -> Option<i128>
         return lowest;
     };
     Some(if low < bound { low } else { bound })
-}
-
-// ---- whether the potentials and multipliers of a leaf for tours are within their limits
-
-/// The limit on how often one edge crosses the sets of all families, each crossing counted by its
-/// multiplier.
-const MOST_CROSSED: i64 = 900_000_000_000_000_000;
-
-/// Copies the numbers of a leaf if they are good, and returns whether they are.
-///
-/// `numbers` contains the potentials of the nodes, then the multipliers of the families. They are
-/// good if no potential is above 10^15 in size, no multiplier is negative, and the multipliers,
-/// each times the largest number of its family's sets that one edge crosses, sum to at most 9 *
-/// 10^17.
-pub fn judge_numbers(
-    numbers: &[i128],
-    families: &Families,
-    potentials: &mut [i64],
-    multipliers: &mut [i64],
-) -> bool
-    requires long { length numbers.now ≡ length potentials.old + length multipliers.old }
-    requires as_many { length multipliers.old ≡ length families.now.crossed.items }
-    ensures good { IsTrue result ↔ AreGoodNumbers (length potentials.old) families.now.crossed.items
-        (as_leaf_numbers (take (length potentials.old) numbers.now) (drop (length potentials.old) numbers.now)) }
-    ensures potentials { result ≡ true → potentials.new ≡ take (length potentials.old) numbers.now }
-    ensures multipliers { result ≡ true → multipliers.new ≡ drop (length potentials.old) numbers.now }
-    ensures potentials_len { length potentials.new ≡ length potentials.old }
-    ensures multipliers_len { length multipliers.new ≡ length multipliers.old }
-{
-    let (of_nodes, of_families) = numbers.split_at(potentials.len());
-    if !copy_within(of_nodes, -MOST_POTENTIAL, MOST_POTENTIAL, potentials) {
-        return false;
-    }
-    if !copy_within(of_families, 0, MOST_CROSSED, multipliers) {
-        return false;
-    }
-    let copied = Multipliers {
-        families,
-        numbers: multipliers,
-    };
-    sum_with(true, &copied) <= i128::from(MOST_CROSSED)
-}
-
-/// A sum over the families: the multiplier of each, times the most of its sets that one edge
-/// crosses, or the least number of times that a cycle crosses them.
-pub fn sum_with(is_most: bool, multipliers: &Multipliers) -> i128
-    ensures { result ≡ sum_with is_most multipliers.now.families.now.crossed.items multipliers.now.numbers.now }
-{
-    let mut sum = 0;
-    'families: for index in 0..multipliers.numbers.len() {
-        let number = most_or_least(is_most, multipliers.families.crossed[index]);
-        sum += i128::from(multipliers.numbers[index]) * i128::from(number);
-    }
-    sum
-}
-
-/// The most sets that one edge crosses, or the least number of times that a cycle crosses them.
-fn most_or_least(is_most: bool, own: Crossings) -> u64
-    ensures { result ≡ most_or_least is_most own }
-{
-    if is_most { own.most } else { own.least }
 }

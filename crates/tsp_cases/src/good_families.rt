@@ -6,13 +6,14 @@ ghost use Rattle.tsp_cases.specs.Prelude.{All, Any, ℕ, IsTrue, [], length, tru
 ghost use Rattle.std.specs.Prelude.{◌≡◌, ◌≤◌, ◌<◌, ◌-◌, ◌+◌, ◌^◌, ◌↔◌};
 ghost use Rattle.tsp_cases.specs.Families.{IsTooth, comb_of, IsLoneSet, least_crossings_of, IsGoodComb, IsToothCount, HasEachOnce};
 ghost use Rattle.tsp_cases.specs.Crossings.{has, AreSetsOf, lists_of};
-ghost use Rattle.tsp_cases.specs.JudgedSets.{AreFamiliesJudged};
-ghost use Rattle.tsp_cases.specs.states.GoodFamilies.{AreFamilyNumbers, IsSmall, is_marked, AreUnmarked, HavePlaces, AddsNoOther, AreTeeth, AreNew, AreMarked};
+ghost use Rattle.tsp_cases.specs.JudgedTrees.{AreFamiliesJudged};
+ghost use Rattle.tsp_cases.specs.states.GoodFamilies.{AreFamilyNumbers, IsSmall, is_marked, AreUnmarked, HavePlaces, AddsNoOther, AreTeeth};
 
 use crate::case_tree::BranchingCertificate;
 use crate::family::{Crossings, Families, NodeSets, family_crossings};
 use crate::judged::JudgedFamilies;
 use crate::laws::most_costs_are_unique;
+use crate::sets::mark_nodes;
 use std::alloc::Global;
 use tsp_io::{Refused, filled, push};
 use tsp_theory::Costs;
@@ -223,26 +224,7 @@ fn have_each_once(alloc: Global, family: &NodeSets) -> Result<bool, Refused>
     Ok(true)
 }
 
-// ---- marks by node, by which a node that comes twice in sets is found
-
-/// Marks the nodes of a set. `false` if one of them has the mark already or appears twice; the
-/// nodes before it are then marked.
-pub fn mark_nodes(marks: &mut [u32], mark: u32, nodes: &[u32]) -> bool
-    requires { All (λ node. node < length marks.old) nodes.now }
-    ensures new { IsTrue result ↔ AreNew (is_marked marks.old mark) nodes.now }
-    ensures marked { result ≡ true → AreMarked mark nodes.now marks.old marks.new }
-    ensures others { AddsNoOther mark marks.old marks.new }
-    ensures length { length marks.new ≡ length marks.old }
-{
-    'nodes: for node in nodes {
-        let place = *node as usize;
-        if marks[place] == mark {
-            return false;
-        }
-        marks[place] = mark;
-    }
-    true
-}
+// ---- which nodes have a mark
 
 /// Whether one of the nodes has the mark, or if `wanted` is false, whether one hasn't got it.
 fn has_node(marks: &[u32], mark: u32, nodes: &[u32], wanted: bool) -> bool

@@ -19,14 +19,13 @@ mod examples;
 mod family;
 mod good_families;
 mod judged;
-mod kept;
 mod laws;
 mod open_case;
 mod sets;
 
 pub use case_tree::{
     BranchingCertificate, LeafJudge, WholeTree, add_differences, copy_within, first_bad_branch,
-    judge_cases, judge_leaves, judge_numbers, lower, sum_with,
+    judge_cases, judge_leaves,
 };
 pub use decision::{DECIDED, Decision};
 pub use examples::{
@@ -38,9 +37,8 @@ pub use examples::{
 pub use family::{
     CostSquare, Crossings, Families, NodeSets, family_crossings, least_cycle, parts_of,
 };
-pub use good_families::{judge_families, mark_nodes};
+pub use good_families::judge_families;
 pub use judged::{CheckedTree, JudgedCases, JudgedFamilies, JudgedLeaf, TreeVerdict};
-pub use kept::{KeptRows, LeafContext, Scratch};
 pub use laws::{
     case_tree_bounds_are_unique, case_trees_bound_cycles, cycles_cross_combs,
     cycles_cross_families, cycles_keep_leaves, decided_bounds_bound_cycles, divisions_bound_cycles,
@@ -51,6 +49,6 @@ pub use laws::{
 };
 pub use open_case::{NodeDecisions, OpenCase};
 pub use sets::{
-    MultipliedFamilies, Multipliers, SetPlace, add_sets, fill_moved, fill_shifted, scale_row,
-    sets_by_node, shift_row, sum_left, take_multipliers,
+    MultipliedFamilies, Multipliers, SetPlace, add_sets, fill_moved, fill_shifted, mark_nodes,
+    scale_row, sets_by_node, shift_row, sum_left, take_multipliers,
 };

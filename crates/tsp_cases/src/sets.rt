@@ -2,12 +2,14 @@
 //! and its potential less their multipliers. Sums wrap around, because a partial sum may exceed 64
 //! bits even if the result doesn't. `specs/states/Sets.antt` pins the results; tsp_branch and
 //! tsp_routing use them, too. The numbers are `Multipliers` for a leaf for tours, which aren't
-//! negative, or any `MultipliedFamilies`, such as differences of multipliers.
+//! negative, or any `MultipliedFamilies`, such as differences of multipliers. `mark_nodes` finds a
+//! node that comes twice.
 
-ghost use Rattle.std.specs.Prelude.{◌<◌, ◌-◌, ◌^◌, ◌≡◌, ◌+◌, ◌+ℤ◌, ◌≤◌, ◌*ℤ◌};
+ghost use Rattle.std.specs.Prelude.{◌<◌, ◌-◌, ◌^◌, ◌≡◌, ◌+◌, ◌+ℤ◌, ◌≤◌, ◌*ℤ◌, ◌↔◌};
 ghost use Rattle.tsp_format.specs.Limits.{most_weight};
 ghost use Rattle.tsp_cases.specs.Crossings.{lists_of};
-ghost use Rattle.tsp_cases.specs.Prelude.{w64, int_wrap, All, ℕ, length, IfOk, pos, neg_ℤ, IsNode, IsFromTo, IsScale, entry, sum_int_by, least_at, IsMoved};
+ghost use Rattle.tsp_cases.specs.Prelude.{w64, int_wrap, All, ℕ, length, IfOk, pos, neg_ℤ, IsNode, IsFromTo, IsScale, entry, sum_int_by, least_at, IsMoved, IsTrue, true};
+ghost use Rattle.tsp_cases.specs.states.GoodFamilies.{is_marked, AddsNoOther, AreNew, AreMarked};
 ghost use Rattle.tsp_cases.specs.states.Sets.{inside_both, multipliers_at, lent_in, IsPlaceIn, added, times, places_in, AreLengthened, IsSetTable, AreSmallMultipliers, AreSmallDifferences};
 
 use crate::family::Families;
@@ -100,17 +102,6 @@ pub fn add_sets(row: &mut [i64], places: &[SetPlace], multiplied: &MultipliedFam
         let nodes = multiplied.families.set_at(*place);
         add_to_nodes(row, nodes, 2 * multiplied.numbers[place.family as usize]);
     }
-}
-
-/// What `add_sets` does, for a row in a list of rows.
-pub(crate) fn add_to_row(row: &mut Vec<i64>, places: &[SetPlace], multiplied: &MultipliedFamilies)
-    requires places { All (IsPlaceIn (lent_in multiplied.now.families.now)) places.now }
-    requires row { length row.old.items ≡ multiplied.now.families.now.nodes + 1 }
-    ensures moved { (x : ℕ) → IsMoved (inside_both multiplied.now.numbers.now (lent_in multiplied.now.families.now) places.now x)
-        (least_at row.old.items x) (least_at row.new.items x) }
-    ensures long { length row.new.items ≡ length row.old.items }
-{
-    add_sets(row, places, multiplied);
 }
 
 /// Adds a number at each node of each of these sets.
@@ -231,4 +222,25 @@ pub struct MultipliedFamilies<'a> {
     pub numbers: &'a [i64],
     pub ghost as_many: { length numbers.now ≡ length families.now.lent.now },
     pub ghost small: { AreSmallDifferences numbers.now },
+}
+
+// ---- marks by node, by which a node that comes twice in sets is found
+
+/// Marks the nodes of a set. `false` if one of them has the mark already or appears twice; the
+/// nodes before it are then marked.
+pub fn mark_nodes(marks: &mut [u32], mark: u32, nodes: &[u32]) -> bool
+    requires { All (λ node. node < length marks.old) nodes.now }
+    ensures new { IsTrue result ↔ AreNew (is_marked marks.old mark) nodes.now }
+    ensures marked { result ≡ true → AreMarked mark nodes.now marks.old marks.new }
+    ensures others { AddsNoOther mark marks.old marks.new }
+    ensures length { length marks.new ≡ length marks.old }
+{
+    'nodes: for node in nodes {
+        let place = *node as usize;
+        if marks[place] == mark {
+            return false;
+        }
+        marks[place] = mark;
+    }
+    true
 }

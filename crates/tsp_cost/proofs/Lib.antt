@@ -3,4 +3,4 @@
 mod Prelude
 mod CoarseRoots
 mod Ways
-mod Problems
+mod OneProblem

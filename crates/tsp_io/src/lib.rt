@@ -17,7 +17,7 @@ mod piece;
 mod watched;
 
 pub use examples::{examples_of_failed_writes, examples_of_fault_texts};
-pub use memory::{Refused, copied, filled, insert, push, sort, with_capacity};
+pub use memory::{Refused, copied, filled, insert, push, with_capacity};
 pub use piece::{
     PIECE, Piece, WriteFault, hand_over, put, put_next_number, put_number, send, write_text,
 };

@@ -3,7 +3,6 @@
 //! proves that memory was refused. A new call must keep to this.
 
 ghost use Rattle.std.specs.BTreeSet.{contains, Updates, IsUnchanged};
-ghost use Rattle.std.specs.List.Sorted.{IsPermutation, IsSorted};
 ghost use Rattle.std.specs.Prelude.{◌≡◌, ◌+◌, ◌++◌, [], ◌∷◌, IfOk, OnErr, OnOk, MatchResult, length, vec_len, vec_capacity, replicate, false, true, not};
 
 use std::alloc::{AllocError, Global};
@@ -28,7 +27,7 @@ impl From<Refused> for AllocError {
     }
 }
 
-// ---- calls that make, fill, lengthen, copy and sort a vector
+// ---- calls that make, fill, lengthen and copy a vector
 
 /// An empty list with memory for this many elements.
 ///
@@ -95,22 +94,6 @@ pub fn copied<T: Copy + Clone>(alloc: Global, elements: &[T]) -> Result<Vec<T>, 
 {
     match elements.to_vec(alloc) {
         Ok(list) => Ok(list),
-        Err(error) => Err(Refused::of(error)),
-    }
-}
-
-/// Sorts a list. Equal elements keep their order.
-///
-/// # Errors
-///
-/// Out of memory. The list is then unchanged.
-pub fn sort<T: Ord>(list: &mut Vec<T>) -> Result<(), Refused>
-    ensures permutation { IsPermutation list.old.items list.new.items }
-    ensures len { vec_len list.new ≡ vec_len list.old }
-    ensures sorted { OnOk result (IsSorted T.cmp list.new.items) }
-{
-    match list.sort() {
-        Ok(()) => Ok(()),
         Err(error) => Err(Refused::of(error)),
     }
 }

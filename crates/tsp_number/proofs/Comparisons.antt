@@ -1,7 +1,7 @@
 -- For src/at_least.rt and the distances in space: what comparing squares says of a distance, and that a distance
 -- doesn't shrink as points move apart along an axis.
 use Rattle.std.proofs.Common.{◌≡◌, ℕ, ◌+◌, ◌*◌, ◌<◌, ◌≤◌, ◌^◌, nat_lt, refl, sym, ap, arith, ◌-◌, max}
-use Rattle.tsp_number.proofs.Distances.{squared-le, rounded, rounded_square, rounded_apart, rounded_square_apart, rounded-most, rounded_square-most, only_one, unsigned_abs-self, unsigned_abs-sub, unsigned_abs-most, dx-comm, dy-comm, euc_2d_laws, ceil_2d_laws, att_laws, covered_apart, man_2d_laws, max_2d_laws}
+use Rattle.tsp_number.proofs.RoundedRoots.{squared-le, rounded, rounded_square, rounded_apart, rounded_square_apart, rounded-most, rounded_square-most, only_one, unsigned_abs-self, unsigned_abs-sub, unsigned_abs-most, dx-comm, dy-comm, euc_2d_laws, ceil_2d_laws, att_laws, covered_apart, man_2d_laws, max_2d_laws}
 use Rattle.tsp_number.specs.Decimal.{unit, most_count}
 use Rattle.tsp_number.specs.Distances.{squared, dx, dy, dz, square_apart_in_space, longest_way, IsEuc3d, IsMan3d, IsMax3d, least, euc_3d_of, man_3d_of, max_3d_of, IsInSpace, IsDistanceInSpace, square_apart, euc_2d_of, ceil_2d_of, att_of, man_2d_of, max_2d_of, IsMonotone}
 use Rattle.tsp_number.specs.declared.decimal.Point.{Point}

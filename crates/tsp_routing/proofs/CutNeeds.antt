@@ -1,7 +1,7 @@
 -- For src/demands.rt: what customers demand, in units, how many routes that needs, and that each route is a walk within
 -- the capacity. Proofs in tsp_verdict use it, too.
 use Rattle.tsp_routing.proofs.Prelude.{◌≡◌, ◌≢◌, ℕ, zero, suc, ◌+◌, ◌-◌, ◌*◌, ◌/◌, ◌<◌, ◌≤◌, ◌==◌, ◌||◌, false, List, [], ◌∷◌, refl, sym, ap, ◌∙◌, subst, arith, to_z, of_z, inl, inr, add-one, ap₂, ◌++◌, +ℤ_assoc, div-mul-le_self, lt-div-mul-add, mul-le-mul_right, add-mul, cases_Bool, cases_eq, cases_lt, or_left, ne_eqb, eq-eqb, eqb-true, ints, recursion_from_All, All-from_recursion, w64, All, AllPairs, AllByRecursion, range_with_len, concat, ◌⊎◌, max, min, if◌then◌else◌, nat_abs, ℤ, pos, negsuc, ◌+ℤ◌, ◌*ℤ◌, ◌≤ℤ◌, most_demand, most_nodes, IsNode, nodes_to, IsFromTo, sum_int_by-add, sum_int_by, RoutingProblem, IsCustomer, IsLeastRoutes, absent, has}
-use Rattle.tsp_cases.proofs.RowsKept.{some_left}
+use Rattle.tsp_cases.proofs.SetSums.{some_left}
 use Rattle.tsp_routing.proofs.Plans.{all_same, sum_append, sum_of_plan, parts_all, demands_low}
 use Rattle.tsp_routing.specs.PlanLinks.{sum_of_customers, IsCapacityCut, units_of, is_light, load_in, capacity_in_parts, RoutesFitCapacity, LoadsAreSome}
 use Rattle.tsp_routing.specs.QRoutes.{BeginsOther, IsStraightFrom, IsStraight, IsQRoute, RoutesAreQRoutes}

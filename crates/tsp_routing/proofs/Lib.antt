@@ -1,12 +1,12 @@
--- Lemmas on routes: for the theorems on plans (Plans, CutNeeds, PlanBounds, RunBounds), for the verdict (PlanJudging,
--- JudgedLists, RunJudging, PlanVerdicts), for q-routes (QRouteRests, RouteProducts), for runs (MemoryWords, GivenTables,
--- RunSteps, NextEntries, WaysHome, the files Kept.., Floors, LeastRuns), and for the examples (SmallCases). tsp_verdict imports a
--- few on plans.
+-- Lemmas on routes: for the theorems on plans (Plans, CutNeeds, QRoutesBoundPlans, RunsBoundPlans), for the verdict
+-- (PlanJudging, JudgedLists, RunJudging, VerdictOfLeaves), for q-routes (QRouteRests, RouteProducts), for runs
+-- (MemoryWords, GivenTables, RunSteps, NextEntries, WaysHome, the files Kept.., Floors, LeastRuns), and for the
+-- examples (SmallCases). tsp_verdict imports a few on plans.
 mod Prelude
 pub mod Plans
 pub mod CutNeeds
-pub mod PlanBounds
-mod RunBounds
+pub mod QRoutesBoundPlans
+mod RunsBoundPlans
 mod RunJudging
 mod JudgedLists
 pub mod SmallCases
@@ -22,5 +22,5 @@ mod Floors
 mod LeastRuns
 mod RouteProducts
 mod PlanJudging
-mod PlanVerdicts
+mod VerdictOfLeaves
 mod QRouteRests

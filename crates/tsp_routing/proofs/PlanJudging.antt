@@ -4,7 +4,7 @@ use Rattle.tsp_routing.proofs.Prelude.{◌≡◌, ◌≢◌, ℕ, zero, suc, ◌
 use Rattle.tsp_format.specs.Steps as listed
 use Rattle.tsp_cases.specs.JudgedLeaves.{IsFoundOfCase}
 use Rattle.tsp_cases.specs.declared.judged.JudgedLeaf.TheVariants as leaves
-use Rattle.tsp_cases.specs.states.Kept.{AreSmall}
+use Rattle.tsp_cases.specs.states.OpenCases.{AreSmall}
 use Rattle.tsp_routing.proofs.CutNeeds.{apart_from_pairs, held, no_depot}
 use Rattle.tsp_routing.proofs.RouteProducts.{each_small}
 use Rattle.tsp_routing.specs.PlanLinks.{IsCutFamily}

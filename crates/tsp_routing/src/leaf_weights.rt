@@ -3,7 +3,7 @@
 //! in `specs/PlanBounds.antt` pins the weights; whether rows are kept affects only speed.
 
 ghost use Rattle.std.specs.Prelude.{◌≡◌, ◌≤◌, ◌+◌, ◌+ℤ◌, ◌<◌, ◌^◌};
-ghost use Rattle.tsp_cases.specs.states.Kept.{AreMoved};
+ghost use Rattle.tsp_cases.specs.states.Sets.{AreMoved};
 ghost use Rattle.tsp_routing.specs.Prelude.{ℕ, length, pos, neg_ℤ, IsNode, IsFromTo, IsScale, ArePotentials, least_at, IsMoved, IsSetTable, lent_in, AreSmallDifferences, true, IfOk, IfSome, set_weight};
 ghost use Rattle.tsp_routing.specs.states.LeafWeights.{AreSignedCrossings, IsWeightRow, AreFirstRows, AreKeptRows};
 

@@ -5,12 +5,12 @@
 //! `specs/PlanVerdicts.antt` the limits of potentials and multipliers.
 
 ghost use Rattle.std.specs.Prelude.{◌≡◌, ◌≤◌, ◌+◌, ◌-◌, ◌^◌, ◌-ℤ◌, ◌*ℤ◌, ◌*◌, ◌<◌, ◌≤ℤ◌, ◌==◌, if◌then◌else◌, ◌∷◌, ◌↔◌};
-ghost use Rattle.tsp_cases.specs.states.Kept.{AreMoved};
+ghost use Rattle.tsp_cases.specs.states.Sets.{AreMoved};
 ghost use Rattle.tsp_cases.specs.states.OpenCases.{stack_of, IsOpenCase, decisions_in};
 ghost use Rattle.tsp_routing.specs.PlanBounds.{limits_total, least_product, IsPlanBound, low_of, high_of, least_times, IsFoundByQRoutes, IsLeastQRoute, most_capacity_in_parts, most_surplus};
 ghost use Rattle.tsp_routing.specs.PlanLinks.{IsFewest, sum_of_customers};
 ghost use Rattle.tsp_routing.specs.PlanVerdicts.{ArePlanNumbers, most_of_multipliers, sizes_total};
-ghost use Rattle.tsp_routing.specs.Prelude.{All, ℕ, ℤ, length, true, pos, neg_ℤ, IfOk, IfSome, List, unsigned_abs, [], most_nodes, most_potential, IsNode, IsFromTo, IsBoundSized, entry, IsScale, IsLeastBound, ArePotentials, RoutingProblem, Family, families_with, as_leaf_numbers, Decision, lent_in, IsTrue, take, drop};
+ghost use Rattle.tsp_routing.specs.Prelude.{All, ℕ, ℤ, length, true, pos, neg_ℤ, IfOk, IfSome, List, unsigned_abs, [], most_nodes, most_potential, IsNode, IsFromTo, IsBoundSized, entry, IsScale, ArePotentials, RoutingProblem, Family, families_with, as_leaf_numbers, Decision, lent_in, IsTrue, take, drop};
 ghost use Rattle.tsp_routing.specs.states.Demands.{loads_problem};
 ghost use Rattle.tsp_routing.specs.states.Judged.{IsFewCrossed};
 ghost use Rattle.tsp_routing.specs.states.LeafWeights.{numbers_total};
@@ -24,7 +24,7 @@ use tsp_cases::{
 };
 use tsp_format::MOST_POTENTIAL;
 use tsp_io::{Refused, filled};
-use tsp_theory::Costs;
+use tsp_theory::{Costs, least_bound};
 
 /// A leaf with good numbers.
 #[derive(Drop)]
@@ -184,7 +184,7 @@ fn plan_bound(sum: LeafSum, each: i128) -> i128
 {
     let surplus = each - 2 * i128::from(sum.own);
     let routes = of_routes(sum.fewest, sum.nodes - 1, surplus);
-    rounded_up(sum.scale, sum.back + routes)
+    least_bound(sum.scale, sum.back + routes)
 }
 
 /// The smaller product of a number with two counts.
@@ -208,17 +208,6 @@ pub(crate) fn times(count: u32, number: i128) -> i128
     ensures size { IsFromTo (neg_ℤ (pos (most_nodes * most_surplus))) (pos (most_nodes * most_surplus)) result }
 {
     i128::from(count) * number
-}
-
-/// The least integer that, times the scale, is at least the sum.
-pub(crate) fn rounded_up(scale: i64, sum: i128) -> i128
-    requires scale { IsScale scale }
-    requires size { IsFromTo (neg_ℤ (pos (2 ^ 100))) (pos (2 ^ 100)) sum }
-    ensures value { IsLeastBound scale sum result }
-    ensures size { IsBoundSized result }
-{
-    // Euclidean division rounds down, so dividing the negated sum rounds up.
-    -(-sum).div_euclid(i128::from(scale))
 }
 
 // ---- what the multipliers of sets and the potentials of customers give back

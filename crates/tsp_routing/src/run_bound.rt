@@ -23,16 +23,14 @@ ghost use Rattle.tsp_routing.specs.states.RunTables.{rules_by, link_in};
 use crate::kept_states::{KeptState, kept_states, list_at};
 use crate::leaf_weights::{LeafWeights, rows_of};
 use crate::memories::Memories;
-use crate::plan_leaf::{
-    LeafSum, PlanLeaf, customers_total, limits_total, rounded_up, times, times_given_back,
-};
+use crate::plan_leaf::{LeafSum, PlanLeaf, customers_total, limits_total, times, times_given_back};
 use crate::run_leaf::{RunLeaf, RunNodes, ways_home};
 use crate::run_steps::{entry_at, step_tables};
 use std::alloc::Global;
 use tsp_cases::OpenCase;
 use tsp_format::RowSets;
 use tsp_io::Refused;
-use tsp_theory::{Costs, weight_in};
+use tsp_theory::{Costs, least_bound, weight_in};
 
 /// Rows with their charges, and the memories made from them.
 #[derive(Clone, Copy)]
@@ -123,7 +121,7 @@ fn bound_of_runs(sum: LeafSum, each: i128) -> i128
 {
     let surplus = each - 2 * i128::from(sum.own);
     let routes = times(sum.nodes - 1, surplus);
-    rounded_up(sum.scale, sum.back + routes)
+    least_bound(sum.scale, sum.back + routes)
 }
 
 // ---- what subset rows give back

@@ -1,6 +1,6 @@
 -- The first of several things by their rank: the first reason that applies, the first bad place of a list, the least
 -- customer that isn't served. tsp_cases, tsp_routing and tsp_verdict define by it which reason a user sees.
--- proofs/First.antt has the law that all first ones have the same rank.
+-- proofs/FirstRanks.antt has the law that all first ones have the same rank.
 use Rattle.std.specs.Prelude.{◌<◌, ◌≤◌, ℕ, List, length}
 
 -- `Applies` holds of the first one. Of each one of a lower rank `Not` holds, which says how it is known that `Applies`

@@ -175,14 +175,14 @@ impl Region {
     {
         Region {
             low: Point {
-                x: lower(self.low.x, other.low.x),
-                y: lower(self.low.y, other.low.y),
-                z: lower(self.low.z, other.low.z),
+                x: smaller(self.low.x, other.low.x),
+                y: smaller(self.low.y, other.low.y),
+                z: smaller(self.low.z, other.low.z),
             },
             high: Point {
-                x: higher(self.high.x, other.high.x),
-                y: higher(self.high.y, other.high.y),
-                z: higher(self.high.z, other.high.z),
+                x: larger(self.high.x, other.high.x),
+                y: larger(self.high.y, other.high.y),
+                z: larger(self.high.z, other.high.z),
             },
         }
     }
@@ -206,7 +206,7 @@ impl Region {
 
 /// The smaller of two numbers.
 #[inline]
-fn lower(a: Decimal, b: Decimal) -> Decimal
+fn smaller(a: Decimal, b: Decimal) -> Decimal
     ensures first { result ≤ℤ a }
     ensures second { result ≤ℤ b }
 {
@@ -215,7 +215,7 @@ fn lower(a: Decimal, b: Decimal) -> Decimal
 
 /// The larger of two numbers.
 #[inline]
-fn higher(a: Decimal, b: Decimal) -> Decimal
+fn larger(a: Decimal, b: Decimal) -> Decimal
     ensures first { a ≤ℤ result }
     ensures second { b ≤ℤ result }
 {

@@ -2,18 +2,20 @@
 //! arbitrary costs.
 //!
 //! It defines tours, plans, lengths, 1-trees and duals, and proves that no cycle is shorter than
-//! the bound of a certificate. The only code here is the traits of costs and the sums of lengths.
-//! Bounds are computed in tsp_bound, tsp_branch and tsp_routing.
+//! the bound of a certificate. The only code here is the traits of costs, the sums of lengths, and
+//! `least_bound`. Bounds are computed in tsp_bound, tsp_branch and tsp_routing.
 //!
 //! ```text
 //! let length = tour_length(&costs, &[1, 2, 3, 4]);
 //! ```
 #![tactic(auto)]
 
+mod bounds;
 mod costs;
 mod examples;
 mod laws;
 
+pub use bounds::least_bound;
 pub use costs::{
     Costs, Region, Site, Symmetric, Weights, add_at, canonical_length, tour_length, trace_tours,
     weight_in,

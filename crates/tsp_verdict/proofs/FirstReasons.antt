@@ -1,7 +1,7 @@
 -- There is one first reason, by the TYPE of the instance and of the certificate. For src/solution_verdict.rt and
 -- src/potentials_certificate.rt, and for the law in src/one_verdict.rt.
 use Rattle.tsp_verdict.proofs.Prelude.{◌≡◌, ◌∙◌, ℕ, zero, suc, List, [], ◌∷◌, inl, inr, refl, sym, ap, subst, ◌≢◌, ◌⊎◌, Option, Some, None, ◌-◌, ◌<◌, ◌≤◌, true, false, subst₂, arith, cases_order, false≢true, ints, All, AllPairs, ℤ, pos, unwrap_or, IsNode, IsBefore, Kind, fixed_of, scale_in, multipliers_in, cost, Fields, nodes_of, is_potentials_file, pair_of, is_same_pair, AreOnPairs, AreGood, rank_of, CertificateKind, Branches, Potentials, Reason, NotASolution, TooFewNodes, NotSymmetric, Dimension, TourCount, TourLength, DepotCount, DepotDemand, FixedEdgesInRoutes, DepotInRoute, NodeOutOfRange, RepeatedNode, FixedEdgeUnused, Unserved, Overload, LengthClaimed, NotPotentials, PotentialsDimension, PotentialsKind, MultiplierNotFixed, MultiplierRepeated, DualInfeasible, NotBranches, BranchesDimension, BadFamily, BadMemory, BadRow, BadBranch, BranchTwice, BadLeaf, TooManyLoads, TooManyStates, NotJudged, NotUsed, Verdict}
-use Rattle.tsp_theory.proofs.First.{one_rank}
+use Rattle.tsp_theory.proofs.FirstRanks.{one_rank}
 use Rattle.tsp_format.specs.declared.keyword.Field.{Field}
 use Rattle.tsp_format.specs.declared.keyword.Field.TheVariants.{NameKey}
 use Rattle.tsp_format.specs.declared.kinds.Kind.TheVariants as kinds

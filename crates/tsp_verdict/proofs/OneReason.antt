@@ -4,12 +4,12 @@
 use Rattle.tsp_verdict.proofs.Prelude.{◌<◌, ◌⊎◌, inl, inr, arith, ◌≡◌, ◌∙◌, ℕ, List, [], length, refl, sym, ap, ap₂, subst, cases_order, false≢true, ints, pos, Option, None, Some, Bool, true, false, slice_index_or, ℤ, IsFirstAsymmetric, cost, scale_in, families_listed, Fields, nodes_of, IsFirstBroken, is_directed, IsFamily, NumbersAreUnique, IsFirstBadLeaf, IsFirstTwice, Crossings, IsFirstBadPlanBranch, RoutingProblem, routing_of, families_with, recursion_from_All, memories_listed, rows_listed, rank_of, CertificateKind, Potentials, Branches, Reason, TooFewNodes, NotSymmetric, DepotCount, DepotDemand, FixedEdgesInRoutes, LengthClaimed, NotASolution, Dimension, TourCount, TourLength, DepotInRoute, NodeOutOfRange, RepeatedNode, FixedEdgeUnused, Unserved, Overload, NotPotentials, PotentialsDimension, PotentialsKind, MultiplierNotFixed, MultiplierRepeated, DualInfeasible, NotBranches, BranchesDimension, BadFamily, BadMemory, BadRow, BadBranch, BranchTwice, BadLeaf, TooManyLoads, TooManyStates, Ok, Err, BoundVerdict}
 use Rattle.tsp_format.specs.Steps as listed
 use Rattle.tsp_format.specs.Steps.{SubsetRow}
-use Rattle.tsp_theory.proofs.First.{one_rank}
+use Rattle.tsp_theory.proofs.FirstRanks.{one_rank}
 use Rattle.tsp_theory.specs.First.{IsFirst}
 use Rattle.tsp_routing.specs.PlanLinks.{IsCutFamily}
 use Rattle.tsp_routing.specs.RunTrees.{owner_of, IsFirstBadList, IsFirstFull, IsBadMemory}
 use Rattle.tsp_routing.specs.RunVerdicts.{IsFirstBadLeafOf, tree_with, IsFirstFullLeaf, HasFullLeaf}
-use Rattle.tsp_routing.proofs.PlanBounds.{all_crossed, one_light}
+use Rattle.tsp_routing.proofs.QRoutesBoundPlans.{all_crossed, one_light}
 use Rattle.tsp_cases.specs.ListedCases as pairs
 use Rattle.tsp_verdict.proofs.FirstReasons.{certificate_rank, HasTours, instance_either, first_for_tours, tour_rank, routes_rank, AreOwn, Both, Carried, reason_of, IsOneByRank, one_pair, tree_either}
 use Rattle.tsp_verdict.proofs.TreeReasons.{one_numbers}

@@ -11,7 +11,7 @@ use Rattle.tsp_format.specs.Steps.{SubsetRow, Step, Branch, Leaf, change_count}
 use Rattle.tsp_routing.specs.RunTrees.{AreGoodLists, AreGoodRows, IsFirstBadRow, IsGoodMemory, IsBadMemory, step_with_places, placed_steps}
 use Rattle.tsp_routing.specs.RunVerdicts.{is_by_runs, AreGoodLeavesOf, IsFirstBadLeafOf, tree_with, IsFirstFullLeaf, HasFullLeaf}
 use Rattle.tsp_format.specs.declared.kinds.Kind.TheVariants as kinds
-use Rattle.tsp_routing.proofs.PlanBounds.{all_crossed, one_light}
+use Rattle.tsp_routing.proofs.QRoutesBoundPlans.{all_crossed, one_light}
 use Rattle.tsp_routing.specs.PlanLinks.{IsCutFamily, AreUnits, capacity_in_parts}
 use Rattle.tsp_cases.specs.JudgedLeaves.{IsSizedVerdict}
 use Rattle.tsp_cases.specs.declared.judged.TreeVerdict.{TreeVerdict}

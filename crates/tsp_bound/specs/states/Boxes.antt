@@ -62,9 +62,13 @@ pub record IsFound (w : ℕ → ℕ → ℤ) (order : List ℕ) (outside : ℕ �
   pub out : outside best.place ≡ true
   pub weight_is : best.weight ≡ w from (node_of order best.place)
 
--- the best before the search: no node, with the largest weight of 64 bits
+-- the largest number of 64 bits, which stands for no weight
+abbrev pub no_weight : ℤ
+no_weight = pos 9223372036854775807
+
+-- the best before the search: no node, and no weight
 abbrev pub no_best : Best
-no_best = record { weight = pos 9223372036854775807; place = 0 }
+no_best = record { weight = no_weight; place = 0 }
 
 -- no node outside weighs less than the best, which is one of them, or none
 pub record IsBest (w : ℕ → ℕ → ℤ) (order : List ℕ) (outside : ℕ → Bool) (from : ℕ) (best : Best) : Type 0 where

@@ -3,7 +3,7 @@
 -- decisions (`decisions_in`), which the judges of leaves in tsp_branch and tsp_routing name in their contracts.
 -- tsp_verdict imports it, too.
 use Rattle.tsp_cases.specs.Prelude.{Vec, w64, int_wrap, All, filter, ℕ, Bool, true, false, List, [], reverse, Some, None, ℤ, pos, neg_ℤ, not, length, slice_index_or, IsNode, IsFromTo, is_same_pair, adjusted, sum_int_by}
-use Rattle.std.specs.Prelude.{◌≡◌, ◌≢◌, ◌<◌, if◌then◌else◌, ◌+ℤ◌, ◌⊎◌, ◌==◌, ◌||◌, ◌&&◌, ◌+◌, ◌≤◌, ◌∷◌, ◌++◌}
+use Rattle.std.specs.Prelude.{◌≡◌, ◌≢◌, ◌<◌, if◌then◌else◌, ◌+ℤ◌, ◌⊎◌, ◌==◌, ◌||◌, ◌&&◌, ◌+◌, ◌≤◌, ◌∷◌, ◌++◌, ◌^◌}
 use Rattle.tsp_cases.specs.Cases.{on_taken, on_avoided, decided_number, next_stack}
 use Rattle.tsp_cases.specs.declared.decision.Decision.{Decision}
 use Rattle.tsp_cases.specs.declared.open_case.NodeDecisions.{NodeDecisions}
@@ -98,3 +98,7 @@ decisions_in case = stack_of case.stack.items ++ case.given.now
 pub record IsOpenCase (n : ℕ) (case : OpenCase) : Type 0 where
   pub pairs : All (IsDecision n) (decisions_in case)
   pub by_node : AreByNode n case.by_node (decisions_in case)
+
+-- numbers of a leaf of at most 2^64, to which src/case_tree.rt can add the differences of the next leaf
+abbrev pub AreSmall : List ℤ → Type 0
+AreSmall numbers = All (IsFromTo (neg_ℤ (pos (2 ^ 64))) (pos (2 ^ 64))) numbers

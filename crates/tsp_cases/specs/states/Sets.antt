@@ -2,7 +2,7 @@
 -- multipliers of sets do to the weight between two nodes (`set_weight`). `src/family.rt` and `src/sets.rt` promise
 -- them. tsp_branch and tsp_routing state the weights of their leaves by `set_weight`, so a change to it reaches the
 -- contract of every leaf.
-use Rattle.tsp_cases.specs.Prelude.{Vec, All, ℕ, List, [], length, slice_index_or, suc, ℤ, pos, neg_ℤ, IsNode, IsFromTo, weight_between, most_between, adjusted, sum_int_by, crossing, IsMoved}
+use Rattle.tsp_cases.specs.Prelude.{Vec, All, ℕ, List, [], length, slice_index_or, suc, ℤ, pos, neg_ℤ, IsNode, IsFromTo, weight_between, most_between, adjusted, sum_int_by, crossing, IsMoved, int_wrap, w64, least_at, entry}
 use Rattle.std.specs.Prelude.{◌<◌, ◌≡◌, ◌==◌, ◌+◌, ◌++◌, ◌≤◌, if◌then◌else◌, ◌∷◌, ◌+ℤ◌, ◌-ℤ◌, ◌*ℤ◌}
 use Rattle.tsp_cases.specs.CaseTrees.{crossings_of, leaf_weight, multiplied}
 use Rattle.tsp_cases.specs.Crossings.{families_in, has}
@@ -137,3 +137,8 @@ SetsGiveLeaves = (scale : ℤ) (crossed : List Crossings) (potentials multiplier
     → length crossed ≡ length families → length multipliers ≡ length families
     → adjusted taken avoided (set_weight scale potentials multipliers families cost) i j
     ≡ leaf_weight scale potentials taken avoided (multiplied (families_with crossed families) multipliers) cost i j
+
+-- for each node what is left in 64 bits of its potential less the multipliers of its sets
+abbrev pub AreMoved : ℕ → List ℤ → List ℤ → List (List (List ℕ)) → List ℤ → Type 0
+AreMoved n potentials multipliers families moved = (x : ℕ) → IsNode n x → int_wrap w64 (least_at moved x)
+    ≡ int_wrap w64 (entry potentials x +ℤ neg_ℤ (multipliers_at multipliers families x))

@@ -1,8 +1,8 @@
 -- The goals of `put` in src/all_pairs.rt, which puts a link into the list of its place: what it ensures.
 use Rattle.tsp_bound.proofs.Prelude.{◌≡◌, ◌-◌, ◌+◌, ◌*◌, ◌<◌, ◌≤ℤ◌, ◌∙◌, ℤ, ℕ, List, refl, length, get_or, arith, rules, ap, sym, subst, set, pos, w64, to_z, of_z, SFits, get_or_default, least_at}
 use Rattle.tsp_bound.specs.declared.search.Link.{Link}
-use Rattle.tsp_bound.specs.states.Components.{kept_at, empty_link}
-use Rattle.tsp_bound.proofs.Listing.{bound_seen}
+use Rattle.tsp_bound.specs.states.Components.{kept_at, empty_link, links_kept}
+use Rattle.tsp_bound.proofs.AllPairs.{bound_seen}
 use Rattle.tsp_bound.proofs.all_pairs.put.Goals as goal
 
 -- plan: the new link replaces the heaviest one, and the number of the place is at most the weight of each link that
@@ -10,8 +10,8 @@ use Rattle.tsp_bound.proofs.all_pairs.put.Goals as goal
 pub returns : goal.returns
 returns c =
     let from = c.args.link.from in
-    let slot : ℕ = c.heaviest-slot.result - 12 * from in
-    let slot_is : c.heaviest-slot.result ≡ 12 * from + slot = omega (arith, c.heaviest-slot.ensures.low) in
+    let slot : ℕ = c.heaviest-slot.result - links_kept * from in
+    let slot_is : c.heaviest-slot.result ≡ links_kept * from + slot = omega (arith, c.heaviest-slot.ensures.low) in
     let zero : Link = record { weight = pos 0; from = 0; to = 0 } in
     let old : Link = get_or c.args.links.now c.heaviest-slot.result zero in
     let inside : c.heaviest-slot.result < length c.args.links.now = omega (arith, c.heaviest-slot.ensures.high, c.requires.long, c.requires.from) in

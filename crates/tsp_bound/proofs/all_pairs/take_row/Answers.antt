@@ -4,7 +4,7 @@ use Rattle.tsp_bound.proofs.Prelude.{◌≡◌, ◌+◌, ◌-◌, ◌*◌, ◌<�
 use Rattle.tsp_bound.specs.declared.search.Link.{Link}
 use Rattle.tsp_bound.specs.states.Boxes.{node_of}
 use Rattle.tsp_bound.specs.states.Components.{weight_over}
-use Rattle.tsp_bound.proofs.Listing.{listed_more, row_ended, node_in_part}
+use Rattle.tsp_bound.proofs.AllPairs.{listed_more, row_ended, node_in_part}
 use Rattle.tsp_bound.proofs.all_pairs.take_row.Goals as goal
 
 -- plan: one pair more, for both of its nodes (`listed_more`); at the end the row is listed (`row_ended`)

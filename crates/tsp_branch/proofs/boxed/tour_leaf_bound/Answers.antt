@@ -12,14 +12,14 @@ returns g c =
     let w = g.W.Weights.at c.args.w.now in
     let weight : ℤ = c.in_ok-weight.weight in
     let back : ℤ = c.args.given_back in
-    let found = c.rounded_up.result in
-    let fits : FitsSigned w128 c.rounded_up.result = search rules in
+    let found = c.least_bound.result in
+    let fits : FitsSigned w128 c.least_bound.result = search rules in
     let bound : ℤ = to_z w128 (of_z w128 found) in
     let same : bound ≡ found = to_z-of_z w128 found fits in
     let sum = sum_is weight back c.in_ok-weight.ensures.size c.requires.given_back in
     let rounded : IsLeastBound c.args.scale (weight +ℤ back) found = subst (λ (z : ℤ). IsLeastBound c.args.scale z found) sum
     (subst (λ (z : ℤ). IsLeastBound z (to_z w128 (of_z w128 (to_z w128 (of_z w128 weight) +ℤ to_z w128 (of_z w128 back)))) found) (same_scale c.args.scale c.requires.scale)
-    c.rounded_up.ensures.value) in
+    c.least_bound.ensures.value) in
     let own : IsBoundOfWeights n w c.args.scale back bound = record {
       weight = weight;
       weighs = c.in_ok-weight.ensures.least;
@@ -28,5 +28,5 @@ returns g c =
     record {
       weights = own;
       leaf = bounds_each_leaf n w c.args.scale back bound own;
-      size = rw same c.rounded_up.ensures.size;
+      size = rw same c.least_bound.ensures.size;
     }

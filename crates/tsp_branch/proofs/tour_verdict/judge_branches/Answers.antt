@@ -3,9 +3,8 @@
 use Rattle.tsp_branch.proofs.Prelude.{◌∙◌, ℕ, List, sym, subst, All, IfOk-weaker, steps_of, IsFamily, families_with, good_in}
 use Rattle.std.specs.Global.{Vec}
 use Rattle.tsp_cases.specs.Crossings.{families_in}
-use Rattle.tsp_cases.specs.JudgedSets.{AreFamiliesJudged}
+use Rattle.tsp_cases.specs.JudgedTrees.{AreFamiliesJudged, AreCasesJudged}
 use Rattle.tsp_branch.specs.BranchVerdicts.{AreJudgedLeaves}
-use Rattle.tsp_cases.specs.JudgedTrees.{AreCasesJudged}
 use Rattle.tsp_branch.proofs.Judging.{judged_of, cycles_of_cases, verdict_of_leaves}
 use Rattle.tsp_branch.proofs.tour_verdict.judge_branches.Goals as goal
 

@@ -1,7 +1,8 @@
 -- The goals of `judge_tour_leaf` in src/tour_verdict.rt, which bounds the leaf with these numbers, if they are good:
 -- the facts of the values that it makes, what its calls require and what it ensures.
-use Rattle.tsp_branch.proofs.Prelude.{◌≡◌, ◌∙◌, ℕ, ℤ, List, length, take, drop, Option, refl, ap, sym, subst, arith, neg_ℤ, ◌+ℤ◌, w64, int_wrap, All, entry, least_at, IsFamily, lent_in, good_in, AreSmallMultipliers, multipliers_at, kept_weight, AreRowsIfAny, AreEnds, HoldsRows, LeafNumbers, decided_number, IsFoundAt, Decision, marks_in, decisions_in, small_multipliers, few_crossings}
-use Rattle.tsp_cases.proofs.RowsKept.{moved_from_ends}
+use Rattle.tsp_branch.proofs.Prelude.{◌≡◌, ◌∙◌, ℕ, ℤ, List, length, take, drop, Option, refl, ap, sym, subst, arith, neg_ℤ, ◌+ℤ◌, w64, int_wrap, All, entry, least_at, IsFamily, lent_in, good_in, AreSmallMultipliers, multipliers_at, LeafNumbers, decided_number, IsFoundAt, Decision, marks_in, decisions_in, small_multipliers, few_crossings}
+use Rattle.tsp_branch.specs.states.KeptRows.{kept_weight, AreRowsIfAny, AreEnds, HoldsRows}
+use Rattle.tsp_cases.proofs.SetSums.{moved_from_ends}
 use Rattle.tsp_cases.proofs.Passes.{written}
 use Rattle.tsp_branch.proofs.Judging.{good_read, found_of_case, numbers_are}
 use Rattle.tsp_branch.proofs.tour_verdict.judge_tour_leaf.Goals as goal

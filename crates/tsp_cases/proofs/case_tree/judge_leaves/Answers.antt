@@ -6,8 +6,7 @@ use Rattle.tsp_format.specs.Steps as listed
 use Rattle.tsp_cases.specs.Cases.{LeafNumbers}
 use Rattle.tsp_cases.specs.ListedCases.{no_numbers_of}
 use Rattle.tsp_cases.specs.declared.decision.Decision.{Decision}
-use Rattle.tsp_cases.specs.states.OpenCases.{IsDecision, IsNextStack, stack_of, IsOpenCase, decisions_in}
-use Rattle.tsp_cases.specs.states.Kept.{AreSmall}
+use Rattle.tsp_cases.specs.states.OpenCases.{IsDecision, IsNextStack, stack_of, IsOpenCase, decisions_in, AreSmall}
 use Rattle.tsp_cases.specs.JudgedLeaves.{IsJudgedLeaf}
 use Rattle.tsp_cases.proofs.Passes.{IsAtStep, IsPassing, at_start, at_branch, whole_trees, at_next, all_passed, bad_here, after_found, small_found, low_sized, own_step, written}
 use Rattle.tsp_cases.proofs.OpenCases.{one_above}
@@ -162,11 +161,11 @@ steps-preserved g c =
           let next = w.next.new.self.stack.items in
           let is_open = w.in_ok-next-in-Leaf.field-0 in
           rw (w.memory-is, w.numbers-is, w.case-is, w.lowest-is, w.leaf-is) (record {
-            at = subst (λ (zs : List ℤ). IsPassing found good fits n family_count given told zs next w.lower-lowest.result (st.leaf + 1)
+            at = subst (λ (zs : List ℤ). IsPassing found good fits n family_count given told zs next w.lesser_bound-lowest.result (st.leaf + 1)
                 (steps_of (drop (st.step-index + 1) all))) (sym now)
                 (after_found found good fits n family_count given told st.numbers.items st.case.stack.items st.lowest
                 st.leaf w.in-Leaf.changes.items _ w.judge_next_leaf.new.numbers is_open next
-                w.in_ok-judged-in-Leaf.judged w.in-Found.own w.lower-lowest.result at judged w.in-Found.is w.lower-lowest.ensures
+                w.in_ok-judged-in-Leaf.judged w.in-Found.own w.lesser_bound-lowest.result at judged w.in-Found.is w.lesser_bound-lowest.ensures
                 w.in_ok-next-in-Leaf.ensures.next);
             memory = subst (λ (ds : List Decision). g.J.LeafJudge.holds judge w.leave.new.memory (stack_of next ++ ds)) (sym w.in_ok-next-in-Leaf.ensures.given)
                 (w.leave.ensures st.case.given.now is_open next
@@ -182,8 +181,8 @@ steps-preserved g c =
             direction = w.in_ok-next-in-Leaf.ensures.directed ∙ st.invariant.direction;
             few = omega (arith, w.in_ok-next-in-Leaf.ensures.few, st.invariant.few);
             leaves = omega (arith, st.invariant.leaves);
-            sized = low_sized st.lowest w.in-Found.own w.lower-lowest.result w.in_ok-judged-in-Leaf.judged st.invariant.sized
-                w.in_ok-judged-in-Leaf.ensures.size w.in-Found.is w.lower-lowest.ensures;
+            sized = low_sized st.lowest w.in-Found.own w.lesser_bound-lowest.result w.in_ok-judged-in-Leaf.judged st.invariant.sized
+                w.in_ok-judged-in-Leaf.ensures.size w.in-Found.is w.lesser_bound-lowest.ensures;
           })
     ]
 

@@ -1,7 +1,6 @@
 -- The loop of `judge_leaves` in src/case_tree.rt, which finds the least bound of all leaves, or the first bad leaf.
 use Rattle.tsp_cases.proofs.Prelude.{◌≡◌, ◌≤◌, ◌+◌, length, drop, IfSome, steps_of, IsBoundSized}
-use Rattle.tsp_cases.specs.states.OpenCases.{IsOpenCase, decisions_in}
-use Rattle.tsp_cases.specs.states.Kept.{AreSmall}
+use Rattle.tsp_cases.specs.states.OpenCases.{IsOpenCase, decisions_in, AreSmall}
 use Rattle.tsp_cases.proofs.Passes.{IsPassing}
 use Rattle.tsp_cases.proofs.case_tree.judge_leaves.Given as goal
 

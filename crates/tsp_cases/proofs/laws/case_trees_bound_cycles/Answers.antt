@@ -1,5 +1,5 @@
 -- The goals of `case_trees_bound_cycles` in src/laws.rt: what it ensures.
-use Rattle.tsp_cases.proofs.CaseTrees.{LeafLaws, case_trees_bound_cycles, certificates_bound_tours, no_bound_no_tour}
+use Rattle.tsp_cases.proofs.LeavesBoundCycles.{LeafLaws, case_trees_bound_cycles, certificates_bound_tours, no_bound_no_tour}
 use Rattle.tsp_cases.proofs.laws.case_trees_bound_cycles.Goals as goal
 
 -- plan: each cycle is in the case of some leaf, whose bound, by a 1-tree or by least links, is at most its length

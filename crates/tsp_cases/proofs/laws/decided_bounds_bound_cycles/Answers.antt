@@ -1,5 +1,5 @@
 -- The goals of `decided_bounds_bound_cycles` in src/laws.rt: what it ensures.
-use Rattle.tsp_cases.proofs.CaseTrees.{decided_bounds_bound_cycles}
+use Rattle.tsp_cases.proofs.LeavesBoundCycles.{decided_bounds_bound_cycles}
 use Rattle.tsp_cases.proofs.laws.decided_bounds_bound_cycles.Goals as goal
 
 -- plan: a cycle that keeps the decisions uses each taken pair and no avoided one, so the bound with numbers on pairs of

@@ -1,6 +1,6 @@
 -- The goals of `leaf_bounds_bound_cycles` in src/laws.rt: what it ensures.
 use Rattle.tsp_theory.proofs.Cycles.{Laws}
-use Rattle.tsp_cases.proofs.CaseTrees.{leaf_bounds_bound_cycles, uncombed_bounds_are_adjusted_bounds}
+use Rattle.tsp_cases.proofs.LeavesBoundCycles.{leaf_bounds_bound_cycles, uncombed_bounds_are_adjusted_bounds}
 use Rattle.tsp_cases.proofs.laws.leaf_bounds_bound_cycles.Goals as goal
 
 -- plan: a cycle weighs at least a minimum 1-tree. It crosses each family as often as its number says, so its length is

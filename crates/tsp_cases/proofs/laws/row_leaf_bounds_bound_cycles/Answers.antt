@@ -1,6 +1,6 @@
 -- The goals of `row_leaf_bounds_bound_cycles` in src/laws.rt: what it ensures.
 use Rattle.tsp_theory.proofs.Cycles.{Laws}
-use Rattle.tsp_cases.proofs.CaseTrees.{row_leaf_bounds_bound_cycles}
+use Rattle.tsp_cases.proofs.LeavesBoundCycles.{row_leaf_bounds_bound_cycles}
 use Rattle.tsp_cases.proofs.laws.row_leaf_bounds_bound_cycles.Goals as goal
 
 -- plan: the least allowed links sum to at most the weight of a cycle. It crosses each family as often as its number

@@ -2,7 +2,7 @@
 use Rattle.tsp_cost.proofs.Prelude.{sym, subst, refl, IsTrue}
 use Rattle.tsp_format.specs.declared.kinds.Kind.TheVariants as kinds
 use Rattle.tsp_file.specs.Rules.{is_routing}
-use Rattle.tsp_cost.proofs.Problems.{AreDefined, AreUnique, some_problem, one_problem, one_routing}
+use Rattle.tsp_cost.proofs.OneProblem.{AreDefined, AreUnique, some_problem, one_problem, one_routing}
 use Rattle.tsp_cost.proofs.laws.instances_are_problems.Goals as goal
 
 -- plan: a valid instance has a problem (`some_problem`), and no other (`one_problem`, `one_routing`)

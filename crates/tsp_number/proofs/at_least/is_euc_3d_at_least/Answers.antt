@@ -3,7 +3,7 @@ use Rattle.tsp_number.proofs.Prelude.{◌≡◌, ◌+◌, ◌≤ℤ◌, ℕ, ℤ
 use Rattle.tsp_number.specs.Distances.{square_apart_in_space, euc_3d_of}
 use Rattle.tsp_number.specs.states.Rounding.{IsLeastCover}
 use Rattle.tsp_number.specs.declared.root.Rounding.TheVariants.{Nearest}
-use Rattle.tsp_number.proofs.Distances.{way_is}
+use Rattle.tsp_number.proofs.RoundedRoots.{way_is}
 use Rattle.tsp_number.proofs.Comparisons.{euc_3d_cover, space_is}
 use Rattle.tsp_number.proofs.at_least.is_euc_3d_at_least.Goals as goal
 

@@ -2,7 +2,7 @@
 use Rattle.tsp_number.proofs.Prelude.{◌≡◌, ◌+◌, ◌≤ℤ◌, ℕ, ℤ, pos, subst, sym, w64, ◌↔◌, IsTrue, to_z-of_z}
 use Rattle.tsp_number.specs.Distances.{square_apart}
 use Rattle.tsp_number.specs.states.Rounding.{IsLeastCover}
-use Rattle.tsp_number.proofs.Distances.{apart_is, way_is}
+use Rattle.tsp_number.proofs.RoundedRoots.{apart_is, way_is}
 use Rattle.tsp_number.proofs.at_least.is_straight_at_least.Goals as goal
 
 -- plan: both squares sum to that of the straight distance (`apart_is`), of which the given root is the least cover

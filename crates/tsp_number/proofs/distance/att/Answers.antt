@@ -1,7 +1,7 @@
 -- The goals of `att` in src/distance.rt: what it ensures.
 use Rattle.tsp_number.proofs.Prelude.{arith, ◌≡◌, ◌≤ℤ◌, ℕ, pos, unsigned_abs, to_z, of_z, w64, subst, sym, ints}
 use Rattle.tsp_number.specs.Distances.{IsAtt}
-use Rattle.tsp_number.proofs.Distances.{is_att, att-is, att-most, signed_is}
+use Rattle.tsp_number.proofs.RoundedRoots.{is_att, att-is, att-most, signed_is}
 use Rattle.tsp_number.proofs.distance.att.Goals as goal
 
 -- plan: the root that is found is the distance (`is_att`); there is one such number (`att-is`), and it isn't large

@@ -1,7 +1,7 @@
 -- The goals of `ceil_2d` in src/distance.rt: what it ensures.
 use Rattle.tsp_number.proofs.Prelude.{arith, ◌≡◌, ◌≤ℤ◌, ℕ, pos, unsigned_abs, to_z, of_z, w64, subst, sym, ints}
 use Rattle.tsp_number.specs.Distances.{IsCeil2d}
-use Rattle.tsp_number.proofs.Distances.{is_ceil_2d, ceil_2d-is, signed_is}
+use Rattle.tsp_number.proofs.RoundedRoots.{is_ceil_2d, ceil_2d-is, signed_is}
 use Rattle.tsp_number.proofs.distance.ceil_2d.Goals as goal
 
 -- plan: the root that is found is the distance (`is_ceil_2d`), and there is one such number (`ceil_2d-is`)

@@ -1,7 +1,7 @@
 -- The goals of `euc_2d` in src/distance.rt: what it ensures.
 use Rattle.tsp_number.proofs.Prelude.{arith, ◌≡◌, ◌≤ℤ◌, ℕ, pos, unsigned_abs, to_z, of_z, w64, subst, sym, ints}
 use Rattle.tsp_number.specs.Distances.{IsEuc2d}
-use Rattle.tsp_number.proofs.Distances.{is_euc_2d, euc_2d-is, signed_is}
+use Rattle.tsp_number.proofs.RoundedRoots.{is_euc_2d, euc_2d-is, signed_is}
 use Rattle.tsp_number.proofs.distance.euc_2d.Goals as goal
 
 -- plan: the root that is found is the distance (`is_euc_2d`), and there is one such number (`euc_2d-is`)

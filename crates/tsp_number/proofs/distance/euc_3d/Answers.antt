@@ -1,7 +1,7 @@
 -- The goals of `euc_3d` in src/distance.rt: what it ensures.
 use Rattle.tsp_number.proofs.Prelude.{arith, ◌≡◌, ◌≤ℤ◌, ℕ, pos, unsigned_abs, to_z, of_z, w64, subst, sym, ints}
 use Rattle.tsp_number.specs.Distances.{IsEuc3d}
-use Rattle.tsp_number.proofs.Distances.{is_euc_3d, way_is, signed_is}
+use Rattle.tsp_number.proofs.RoundedRoots.{is_euc_3d, way_is, signed_is}
 use Rattle.tsp_number.proofs.Comparisons.{euc_3d-is}
 use Rattle.tsp_number.proofs.distance.euc_3d.Goals as goal
 

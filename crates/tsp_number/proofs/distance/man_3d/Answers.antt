@@ -1,6 +1,6 @@
 -- The goals of `man_3d` in src/distance.rt: what it ensures.
 use Rattle.tsp_number.proofs.Prelude.{arith, rules, ◌≤ℤ◌, pos, to_z, of_z, w64, ints}
-use Rattle.tsp_number.proofs.Distances.{signed_is}
+use Rattle.tsp_number.proofs.RoundedRoots.{signed_is}
 use Rattle.tsp_number.proofs.Comparisons.{man_3d-is}
 use Rattle.tsp_number.proofs.distance.man_3d.Goals as goal
 

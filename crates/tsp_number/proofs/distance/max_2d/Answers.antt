@@ -1,6 +1,6 @@
 -- The goals of `max_2d` in src/distance.rt: what it ensures.
 use Rattle.tsp_number.proofs.Prelude.{arith, rules, ◌≤ℤ◌, pos, to_z, of_z, w64, ints}
-use Rattle.tsp_number.proofs.Distances.{max_2d-is, signed_is}
+use Rattle.tsp_number.proofs.RoundedRoots.{max_2d-is, signed_is}
 use Rattle.tsp_number.proofs.distance.max_2d.Goals as goal
 
 -- plan: the larger of both differences, rounded to the nearest whole number, is the distance; there is one such number

@@ -2,7 +2,7 @@
 use Rattle.tsp_number.proofs.Prelude.{arith, ◌≡◌, ℕ, unsigned_abs, to_z, of_z, w64, subst, sym, ints}
 use Rattle.tsp_number.specs.Distances.{square_apart}
 use Rattle.tsp_number.specs.states.Rounding.{IsLeastCover}
-use Rattle.tsp_number.proofs.Distances.{apart_is, way_is, apart-most}
+use Rattle.tsp_number.proofs.RoundedRoots.{apart_is, way_is, apart-most}
 use Rattle.tsp_number.proofs.distance.straight.Goals as goal
 
 -- plan: the squares of both differences sum to that of the straight distance (`apart_is`), whose root the call finds

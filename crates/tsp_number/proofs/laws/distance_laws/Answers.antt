@@ -1,5 +1,5 @@
 -- The goals of `distance_laws` in src/laws.rt: what it ensures.
-use Rattle.tsp_number.proofs.Distances.{euc_2d_laws, ceil_2d_laws, man_2d_laws, max_2d_laws, att_laws}
+use Rattle.tsp_number.proofs.RoundedRoots.{euc_2d_laws, ceil_2d_laws, man_2d_laws, max_2d_laws, att_laws}
 use Rattle.tsp_number.proofs.Comparisons.{euc_3d_laws, man_3d_laws, max_3d_laws}
 use Rattle.tsp_number.proofs.laws.distance_laws.Goals as goal
 

@@ -1,7 +1,7 @@
 -- The goals of `is_least_cover` in src/root.rt, which says whether a number is certainly the root, rounded up: what it
 -- ensures.
 use Rattle.std.proofs.Common.{◌≡◌, ◌+◌, ◌*◌, ◌-◌, ◌<◌, ◌≤◌, ◌%◌, ◌^◌, ℕ, arith, ◌∙◌, ap}
-use Rattle.tsp_number.proofs.Distances.{up_cover, tenth_cover}
+use Rattle.tsp_number.proofs.RoundedRoots.{up_cover, tenth_cover}
 use Rattle.tsp_number.proofs.root.is_least_cover.Goals as goal
 
 -- a step less than a number above 0, as 64 bits count it

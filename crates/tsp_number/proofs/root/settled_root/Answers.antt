@@ -1,5 +1,5 @@
 -- The goals of `settled_root` in src/root.rt, which finds the root, rounded up, by an estimate: what it ensures.
-use Rattle.tsp_number.proofs.Distances.{least-most}
+use Rattle.tsp_number.proofs.RoundedRoots.{least-most}
 use Rattle.tsp_number.proofs.root.settled_root.Goals as goal
 
 -- plan: the number is the least that covers the square, so it is no larger than one that is known to cover it

@@ -1,7 +1,7 @@
 -- The goals of `square_of` in src/root.rt, which returns the square of a difference of coordinates: that no sum
 -- overflows and what it ensures.
 use Rattle.tsp_number.proofs.Prelude.{◌≡◌, unsigned_abs, arith, ◌∙◌, w64, to_z-of_z}
-use Rattle.tsp_number.proofs.Distances.{square-most, wide_square}
+use Rattle.tsp_number.proofs.RoundedRoots.{square-most, wide_square}
 use Rattle.tsp_number.proofs.root.square_of.Goals as goal
 
 -- plan: the square in the code's width is that of the whole number (`wide_square`), and `square-most` bounds it

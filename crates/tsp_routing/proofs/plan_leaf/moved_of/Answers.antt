@@ -1,7 +1,7 @@
 -- The goals of `moved_of` in src/plan_leaf.rt, which lessens each potential by the multipliers of the node's sets: the
 -- facts of the multiplied families that it makes, what its calls require, and what it ensures.
 use Rattle.tsp_routing.proofs.Prelude.{◌≡◌, ◌∙◌, ◌+◌, ℕ, ℤ, List, length, sym, replicate, ap, arith, pos, neg_ℤ, ◌+ℤ◌, w64, int_wrap, ints, get_or-replicate, length-replicate, All-from_recursion, IsFromTo, entry, least_at, multipliers_at, lent_in, written, wrapped_by}
-use Rattle.tsp_cases.proofs.RowsKept.{moved_from_ends}
+use Rattle.tsp_cases.proofs.SetSums.{moved_from_ends}
 use Rattle.tsp_routing.specs.PlanVerdicts.{most_of_multipliers}
 use Rattle.tsp_routing.proofs.RouteProducts.{each_small}
 use Rattle.tsp_routing.proofs.plan_leaf.moved_of.Goals as goal

@@ -11,7 +11,7 @@ returns-clause-bound c = λ problem potentials families multipliers case nodes f
   fewest = c.args.sum.fewest;
   fewest_is = fewest;
   bound_is =
-      let found = c.rounded_up.result in
+      let found = c.least_bound.result in
       let routes = c.of_routes-routes.result in
       let most : c.args.sum.nodes - 1 ≡ problem.nodes - 1 = omega (arith, nodes) in
       let left : routes ≡ least_product c.args.sum.fewest (problem.nodes - 1) (surplus problem potentials c.args.each) =
@@ -26,5 +26,5 @@ returns-clause-bound c = λ problem potentials families multipliers case nodes f
       omega (arith, ints, size.0, size.1, back_size.0, back_size.1) in
       rw (to_z-of_z w128 found fits)
       (subst₂ (λ (s z : ℤ). IsLeastBound s z found) (same_scale c.args.sum.scale c.args.sum.scaled)
-      (total ∙ ap₂ (λ a b. a +ℤ b) back left) c.rounded_up.ensures.value);
+      (total ∙ ap₂ (λ a b. a +ℤ b) back left) c.least_bound.ensures.value);
 }

@@ -1,7 +1,7 @@
 -- The goals of `judge_plan_leaf` in src/plan_verdict.rt, which bounds the leaf with these numbers, if they are good:
 -- the facts of the leaf that it makes, what its calls require, and what it ensures.
 use Rattle.tsp_routing.proofs.Prelude.{◌≡◌, ◌+◌, ◌∙◌, ℕ, ℤ, List, length, take, drop, true, refl, ap, ap₂, sym, subst, subst₂, as_leaf_numbers, Option, None, false≢true, Decision, LeafNumbers, families_with, lent_in, decisions_in, written}
-use Rattle.tsp_cases.specs.states.Kept.{AreMoved}
+use Rattle.tsp_cases.specs.states.Sets.{AreMoved}
 use Rattle.tsp_routing.specs.PlanVerdicts.{ArePlanNumbers}
 use Rattle.tsp_routing.specs.states.Demands.{loads_problem}
 use Rattle.tsp_routing.specs.states.Judged.{IsFoundOfFew}

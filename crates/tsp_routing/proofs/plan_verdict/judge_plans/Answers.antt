@@ -6,7 +6,7 @@ use Rattle.tsp_routing.specs.PlanLinks.{IsRoutable}
 use Rattle.tsp_routing.specs.PlanVerdicts.{routing_with}
 use Rattle.tsp_routing.specs.states.RunTables.{item_lists}
 use Rattle.tsp_routing.proofs.PlanJudging.{no_demand_below}
-use Rattle.tsp_routing.proofs.PlanVerdicts.{verdict_bounds}
+use Rattle.tsp_routing.proofs.VerdictOfLeaves.{verdict_bounds}
 use Rattle.tsp_routing.proofs.plan_verdict.judge_plans.Goals as goal
 
 -- plan: the problem of a file has a depot, a customer, and no demand below 0, so the verdict bounds its plans

@@ -16,7 +16,7 @@ use Rattle.tsp_routing.specs.states.LeafWeights.{IsPlanStep}
 use Rattle.tsp_routing.specs.states.RunJudged.{IsRunLeafVerdict}
 use Rattle.tsp_routing.specs.states.RunTables.{item_lists}
 use Rattle.tsp_routing.proofs.PlanJudging.{single_sets, steps_on_families}
-use Rattle.tsp_routing.proofs.PlanVerdicts.{verdict_of_leaves, verdict_of_runs}
+use Rattle.tsp_routing.proofs.VerdictOfLeaves.{verdict_of_leaves, verdict_of_runs}
 use Rattle.tsp_routing.proofs.plan_verdict.tree_verdict.Goals as goal
 
 -- plan: the parts of the certificate are those of the context, field by field; then the verdict on the leaves is that on the

@@ -6,8 +6,8 @@ use Rattle.tsp_routing.proofs.RouteProducts.{surplus_is}
 use Rattle.tsp_routing.proofs.run_bound.bound_of_runs.Goals as goal
 
 -- plan: no sum overflows, so the quotient that is rounded up is the least bound
-pub rounded_up-requires-clause-size : goal.rounded_up-requires-clause-size
-rounded_up-requires-clause-size c =
+pub least_bound-requires-clause-size : goal.least_bound-requires-clause-size
+least_bound-requires-clause-size c =
     let size = c.times-routes.ensures.size in
     let back = c.args.sum.back_size in
     (omega (arith, ints, size.0, size.1, back.0, back.1), omega (arith, ints, size.0, size.1, back.0, back.1))
@@ -17,7 +17,7 @@ returns-clause-bound c = λ problem unit light families case numbers near rows n
   each = c.args.each;
   least = least;
   bound_is =
-      let found = c.rounded_up.result in
+      let found = c.least_bound.result in
       let routes = c.times-routes.result in
       let most : c.args.sum.nodes - 1 ≡ problem.nodes - 1 = omega (arith, nodes) in
       let left : routes ≡ pos (problem.nodes - 1) *ℤ surplus problem numbers.potentials c.args.each =
@@ -32,5 +32,5 @@ returns-clause-bound c = λ problem unit light families case numbers near rows n
       omega (arith, ints, size.0, size.1, back_size.0, back_size.1) in
       rw (to_z-of_z w128 found fits)
       (subst₂ (λ (s z : ℤ). IsLeastBound s z found) (same_scale c.args.sum.scale c.args.sum.scaled)
-      (total ∙ ap₂ (λ a b. a +ℤ b) back left) c.rounded_up.ensures.value);
+      (total ∙ ap₂ (λ a b. a +ℤ b) back left) c.least_bound.ensures.value);
 }

@@ -5,7 +5,7 @@ use Rattle.std.proofs.Math.Logic.{∥∥₁_elim}
 use Rattle.std.proofs.Props.{props}
 use Rattle.tsp_format.specs.Steps.{SubsetRow}
 use Rattle.tsp_format.specs.states.TreeSteps.{subset_row_of}
-use Rattle.tsp_cases.specs.states.Kept.{AreMoved}
+use Rattle.tsp_cases.specs.states.Sets.{AreMoved}
 use Rattle.tsp_routing.specs.RunBounds.{leaf_rules, IsRunBound}
 use Rattle.tsp_routing.specs.RunTrees.{near_of, charged_rows}
 use Rattle.tsp_routing.specs.states.Demands.{loads_problem}

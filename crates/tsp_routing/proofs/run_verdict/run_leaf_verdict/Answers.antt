@@ -12,7 +12,7 @@ use Rattle.tsp_routing.specs.PlanVerdicts.{most_entries}
 use Rattle.tsp_routing.specs.RunTrees.{placed_steps, AreRunNumbers, AreGoodRunLeaves}
 use Rattle.tsp_routing.specs.states.RunJudged.{AreRunsJudged, tree_in}
 use Rattle.tsp_routing.proofs.RunJudging.{whole_placed, steps_placed, placed_long}
-use Rattle.tsp_routing.proofs.PlanVerdicts.{all_good, verdict_of_judged_runs}
+use Rattle.tsp_routing.proofs.VerdictOfLeaves.{all_good, verdict_of_judged_runs}
 use Rattle.tsp_routing.proofs.run_verdict.run_leaf_verdict.Goals as goal
 
 -- plan: the steps with places are one whole tree too; the first judge finds whether numbers are good, and the second one

@@ -3,10 +3,11 @@
 use Rattle.tsp_bound.proofs.Prelude.{◌≡◌, ◌≢◌, ◌+◌, ◌-◌, ◌*◌, ◌<◌, ◌≤ℤ◌, ◌∙◌, ℕ, pos, List, length, get_or, inl, inr, arith, rules, ap, sym, subst, w64, to_z, of_z, SFits, cases_eq, to_z-of_z, get_or_read}
 use Rattle.tsp_bound.proofs.RoundJoins.{lower_reached}
 use Rattle.tsp_bound.specs.declared.search.Link.{Link}
-use Rattle.tsp_bound.specs.states.Components.{label_at, weight_over, kept_at, empty_link, IsOwnLink}
-use Rattle.tsp_bound.proofs.Listing.{IsEnding, ending_offered}
+use Rattle.tsp_bound.specs.states.Components.{label_at, weight_over, kept_at, empty_link, IsOwnLink, links_kept}
+use Rattle.tsp_bound.proofs.AllPairs.{IsEnding, ending_offered}
 use Rattle.tsp_bound.proofs.all_pairs.Listed.best_kept.Goals as goal
 use Rattle.tsp_bound.proofs.all_pairs.Listed.best_kept.Goals.{then-link-ne9223372036854775807+then-index-own, else-link-ne9223372036854775807, else-link-ne9223372036854775807-via-then-link-ne9223372036854775807+else-index-own, else-link-ne9223372036854775807-via-else-link-ne9223372036854775807}
+use Rattle.tsp_bound.specs.states.Boxes.{no_weight}
 
 -- plan: by the listed link: one to another component is offered (`reached_offered`), and one inside its component isn't
 -- (`ending_offered`)
@@ -20,15 +21,15 @@ links-preserved g c =
     let links : List Link = s.links.items in
     let k : ℕ = c.links.k in
     let link : Link = c.index-link.result.now in
-    let inside : 12 * from + k < length links = omega (arith, s.long, c.requires, c.links-test.true) in
-    let link_is : link ≡ kept_at links from k = get_or_read links (12 * from + k) link inside c.index-link.ensures empty_link in
+    let inside : links_kept * from + k < length links = omega (arith, s.long, c.requires, c.links-test.true) in
+    let link_is : link ≡ kept_at links from k = get_or_read links (links_kept * from + k) link inside c.index-link.ensures empty_link in
     let own : IsOwnLink n w from link = subst (IsOwnLink n w from) (sym link_is) (s.listed.own from k c.requires c.links-test.true) in
     let from_is : c.index-own.result.now ≡ label from = get_or_read s.labels.items from c.index-own.result.now (omega (arith, s.as_many, c.requires)) c.index-own.ensures 0 in
     let fits : SFits w64 link.weight = search rules in
-    let most : SFits w64 (pos 9223372036854775807) = search rules in
+    let most : SFits w64 (no_weight) = search rules in
     elim c.if-link-ne9223372036854775807.branch [
       | then-link-ne9223372036854775807+then-index-own u ↦
-          let some : link.weight ≢ pos 9223372036854775807 = λ e. u.if-link-ne9223372036854775807.true (ap (of_z w64) e) in
+          let some : link.weight ≢ no_weight = λ e. u.if-link-ne9223372036854775807.true (ap (of_z w64) e) in
           let it = own some in
           let to_is : u.index.result.now ≡ label link.to = get_or_read s.labels.items link.to u.index.result.now (omega (arith, s.as_many, it.1)) u.index.ensures 0 in
           let out : label link.to ≢ label from = λ e. u.if-index-own.true (to_is ∙ (e ∙ sym from_is)) in
@@ -42,19 +43,19 @@ links-preserved g c =
             ];
           })
       | else-link-ne9223372036854775807 u ↦
-          let left : link.weight ≢ pos 9223372036854775807 → label link.to ≢ label from → ⊥ = λ some out. elim u.else-link-ne9223372036854775807.branch [
+          let left : link.weight ≢ no_weight → label link.to ≢ label from → ⊥ = λ some out. elim u.else-link-ne9223372036854775807.branch [
             | else-link-ne9223372036854775807-via-then-link-ne9223372036854775807+else-index-own v ↦
                 let it = own some in
                 out (sym (get_or_read s.labels.items link.to v.index.result.now (omega (arith, s.as_many, it.1)) v.index.ensures 0) ∙ (v.if-index-own.false ∙ from_is))
             | else-link-ne9223372036854775807-via-else-link-ne9223372036854775807 v ↦
-                some (sym (to_z-of_z w64 link.weight fits) ∙ (ap (to_z w64) v.if-link-ne9223372036854775807.false ∙ to_z-of_z w64 (pos 9223372036854775807) most))
+                some (sym (to_z-of_z w64 link.weight fits) ∙ (ap (to_z w64) v.if-link-ne9223372036854775807.false ∙ to_z-of_z w64 (no_weight) most))
           ] in
           rw u.best-is (record {
             ending = c.links.invariant.ending;
             least = λ j j_in is_one j_out. elim (cases_eq j k) [
               | inl same ↦
                   let it : kept_at links from j ≡ link = ap (kept_at links from) same ∙ sym link_is in
-                  absurd (left (subst (λ (l : Link). l.weight ≢ pos 9223372036854775807) it is_one) (subst (λ (l : Link). label l.to ≢ label from) it j_out))
+                  absurd (left (subst (λ (l : Link). l.weight ≢ no_weight) it is_one) (subst (λ (l : Link). label l.to ≢ label from) it j_out))
               | inr other ↦ c.links.invariant.least j (omega (arith, j_in, other)) is_one j_out
             ];
           })
@@ -68,8 +69,8 @@ returns-in-None-clause-own g c =
     let from : ℕ = c.args.from in
     let links : List Link = s.links.items in
     let link : Link = c.index-in-None.result.now in
-    let k : ℕ = c.heaviest.result - 12 * from in
-    let k_in : k < 12 = omega (arith, c.heaviest.ensures.low, c.heaviest.ensures.high) in
+    let k : ℕ = c.heaviest.result - links_kept * from in
+    let k_in : k < links_kept = omega (arith, c.heaviest.ensures.low, c.heaviest.ensures.high) in
     let inside : c.heaviest.result < length links = omega (arith, s.long, c.requires, c.heaviest.ensures.high) in
     let is : link ≡ kept_at links from k = get_or_read links c.heaviest.result link inside c.index-in-None.ensures empty_link
     ∙ ap (λ i. get_or links i empty_link) (omega (arith, c.heaviest.ensures.low)) in

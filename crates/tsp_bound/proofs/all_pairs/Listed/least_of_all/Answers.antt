@@ -4,7 +4,7 @@ use Rattle.tsp_bound.proofs.Prelude.{◌≡◌, ◌≢◌, ◌+◌, ◌<◌, ◌
 use Rattle.tsp_bound.proofs.RoundJoins.{lower_reached}
 use Rattle.tsp_bound.specs.declared.search.Link.{Link}
 use Rattle.tsp_bound.specs.states.Components.{label_at, weight_over}
-use Rattle.tsp_bound.proofs.Listing.{IsEnding, ending_offered}
+use Rattle.tsp_bound.proofs.AllPairs.{IsEnding, ending_offered}
 use Rattle.tsp_bound.proofs.all_pairs.Listed.least_of_all.Goals as goal
 use Rattle.tsp_bound.proofs.all_pairs.Listed.least_of_all.Goals.{then-index-own, else-index-own}
 

@@ -3,7 +3,7 @@
 use Rattle.std.proofs.Common.{◌≢◌, ◌<◌, ℕ, length, IfSome}
 use Rattle.tsp_bound.specs.states.Components.{label_at, weight_over}
 use Rattle.tsp_bound.proofs.RoundJoins.{IsReached}
-use Rattle.tsp_bound.proofs.Listing.{IsEnding}
+use Rattle.tsp_bound.proofs.AllPairs.{IsEnding}
 use Rattle.tsp_bound.proofs.all_pairs.Listed.least_of_all.Given as goal
 
 -- if a place before this one is in another component, `best` leads to another one, and weighs no more

@@ -2,7 +2,7 @@
 -- require and what it ensures.
 use Rattle.tsp_bound.proofs.Prelude.{ℕ, ◌≡◌, ◌≢◌, sym, subst, pos, rules, ap, w64, to_z, of_z, SFits, to_z-of_z}
 use Rattle.tsp_bound.specs.declared.boxes.NumberedSite.{NumberedSite}
-use Rattle.tsp_bound.specs.states.Boxes.{node_of, IsSearched, no_best}
+use Rattle.tsp_bound.specs.states.Boxes.{node_of, IsSearched, no_best, no_weight}
 use Rattle.tsp_bound.proofs.Lowest.{searched_best}
 use Rattle.tsp_bound.proofs.Searches.{found_some, nearest_is}
 use Rattle.tsp_bound.proofs.search.Placed.nearest.Goals as goal
@@ -28,6 +28,6 @@ returns g c =
     let w = g.W.Weights.at s.w.now in
     let best = c.lowered-best.result in
     let fits : SFits w64 c.lowered-best.result.weight = search rules in
-    let other : c.lowered-best.result.weight ≢ pos 9223372036854775807 = λ e. c.if-best-eq9223372036854775807.false (ap (of_z w64) e) in
+    let other : c.lowered-best.result.weight ≢ no_weight = λ e. c.if-best-eq9223372036854775807.false (ap (of_z w64) e) in
     nearest_is w s.order.now outside c.args.from best (to_z w64 (of_z w64 best.weight)) c.lowered-best.ensures
     (found_some w s.order.now outside (node_of s.order.now c.args.from) best c.lowered-best.ensures other) (to_z-of_z w64 best.weight fits)

@@ -14,10 +14,10 @@ returns g c =
     let v = weight_less c.args.self.now.p.now (triples_in c.args.self.now.m.now) (g.C.Costs.at c.args.self.now.c.now) in
     let lowerings = c.at.result.now in
     let are : AreLowerings n lowerings = rw (← c.args.self.now.over) c.at.ensures.are in
-    let both : (x : ℕ) → IsNode n x → (least_at c.lower.new.row x ≡ v c.args.from x) × (least_at c.lower.new.row x <ℤ most_64) = λ x h.
+    let both : (x : ℕ) → IsNode n x → (least_at c.take_lowerings.new.row x ≡ v c.args.from x) × (least_at c.take_lowerings.new.row x <ℤ most_64) = λ x h.
     let first = c.weigh_all.ensures.values x h in
     let sum = c.at.ensures.sums x in
-    lowered_to n lowerings x (least_at c.weigh_all.new.row x) (least_at c.lower.new.row x) (v c.args.from x) are (c.weigh_all.ensures.sizes x h) (c.lower.ensures x)
+    lowered_to n lowerings x (least_at c.weigh_all.new.row x) (least_at c.take_lowerings.new.row x) (v c.args.from x) are (c.weigh_all.ensures.sizes x h) (c.take_lowerings.ensures x)
     (omega (arith, ints, first, sum)) in
     record {
       values = λ x h. (both x h).0;

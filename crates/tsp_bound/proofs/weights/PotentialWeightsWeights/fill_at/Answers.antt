@@ -15,11 +15,11 @@ returns g c =
     let lowerings = c.at.result.now in
     let are : AreLowerings n lowerings = rw (← c.args.self.now.over) c.at.ensures.are in
     let node : ℕ → ℕ = slice_index c.args.to.now in
-    let both : (k : ℕ) → k < length c.args.to.now → (least_at c.lower.new.row (node k) ≡ v c.args.from (node k)) × (least_at c.lower.new.row (node k) <ℤ most_64) = λ k h.
+    let both : (k : ℕ) → k < length c.args.to.now → (least_at c.take_lowerings.new.row (node k) ≡ v c.args.from (node k)) × (least_at c.take_lowerings.new.row (node k) <ℤ most_64) = λ k h.
     let first = c.weigh.ensures.values k h in
     let sum = c.at.ensures.sums (node k) in
-    lowered_to n lowerings (node k) (least_at c.weigh.new.row (node k)) (least_at c.lower.new.row (node k)) (v c.args.from (node k)) are (c.weigh.ensures.sizes k h)
-    (c.lower.ensures (node k)) (omega (arith, ints, first, sum)) in
+    lowered_to n lowerings (node k) (least_at c.weigh.new.row (node k)) (least_at c.take_lowerings.new.row (node k)) (v c.args.from (node k)) are (c.weigh.ensures.sizes k h)
+    (c.take_lowerings.ensures (node k)) (omega (arith, ints, first, sum)) in
     record {
       values = λ k h. (both k h).0;
       small = λ k h. (both k h).1;

@@ -9,12 +9,12 @@ pub returns-clause-bound : goal.returns-clause-bound
 returns-clause-bound g c =
     let sum : ℤ = c.in_ok-least.least in
     let back : ℤ = c.args.sum.given_back in
-    let found = c.rounded_up.result in
-    let fits : FitsSigned w128 c.rounded_up.result = search rules in
+    let found = c.least_bound.result in
+    let fits : FitsSigned w128 c.least_bound.result = search rules in
     let computed = with_back sum back c.in_ok-least.ensures.size c.args.sum.size in
     let rounded : IsLeastBound c.args.sum.scale (sum +ℤ back) found = subst (λ (z : ℤ). IsLeastBound c.args.sum.scale z found) computed
     (subst (λ (z : ℤ). IsLeastBound z (to_z w128 (of_z w128 (to_z w128 (of_z w128 sum) +ℤ to_z w128 (of_z w128 back)))) found) (same_scale c.args.sum.scale c.args.sum.scaled)
-    c.rounded_up.ensures.value) in
+    c.least_bound.ensures.value) in
     record {
       sum = sum;
       least = c.in_ok-least.ensures.sum;

@@ -1,8 +1,9 @@
 -- The goals of `CaseLeaf::bound_by_trees` in src/case_leaf.rt, which bounds a leaf by a minimum 1-tree, by kept rows or
 -- by boxes: the facts of the values that it makes, what its calls require and what it ensures.
-use Rattle.tsp_branch.proofs.Prelude.{◌≡◌, ◌∙◌, ◌^◌, ℕ, ℤ, List, refl, ap, sym, subst, arith, to_z, of_z, pos, neg_ℤ, ◌+ℤ◌, w128, ints, IfOk-weaker, IsFromTo, IsScale, same_scale, Family, Decision, DecideOnce, on_taken, on_avoided, decided_number, IsLeafBound, multiplied, lent_in, good_in, set_weight, stack_of, decided, marks_in, IsOpenCase, decisions_in, kept_weight, AreRowsIfAny, few_changes, case_weight, back_of}
+use Rattle.tsp_branch.proofs.Prelude.{◌≡◌, ◌∙◌, ◌^◌, ℕ, ℤ, List, refl, ap, sym, subst, arith, to_z, of_z, pos, neg_ℤ, ◌+ℤ◌, w128, ints, IfOk-weaker, IsFromTo, IsScale, same_scale, Family, Decision, DecideOnce, on_taken, on_avoided, decided_number, IsLeafBound, multiplied, lent_in, good_in, set_weight, stack_of, decided, marks_in, IsOpenCase, decisions_in, few_changes, case_weight, back_of}
+use Rattle.tsp_branch.specs.states.KeptRows.{kept_weight, AreRowsIfAny}
 use Rattle.tsp_branch.specs.BranchVerdicts.{BoundsEachLeaf, given_back_of}
-use Rattle.tsp_cases.proofs.CaseTrees.{leaf_even}
+use Rattle.tsp_cases.proofs.LeavesBoundCycles.{leaf_even}
 use Rattle.tsp_branch.proofs.CaseLeaves.{back_held, taken_listed, taken_few}
 use Rattle.tsp_branch.proofs.case_leaf.CaseLeaf.bound_by_trees.Goals as goal
 

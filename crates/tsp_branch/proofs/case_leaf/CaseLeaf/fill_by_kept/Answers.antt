@@ -1,8 +1,9 @@
 -- The goals of `CaseLeaf::fill_by_kept` in src/leaf_rows.rt, which writes a row of a leaf's weights from the row kept
 -- for its node: what it ensures.
-use Rattle.tsp_branch.proofs.Prelude.{◌≡◌, ◌∙◌, ◌-◌, ◌+◌, ℕ, ℤ, List, false, get_or, inr, ap, sym, subst, arith, rules, to_z, of_z, FitsSigned, w64, int_wrap, pos, neg_ℤ, ◌*ℤ◌, ints, to_z-of_z, IsNode, IsFromTo, entry, least_at, between_size, scaled_size, lent_in, set_weight, Decision, marks_in, most_decided, decisions_in, kept_weight, IsKeptRow}
+use Rattle.tsp_branch.proofs.Prelude.{◌≡◌, ◌∙◌, ◌-◌, ◌+◌, ℕ, ℤ, List, false, get_or, inr, ap, sym, subst, arith, rules, to_z, of_z, FitsSigned, w64, int_wrap, pos, neg_ℤ, ◌*ℤ◌, ints, to_z-of_z, IsNode, IsFromTo, entry, least_at, between_size, scaled_size, lent_in, set_weight, Decision, marks_in, most_decided, decisions_in}
+use Rattle.tsp_branch.specs.states.KeptRows.{kept_weight, IsKeptRow}
 use Rattle.std.specs.Global.{Vec}
-use Rattle.tsp_cases.proofs.RowsKept.{marked_at}
+use Rattle.tsp_branch.proofs.RowsKept.{marked_at}
 use Rattle.tsp_branch.specs.states.LeafRows.{decided_by}
 use Rattle.tsp_branch.proofs.CaseLeaves.{marked_is}
 use Rattle.tsp_branch.proofs.case_leaf.CaseLeaf.fill_by_kept.Goals as goal

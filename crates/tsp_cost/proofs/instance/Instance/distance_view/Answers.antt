@@ -8,7 +8,7 @@ use Rattle.tsp_number.specs.Distances.{on_plane}
 use Rattle.tsp_file.specs.states.Drafts.{points_of}
 use Rattle.tsp_cost.specs.states.Metrics.{weight_kind_of}
 use Rattle.tsp_cost.specs.states.Views.{HasFound}
-use Rattle.tsp_cost.proofs.Problems.{AreOfPoints, of_points}
+use Rattle.tsp_cost.proofs.OneProblem.{AreOfPoints, of_points}
 use Rattle.tsp_cost.proofs.instance.Instance.distance_view.Goals as goal
 
 -- plan: by the coordinates, of the plane or of space: the costs are the distances of the points (`of_points`)

@@ -2,7 +2,7 @@
 use Rattle.tsp_cost.proofs.Prelude.{◌≡◌, ℕ, List, Some, sym, ap, subst, ◌∙◌, Fields}
 use Rattle.tsp_file.specs.Valid.{AreFixed}
 use Rattle.tsp_cost.specs.states.Views.{HasFound}
-use Rattle.tsp_cost.proofs.Problems.{pairs_of}
+use Rattle.tsp_cost.proofs.OneProblem.{pairs_of}
 use Rattle.tsp_cost.proofs.instance.Instance.fixed.Goals as goal
 
 pub returns-in-Some-clause-few : goal.returns-in-Some-clause-few

@@ -5,7 +5,7 @@ use Rattle.std.specs.Option.{option_map}
 use Rattle.tsp_format.specs.declared.layout.Layout.TheVariants.{FullMatrix}
 use Rattle.tsp_format.specs.declared.kinds.WeightFormat.TheVariants.{Listed}
 use Rattle.tsp_cost.specs.states.Views.{HasFound}
-use Rattle.tsp_cost.proofs.Problems.{of_weights}
+use Rattle.tsp_cost.proofs.OneProblem.{of_weights}
 use Rattle.tsp_cost.proofs.instance.Instance.listed_view.Goals as goal
 
 -- plan: by the layout, full or half: the costs are those of the listed weights (`of_weights`)

@@ -1,6 +1,6 @@
 -- The goals of `LeafWeights::of` in src/leaf_weights.rt, which makes the weights of a leaf: what its value keeps.
 use Rattle.tsp_routing.proofs.Prelude.{◌≡◌, ◌∙◌, ℕ, ℤ, List, length, subst, sym, arith, rules, FitsSigned, pos, neg_ℤ, Vec, w64, ints, to_z-of_z, length-map, recursion_from_All, All-from_recursion, IsFromTo, lists_of, lent_in, IsSetTable, sets_tell_combs}
-use Rattle.tsp_cases.specs.states.Kept.{AreMoved}
+use Rattle.tsp_cases.specs.states.Sets.{AreMoved}
 use Rattle.tsp_routing.specs.PlanVerdicts.{most_of_multipliers}
 use Rattle.tsp_routing.proofs.RouteProducts.{each_small, signed_crossings}
 use Rattle.tsp_routing.proofs.leaf_weights.LeafWeights.of.Goals as goal
