@@ -10,8 +10,9 @@ class Kind(Enum):
 
     CODE = ("code", "Change a body freely, as long as it still satisfies its contract. A contract (`requires`, `ensures`, or a `ghost` fact "
                     "of a struct) is a promise: if you change it, you have to prove its users again.")
-    EXPORTS = ("list of modules and exports", "Other crates can use only what it exports.")
-    LAWS = ("laws", "A law does nothing when it is called: its contract is a theorem on which its callers' proofs rest.")
+    EXPORTS = ("list of modules and exports", "Other crates can use only what it exports. Add an export freely; if you drop one, mend the crates that import it.")
+    LAWS = ("laws", "A law does nothing when it is called: its contract is a theorem on which its callers' proofs rest. Change its proof freely, "
+                    "but not what it says.")
     EXAMPLES = ("laws with examples", "Each contract states values worked out by hand. Correct a value only if it is wrong by the pages, not "
                                       "to make a proof go through.")
     TESTS = ("code for tests", "Nothing that users run depends on it.")

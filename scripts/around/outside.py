@@ -131,8 +131,8 @@ class Outside:
         kept = "it is" if place["path"] == str(path) else "it belongs to"
         suites = [f"suites of ./check that run it: {', '.join(found)}"] if (found := self.suites(path)) else []
         parts = [("where", [it for it in (self.head(path), f"{kept}: {place['is']}") if it]),
-                 ("users", [*suites, *(["files that name it", *users] if users else ["no other file names it"])]),
-                 ("rule", ["All proofs depend on it." if place["path"] in PROVED else "No proof depends on it.", place["may"]]),
+                 ("who uses it", [*suites, *(["files that name it", *users] if users else ["no other file names it"])]),
+                 ("what you may change", ["All proofs depend on it." if place["path"] in PROVED else "No proof depends on it.", place["may"]]),
                  ("after a change", place["run"] or ["nothing"])]
         found = [f"{path}: {outside}{count}"]
         for title, told in parts:

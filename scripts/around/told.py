@@ -65,8 +65,8 @@ class Told:
         return found
 
     def all_parts(self) -> list[str]:
-        parts = [("where", self.where()), ("users", self.who_uses()), ("uses", self.what_it_uses()),
-                 ("rule", self.rule()), ("after a change", self.to_run())]
+        parts = [("where", self.where()), ("who uses it", self.who_uses()), ("what it uses", self.what_it_uses()),
+                 ("what you may change", self.rule()), ("after a change", self.to_run())]
         found = [f"{self.path.relative_to(ROOT) if ROOT in self.path.parents else self.path}: {self.about_kind()}"]
         for title, told in parts:
             found += ["", title, *(line for text in told for line in self.wrapped(text))] if told else []

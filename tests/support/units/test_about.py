@@ -103,7 +103,7 @@ class Here(unittest.TestCase):
         for path in files.values():
             told = Told(self.users, path, has_all=False).lines()
             self.assertLessEqual(len(told), MOST_LINES, path)
-            self.assertLessEqual({"where", "users", "rule", "after a change"}, set(told), path)
+            self.assertLessEqual({"where", "who uses it", "what you may change", "after a change"}, set(told), path)
 
     def test_definitions(self) -> None:
         told = Told(self.users, ROOT / "crates/tsp_theory/specs/Tour.antt", has_all=True).lines()
@@ -150,7 +150,7 @@ class Others(unittest.TestCase):
     def test_lines(self) -> None:
         told = self.outside.lines(PurePath("bench/whole"))
         self.assertIn("  Times whole runs of the program, and compares them with a native program: bench/whole [PROGRAM] [--rows TEXT]", told)
-        self.assertLessEqual({"where", "users", "rule", "after a change"}, set(told))
+        self.assertLessEqual({"where", "who uses it", "what you may change", "after a change"}, set(told))
 
     def test_heads(self) -> None:
         self.assertEqual(first_remark('#!/usr/bin/env python3\n"""One\nthing.\n\nMore."""\nx = """y"""\n'), "One thing.")
