@@ -1,10 +1,10 @@
--- The goals of `PointList::push_read` in src/node_sections.rt, which takes the number of a word, if it fits the group:
--- what it ensures.
+-- The goals of `PointList::push_read` in src/node_sections.rt, which takes a number as the node of a new group: what it
+-- ensures.
 use Rattle.tsp_read.proofs.Prelude.{rules, arith, FitsSigned, w64, to_z-of_z, points_of}
 use Rattle.tsp_read.proofs.CoordSteps.{node_taken}
 use Rattle.tsp_read.proofs.node_sections.PointList.push_read.Goals as goal
 
--- plan: by the word's place: a node (`node_taken`), or a coordinate that is put to it
+-- plan: no group has begun, and the number is that of a node without one (`node_taken`)
 pub returns-in-Some-clause-taken : goal.returns-in-Some-clause-taken
 returns-in-Some-clause-taken c = λ taken in_space n words word whole h.
     let s = c.args.self.now in
