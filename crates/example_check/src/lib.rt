@@ -1,4 +1,4 @@
-//! An example of how to use the libraries, shown in README.md: it judges a tour of an instance,
+//! An example of how to call the proved code from another crate: it judges a tour of an instance,
 //! both given as bytes in memory.
 #![tactic(auto)]
 

@@ -1,4 +1,4 @@
-//! What each verb does, given readers for its files and a writer for its output.
+//! What each command does, given readers for its files and a writer for its output.
 //!
 //! A check reads an instance, a solution and a certificate, and writes a report. Its contract says
 //! what the line `yes` means. [`perform`] runs the verb of a task. This crate opens no files and
