@@ -43,7 +43,8 @@ def table_of_walks(all_walks: Iterable[Walk]) -> list[str]:
 
 def list_of_walks(all_walks: Iterable[Walk]) -> list[str]:
     """How many files of how many crates each walk has."""
-    return [f"- `{walk.name}`: {walk.figures()[1]} files, {walk.figures()[2]} crates" for walk in all_walks]
+    rows = [f"- `{walk.name}`: {walk.figures()[1]} and {walk.figures()[2]}" for walk in all_walks]
+    return ["Each walk passes through this many files and crates:", "", *rows]
 
 
 def list_of_crates(crates: dict[str, Crate]) -> list[str]:
