@@ -60,7 +60,7 @@ named() {
             'complete -c tsp '*) line="complete -c $name ${line#complete -c tsp }" ;;
             'complete '*' tsp') line="${line%tsp}$name" ;;
             '#compdef tsp') line="#compdef $name" ;;
-            '.B tsp' | '.B tsp '* | '$ tsp '*) line="${line%%tsp*}$name${line#*tsp}" ;;
+            '.B tsp' | '.B tsp '* | '.BR tsp '* | '$ tsp '* | '    tsp '*) line="${line%%tsp*}$name${line#*tsp}" ;;
             'tsp \- '*) line="$name${line#tsp}" ;;
         esac
         printf '%s\n' "$line"
@@ -86,7 +86,7 @@ for program in tsp-certify tsp-potentials; do
     [ -f "$here/bin/$program" ] || continue
     mkdir -p "$prefix/share/man/man1"
     cp "$here/bin/$program" "$prefix/bin/$program"
-    cp "$here/share/man/man1/$program.1" "$prefix/share/man/man1/$program.1"
+    named "share/man/man1/$program.1" "share/man/man1/$program.1"
     producer="$producer bin/$program share/man/man1/$program.1"
 done
 for part in lib include share/doc share/yokecairn; do

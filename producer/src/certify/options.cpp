@@ -4,16 +4,19 @@
 #include <utility>
 #include <vector>
 
+#include "reading/tsp_program.h"
 #include "running/refusal.h"
 #include "running/writing.h"
 
 namespace certify {
 namespace {
-constexpr const char* kFooter =
-    "The certificate isn't proved here. This command judges it:\n"
-    "  tsp check INSTANCE TOUR --branches CERTIFICATE\n"
-    "\n"
-    "Exit status: 0 files written, 2 something was wrong, 130 files written after SIGINT, 143 after SIGTERM";
+// What --help ends with.
+std::string footer() {
+  return "The certificate isn't proved here. This command judges it:\n  " + name_of_tsp() +
+         " check INSTANCE TOUR --branches CERTIFICATE\n\n"
+         "Exit status: 0 files written, 2 something was wrong, 130 files written after SIGINT, 143 after "
+         "SIGTERM";
+}
 
 // The words by which machines share a tree.
 void declare_trees(CLI::App& app, Options& options) {
@@ -79,7 +82,7 @@ void declare(CLI::App& app, Options& options) {
       ->group("");
   declare_common(app, options);
   declare_trees(app, options);
-  app.footer(kFooter);
+  app.footer(footer());
 }
 }  // namespace
 

@@ -86,9 +86,11 @@ double Ascent::seconds_for(int steps) {
 }
 
 double Ascent::steps_in(double seconds) {
+  const double begin = certify::Clock::since_start(timing_);
   const double none = seconds_for(0);
   const double step = std::max((seconds_for(100) - none) / 100, 1e-9);
-  return (seconds - none) / step;
+  const double timed = certify::Clock::since_start(timing_) - begin;
+  return (seconds - timed - none) / step;
 }
 
 void Ascent::take_exact(const std::vector<Edge>& tree) {

@@ -18,7 +18,7 @@ class Ascent {
   explicit Ascent(const Problem& problem, bool of_processors = false);
   // Seconds that this many steps take, by timing a step and the search for candidates.
   double seconds_for(int steps);
-  // As many steps take this time, by timing some.
+  // As many steps take this time, by timing some, for which it also has to do.
   double steps_in(double seconds);
   // Called after each step with its number and the best bound of the candidate graph; false ends the ascent.
   using Watch = std::function<bool(int, double)>;

@@ -2,16 +2,20 @@
 
 #include <CLI/CLI.hpp>
 
+#include "reading/tsp_program.h"
 #include "running/writing.h"
 
 namespace potentials {
 namespace {
-constexpr const char* kFooter =
-    "The potentials aren't proved here. These commands judge them:\n"
-    "  tsp bound INSTANCE --potentials POTENTIALS\n"
-    "  tsp check INSTANCE TOUR --potentials POTENTIALS\n"
-    "\n"
-    "Exit status: 0 files written, 2 something was wrong, 130 files written after SIGINT, 143 after SIGTERM";
+// What --help ends with.
+std::string footer() {
+  const std::string tsp = certify::name_of_tsp();
+  return "The potentials aren't proved here. These commands judge them:\n  " + tsp +
+         " bound INSTANCE --potentials POTENTIALS\n  " + tsp +
+         " check INSTANCE TOUR --potentials POTENTIALS\n\n"
+         "Exit status: 0 files written, 2 something was wrong, 130 files written after SIGINT, 143 after "
+         "SIGTERM";
+}
 
 void declare(CLI::App& app, Options& options) {
   certify::declare_files(
@@ -32,7 +36,7 @@ void declare(CLI::App& app, Options& options) {
       "processor seconds, instead of --seconds")
       ->check(certify::need_positive, "POSITIVE");
   certify::declare_common(app, options);
-  app.footer(kFooter);
+  app.footer(footer());
 }
 }  // namespace
 

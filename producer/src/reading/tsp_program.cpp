@@ -134,6 +134,14 @@ std::string call_of_tsp(const std::optional<std::string>& named) {
   return is_on_path ? place.filename() : place;
 }
 
+std::string name_of_tsp() {
+  try {
+    return fs::path(place_of_tsp(std::nullopt)).filename();
+  } catch (const Refusal&) {
+    return "tsp";
+  }
+}
+
 std::string command_of(const std::vector<std::string>& words) {
   const auto is_plain = [](char letter) {
     return std::isalnum(static_cast<unsigned char>(letter)) != 0 ||

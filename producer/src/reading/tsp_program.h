@@ -12,6 +12,8 @@ std::string find_tsp(const std::optional<std::string>& named);
 // How a command calls the program that find_tsp finds: as it was named, by its name alone if that leads to it
 // on PATH, or else by its path.
 std::string call_of_tsp(const std::optional<std::string>& named);
+// The name of the program that a run without --tsp finds, or "tsp" where it finds none.
+std::string name_of_tsp();
 // A command as a shell takes it: words with other characters than those of most paths are quoted.
 std::string command_of(const std::vector<std::string>& words);
 // The canonical text of a file, which `tsp convert` prints. Other words may follow the path.
