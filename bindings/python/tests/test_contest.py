@@ -232,7 +232,7 @@ class Contests(unittest.TestCase):
             "not accepted: dairy, ant: LengthClaimed 231: it claims 230", "not accepted: dairy, cat: missing",
             "not accepted: harbour, cat: missing", "not accepted: rectangle, cat: RepeatedNode 3",
         ])
-        self.assertEqual(lines[4], "no best-known length has the NAME of dairy")
+        self.assertEqual(lines[4], "no best-known length has the NAME of dairy, dairy-n8-k2")
         self.assertNotIn("best-known", str(yokecairn.table(self.top, workers=2)))
         lines = lines[1:]
         self.assertEqual(lines[4].split(), ["instance", "best", "bound", "ant", "bee", "cat"])

@@ -252,7 +252,8 @@ def _judged(job: _Job) -> Standing:
         best = judge.best(job.best)
     except BestUnknown:
         best = None
-    return Standing(basis, best, {place: judge.outcome(path) for place, path in job.solutions.items()})
+    outcomes = {place: judge.outcome(path) for place, path in job.solutions.items()}
+    return Standing(basis, best, outcomes, name=judge.name)
 
 
 def table(

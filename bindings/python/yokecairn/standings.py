@@ -42,12 +42,13 @@ Place = Tuple[str, str, str]
 
 class Standing(NamedTuple):
     """What comes of the solutions of an instance, by their solvers and runs, and what is known of all. Where the instance or
-    the certificate is faulty, `fault` says so."""
+    the certificate is faulty, `fault` says so. `name` is the instance's NAME."""
 
     basis: Optional[Basis]
     best: Optional[int]
     outcomes: Dict[Tuple[str, str], Outcome]
     fault: Optional[Exception] = None
+    name: str = ""
 
 
 class Table:
@@ -103,7 +104,7 @@ class Table:
         return [self._row(instance, solver) for instance in self.instances for solver in self.solvers]
 
     def _row(self, instance: str, solver: str) -> Dict[str, Any]:
-        basis, best, _, fault = self._found[instance]
+        basis, best, _, fault, _ = self._found[instance]
         runs = self.as_runs(instance, solver)
         accepted = [row for row in runs if row["verdict"] in _ACCEPTED]
         row: Dict[str, Any] = dict.fromkeys(COLUMNS)
@@ -163,7 +164,7 @@ class Table:
         """The cells of the table: a line of names, one for each instance, and those of sums."""
         grid = [["instance", "best", "bound", *self.solvers]]
         for instance in self.instances:
-            basis, best, _, _ = self._found[instance]
+            basis, best, *_ = self._found[instance]
             known = ["" if it is None else str(it) for it in (best, None if basis is None else basis.bound)]
             grid.append([instance, *known, *(self._cell(instance, solver) for solver in self.solvers)])
         sums = self.as_sums()
@@ -203,13 +204,18 @@ class Table:
         told += [f"not judged of {instance}: {', '.join(it.not_judged)}" for instance, it in bases if it and it.not_judged]
         unknown = [name for name in self.instances if self._found[name].best is None and self._found[name].fault is None]
         is_known = any(it.best is not None for it in self._found.values())
-        told += [f"no best-known length has the NAME of {name}" for name in unknown if is_known]
+        told += [f"no best-known length has the NAME of {name}{self._own_name(name)}" for name in unknown if is_known]
         return [*told, *self._below_bound(), *self._times_alone()]
+
+    def _own_name(self, instance: str) -> str:
+        """The NAME of an instance behind a comma, as a line of best-known lengths has to begin with it."""
+        own = self._found[instance].name
+        return f", {readable(own)}" if own else ""
 
     def _below_bound(self) -> Iterable[str]:
         """Which best-known lengths no solution can have."""
         for name in self.instances:
-            basis, best, _, _ = self._found[name]
+            basis, best, *_ = self._found[name]
             bound = None if basis is None else basis.bound
             if best is not None and bound is not None and best < bound:
                 yield f"no solution of {name} has the best-known length {best}: the bound {bound} is above it"
@@ -234,7 +240,7 @@ class Table:
         """All of it as numbers, texts and lists that `json.dumps` takes, by the schema in standings.schema.json."""
         instances = []
         for name in self.instances:
-            basis, best, _, fault = self._found[name]
+            basis, best, _, fault, _ = self._found[name]
             known: Dict[str, Any] = {"type": None, "nodes": None, "bound": None, "not_judged": []}
             if basis is not None:
                 known = {"type": basis.type, "nodes": basis.nodes, "bound": basis.bound, "not_judged": list(basis.not_judged)}
