@@ -9,7 +9,7 @@ use crate::picked_runs::{bound_asked, certificate_of, claim_of, layout_of, stric
 use std::alloc::{AllocError, Global};
 use std::str;
 use tsp_judge::{
-    Output, ReadFault, RunFault, Status, Watched, explain_fault, explain_outcome, perform,
+    FileName, Output, ReadFault, RunFault, Status, Watched, explain_fault, explain_outcome, perform,
 };
 use tsp_report::{FileTask, Task};
 
@@ -46,6 +46,12 @@ pub(crate) struct Texts<'a> {
 struct Named<'a> {
     bytes: &'a [u8],
     name: &'a str,
+}
+
+impl FileName for Named<'_> {
+    fn name(&self) -> &str {
+        self.name
+    }
 }
 
 /// The explanation of the result of a call on these texts, with its status.
@@ -101,18 +107,16 @@ fn task_of<'a>(numbers: Numbers, texts: Texts<'a>) -> Option<FileTask<Named<'a>>
 
 /// Appends the explanation of the result of a task on texts.
 fn explain(alloc: Global, text: &mut Vec<u8>, task: FileTask<Named<'_>>) -> Result<(), AllocError> {
-    let mut readers = task.map(|file| Watched::new(file.bytes));
     let mut report = Output::new(Vec::new(alloc));
-    let ended = perform(alloc, &mut readers, &mut report);
+    let ended = perform(alloc, &task, |file| Watched::new(file.bytes), &mut report);
     drop(report);
     let task = Task::Files(task);
-    let names = task.map(|file| file.name);
     match ended {
-        Ok(outcome) => explain_outcome(alloc, text, &names, &outcome),
+        Ok(outcome) => explain_outcome(alloc, text, &task, &outcome),
         Err(error) => {
             let fault = error.fault();
             let again = again(&task, fault)?;
-            explain_fault(alloc, text, &names, again, None, fault)
+            explain_fault(alloc, text, &task, again, None, fault)
         }
     }
 }

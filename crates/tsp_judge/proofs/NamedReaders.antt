@@ -1,10 +1,30 @@
--- Runs in which a certificate may be named (src/check_run.rt, src/compare_run.rt, src/task_run.rt and src/api.rt): a
--- statement on the certificate's reader follows from a stronger one, and holds if nobody asks the reader.
-use Rattle.tsp_judge.proofs.Prelude.{ℕ, List, [], Option, None, Some, Result, refl, Keeps-refl, read_none, CertificateKind}
+-- Runs in which a certificate may be named (src/check_run.rt, src/compare_run.rt, src/task_run.rt and src/api.rt): what
+-- is read by its opened reader is read at its place, a statement on the reader follows from a stronger one, and holds if
+-- nobody asks the reader.
+use Rattle.tsp_judge.proofs.Prelude.{ℕ, List, [], Option, None, Some, Result, refl, Keeps-refl, read_none, read_trace_of, subst, CertificateKind}
 use Rattle.std.specs.declared.io.Error.{Error}
 use Rattle.tsp_io.specs.declared.watched.Watched.{Watched}
 use Rattle.tsp_judge.specs.CheckRun.{Given, IsUnreadIn, TakesNamed, IsNamedReadOn}
+use Rattle.tsp_judge.specs.TaskRun.{IsNamedOpened, ReadsNamedAt}
 use Rattle.tsp_judge.proofs.Yeses.{none_taken}
+
+-- the certificate is opened and read, if one is named
+pub named_at : {P R : Type 0} (remaining : R → Option (List ℕ)) (gives : R → List ℕ → Result ℕ Error → List ℕ → R → Type 0)
+    (opens : P → Watched R → Type 0) (named : Option (CertificateKind × P)) (old new : Option (CertificateKind × Watched R))
+    (Q : Given → Type 0) → IsNamedOpened opens named old → IsNamedReadOn gives old new → TakesNamed remaining old new Q
+    → ReadsNamedAt remaining gives opens named Q
+named_at remaining gives opens None None None Q opened asked taken = taken
+named_at remaining gives opens None None (Some left) Q opened asked taken = absurd taken
+named_at remaining gives opens None (Some reader) new Q opened asked taken = absurd opened
+named_at remaining gives opens (Some place) None new Q opened asked taken = absurd opened
+named_at remaining gives opens (Some place) (Some reader) None Q opened asked taken = absurd taken
+named_at remaining gives opens (Some place) (Some reader) (Some left) Q opened asked taken = (
+  reader.1,
+  left.1,
+  opened.1,
+  asked,
+  (taken.0, taken.1, subst (λ (by : CertificateKind). Q (Some (by, read_trace_of remaining reader.1 left.1 taken.0))) opened.0 taken.2),
+)
 
 -- a statement on the certificate that is named, by one that implies it
 pub named_by : {R : Type 0} (remaining : R → Option (List ℕ)) (old new : Option (CertificateKind × Watched R)) (P Q : Given → Type 0)

@@ -15,7 +15,6 @@ ghost use Rattle.tsp_read.specs.declared.ReadFault.{ReadFault};
 ghost use Rattle.tsp_read.specs.declared.ReadFault.TheVariants as read_faults;
 ghost use Rattle.tsp_verdict.specs.Examples.{instance_with, with_unknown};
 ghost use Rattle.tsp_report.specs.declared.task.CertificateKind.TheVariants as certificates;
-ghost use Rattle.tsp_report.specs.declared.task.Comparison.{Comparison};
 ghost use Rattle.tsp_report.specs.declared.task.FileTask.TheVariants as file_tasks;
 ghost use Rattle.tsp_report.specs.declared.verdict.Reason.{Reason};
 ghost use Rattle.tsp_report.specs.declared.verdict.Reason.TheVariants as reasons;
@@ -23,10 +22,11 @@ ghost use Rattle.tsp_report.specs.declared.verdict.Verdict.TheVariants as verdic
 ghost use Rattle.tsp_judge.specs.BoundRun.{IsBoundRun, BoundsFiles, IsBoundRunOf};
 ghost use Rattle.tsp_judge.specs.CheckRun.{Given, IsUnreadIn, IsSomeFile, IsRun, JudgesFiles, WritesReport, IsRunOf};
 ghost use Rattle.tsp_judge.specs.RunStatus.{run_fault_text, status_number};
-ghost use Rattle.tsp_judge.specs.CompareRun.{ComparesNone, ComparesOn, IsFaultOfCompare, IsReadTraceAt, largest_status, all_solution_lines};
+ghost use Rattle.tsp_judge.specs.CompareRun.{ComparesNone, ComparesOn, IsFaultOfCompare, IsCompareRun, IsReadTraceAt, largest_status, all_solution_lines};
 ghost use Rattle.tsp_judge.specs.ConvertRun.{IsConvertRun, IsShowRun};
-ghost use Rattle.tsp_judge.specs.TaskRun.{AreComparedOn, AreReadOn, IsCompared, IsDone, is_yes_outcome, outcome_of_bound, outcome_of_check};
+ghost use Rattle.tsp_judge.specs.TaskRun.{IsDone, IsNamedOpened, is_yes_outcome, outcome_by};
 ghost use Rattle.tsp_io.specs.declared.watched.Watched.{Watched};
+ghost use Rattle.tsp_io.specs.states.Watched.{watched};
 ghost use Rattle.tsp_judge.specs.declared.bound_run.Bounded.{Bounded};
 ghost use Rattle.tsp_judge.specs.declared.check_run.Judged.{Judged};
 ghost use Rattle.tsp_judge.specs.declared.compare_run.ComparisonContext.{ComparisonContext};
@@ -258,65 +258,49 @@ pub fn examples_of_outcomes()
         → is_yes_outcome (outcomes.Bounded bounded) ≡ false }
 {}
 
-/// The task of a check is run with its claim and its certificate, and that of a bound with its
-/// certificate.
-pub fn examples_of_done_tasks<R: Read>()
-    ensures claimed { (instance solution instance_left solution_left : Watched R) (claimed : Option ℤ) (strict : Bool) (sink : Sink)
+/// Each file of a task is opened at its own place, read, and asked. The task of a check is run with
+/// its claim and its certificate, and that of a bound with its certificate. A fault of the
+/// certificate of a comparison is one of file 2. Here, places are readers.
+pub fn examples_of_done_tasks<R: Gives>()
+    ensures converted { (a : R) (to : Option Layout) (sink : Sink) (outcome : Result Outcome RunFault)
+        → IsDone R.remaining R.gives (λ place reader. watched reader ≡ place) (file_tasks.Convert a to) sink outcome
+        → (file left : Watched R) × (watched file ≡ a) × IsReadOn R.gives file left
+        × TakesAtMost most_taken (read_trace_of R.remaining file left) (λ read_trace. (ended : Result (Unit {0}) RunFault)
+        × (outcome ≡ outcome_by (λ done. outcomes.Done) ended) × IsConvertRun to read_trace sink ended) }
+    ensures claimed { (a b : R) (claimed : Option ℤ) (strict : Bool) (sink : Sink) (outcome : Result Outcome RunFault)
+        → IsDone R.remaining R.gives (λ place reader. watched reader ≡ place) (file_tasks.Check a b None claimed strict) sink outcome
+        → (instance instance_left solution solution_left : Watched R) × (watched instance ≡ a) × (watched solution ≡ b)
+        × IsReadOn R.gives instance instance_left × IsReadOn R.gives solution solution_left
+        × TakesAtMost most_taken (read_trace_of R.remaining instance instance_left) (λ first.
+        TakesAtMost most_taken (read_trace_of R.remaining solution solution_left) (λ second. (ended : Result Judged RunFault)
+        × (outcome ≡ outcome_by outcomes.Judged ended) × IsRunOf None claimed strict first second sink ended)) }
+    ensures certified { (by : CertificateKind) (a b d : R) (claimed : Option ℤ) (strict : Bool) (sink : Sink)
         (outcome : Result Outcome RunFault)
-        → IsDone R.remaining (file_tasks.Check instance solution None claimed strict)
-        (file_tasks.Check instance_left solution_left None claimed strict) sink outcome
-        → (first second : ReadTrace) × (ended : Result Judged RunFault) × (outcome ≡ outcome_of_check ended)
-        × IsRunOf None claimed strict first second sink ended }
-    ensures certified { (by : CertificateKind) (instance solution certificate instance_left solution_left certificate_left : Watched R)
-        (claimed : Option ℤ) (strict : Bool) (sink : Sink) (outcome : Result Outcome RunFault)
-        → IsDone R.remaining (file_tasks.Check instance solution (Some (by, certificate)) claimed strict)
-        (file_tasks.Check instance_left solution_left (Some (by, certificate_left)) claimed strict) sink outcome
-        → (first second third : ReadTrace) × (ended : Result Judged RunFault) × (outcome ≡ outcome_of_check ended)
-        × IsRunOf (Some (by, third)) claimed strict first second sink ended }
-    ensures bounded { (by : CertificateKind) (instance certificate instance_left certificate_left : Watched R) (strict : Bool) (sink : Sink)
-        (outcome : Result Outcome RunFault)
-        → IsDone R.remaining (file_tasks.Bound instance (by, certificate) strict)
-        (file_tasks.Bound instance_left (by, certificate_left) strict) sink outcome
-        → (first second : ReadTrace) × (ended : Result Bounded RunFault) × (outcome ≡ outcome_of_bound ended)
-        × IsBoundRunOf by strict first second sink ended }
-{}
-
-/// Which reader has which file: a fault of the instance belongs to file 1, and a fault of the
-/// certificate of a comparison to file 2. A file is put into the layout of its task.
-pub fn examples_of_readers<R: Gives>()
-    ensures instance { (instance solution instance_left solution_left : Watched R) (sink : Sink) (fault : ReadFault)
-        → TakesAtMost most_taken (read_trace_of R.remaining instance instance_left) (StopsAt fault)
-        → TakesAtMost most_taken (read_trace_of R.remaining solution solution_left) IsUnread → IsUnwritten sink
-        → IsDone R.remaining (file_tasks.Check instance solution None None false)
-        (file_tasks.Check instance_left solution_left None None false)
-        sink (Err (run_faults.File 1 fault)) }
-    ensures layout { (file left : Watched R) (to : Layout) (sink : Sink) (fault : RelayoutFault)
-        → TakesAtMost most_taken (read_trace_of R.remaining file left) (λ read_trace.
-        IsConvertRun (Some to) read_trace sink (Err (run_faults.Relayout fault)))
-        → IsDone R.remaining (file_tasks.Convert file (Some to)) (file_tasks.Convert left (Some to)) sink
-        (Err (run_faults.Relayout fault)) }
-    ensures compared { (by : CertificateKind) (old new : Comparison (Watched R)) (certificate left : Watched R)
-        (names : List (List ℕ)) (sink : Sink) (fault : ReadFault)
-        → old.certificate ≡ Some (by, certificate) → new.certificate ≡ Some (by, left)
-        → TakesAtMost most_taken (read_trace_of R.remaining old.instance new.instance) IsSomeFile
-        → TakesAtMost most_taken (read_trace_of R.remaining certificate left) (StopsAt fault) → IsUnwritten sink
-        → IsCompared R.remaining R.gives (λ index reader. index ≡ index) names old new sink (Err (run_faults.File 2 fault)) }
-{}
-
-/// Each reader of a task or a comparison is asked, including the certificate's. No file is taken
-/// for another.
-pub fn examples_of_asked_readers<R: Gives>()
-    ensures solution { (instance solution instance_left solution_left : Watched R) (claimed same : Option ℤ) (strict also : Bool)
-        → AreReadOn R.gives (file_tasks.Check instance solution None claimed strict) (file_tasks.Check instance_left solution_left None same also)
-        → IsReadOn R.gives solution solution_left }
-    ensures certificate { (by kept : CertificateKind) (a b c x y z : Watched R) (claimed same : Option ℤ) (strict also : Bool)
-        → AreReadOn R.gives (file_tasks.Check a b (Some (by, c)) claimed strict) (file_tasks.Check x y (Some (kept, z)) same also)
-        → IsReadOn R.gives c z }
-    ensures bound { (by kept : CertificateKind) (a c x z : Watched R) (strict also : Bool)
-        → AreReadOn R.gives (file_tasks.Bound a (by, c) strict) (file_tasks.Bound x (kept, z) also) → IsReadOn R.gives c z }
-    ensures compared { (by : CertificateKind) (old new : Comparison (Watched R)) (c z : Watched R)
-        → old.certificate ≡ Some (by, c) → new.certificate ≡ Some (by, z) → AreComparedOn R.gives old new
-        → IsReadOn R.gives c z }
+        → IsDone R.remaining R.gives (λ place reader. watched reader ≡ place) (file_tasks.Check a b (Some (by, d)) claimed strict) sink outcome
+        → (instance instance_left solution solution_left certificate certificate_left : Watched R)
+        × (watched instance ≡ a) × (watched solution ≡ b) × (watched certificate ≡ d)
+        × IsReadOn R.gives certificate certificate_left
+        × TakesAtMost most_taken (read_trace_of R.remaining instance instance_left) (λ first.
+        TakesAtMost most_taken (read_trace_of R.remaining solution solution_left) (λ second.
+        TakesAtMost most_taken (read_trace_of R.remaining certificate certificate_left) (λ third. (ended : Result Judged RunFault)
+        × (outcome ≡ outcome_by outcomes.Judged ended) × IsRunOf (Some (by, third)) claimed strict first second sink ended))) }
+    ensures bounded { (by : CertificateKind) (a d : R) (strict : Bool) (sink : Sink) (outcome : Result Outcome RunFault)
+        → IsDone R.remaining R.gives (λ place reader. watched reader ≡ place) (file_tasks.Bound a (by, d) strict) sink outcome
+        → (instance instance_left certificate certificate_left : Watched R) × (watched instance ≡ a) × (watched certificate ≡ d)
+        × IsReadOn R.gives certificate certificate_left
+        × TakesAtMost most_taken (read_trace_of R.remaining instance instance_left) (λ first.
+        TakesAtMost most_taken (read_trace_of R.remaining certificate certificate_left) (λ second. (ended : Result Bounded RunFault)
+        × (outcome ≡ outcome_by outcomes.Bounded ended) × IsBoundRunOf by strict first second sink ended)) }
+    ensures compared { (by : CertificateKind) (strict : Bool) (first second : ReadTrace) (names : List (List ℕ)) (sink : Sink)
+        (fault : ReadFault)
+        → IsSomeFile first → StopsAt fault second → IsUnwritten sink
+        → IsCompareRun strict R.remaining R.gives (λ index reader. index ≡ index) names (Some (by, second)) first sink
+        (Err (run_faults.File 2 fault)) }
+    ensures other_kind { (a : R) (reader : Watched R) → ¬ IsNamedOpened (λ place reader. watched reader ≡ place)
+        (Some (certificates.Branches, a)) (Some (certificates.Potentials, reader)) }
+    ensures dropped { (by : CertificateKind) (a : R) → ¬ IsNamedOpened (λ place reader. watched reader ≡ place) (Some (by, a)) None }
+    ensures unasked { (by : CertificateKind) (reader : Watched R) → ¬ IsNamedOpened (λ place reader. watched reader ≡ place) None (Some (by, reader)) }
+    ensures failed { ¬ (outcome_by outcomes.Judged (Err run_faults.WrongKind) ≡ Ok outcomes.Done) }
 {}
 
 /// Which writers a failed write may leave behind: one whose write took nothing, but none whose

@@ -17,16 +17,22 @@ use tsp_io::WriteFault;
 use tsp_report::{CertificateKind, FileTask, Role, Task};
 use tsp_verdict::Verdict;
 
+/// A file of a task that is explained.
+pub trait FileName {
+    /// What the user calls it.
+    fn name(&self) -> &str;
+}
+
 /// Explains a line `no` by the files that were judged. After `yes`, says whether a comment in the
 /// solution claims another length.
 ///
 /// # Errors
 ///
 /// Out of memory. Part of the explanation may have been appended.
-pub fn explain_outcome<'a>(
+pub fn explain_outcome<'a, F: FileName>(
     alloc: Global,
     text: &mut Vec<u8>,
-    names: &Task<'_, &'a str>,
+    task: &'a Task<'_, F>,
     outcome: &'a Outcome,
 ) -> Result<(), AllocError>
     ensures { StartsWith text.new.items text.old.items }
@@ -35,7 +41,7 @@ pub fn explain_outcome<'a>(
         Outcome::Done => Ok(()),
         Outcome::Judged(judged) => {
             let files = Files {
-                names: names_of(names, ""),
+                names: names_of(task, ""),
                 instance: &judged.instance,
                 solution: Some(&judged.solution),
                 certificate: file_of(&judged.certificate),
@@ -44,7 +50,7 @@ pub fn explain_outcome<'a>(
         }
         Outcome::Bounded(bounded) => {
             let files = Files {
-                names: names_of(names, ""),
+                names: names_of(task, ""),
                 instance: &bounded.instance,
                 solution: None,
                 certificate: Some(&bounded.certificate),
@@ -59,10 +65,10 @@ pub fn explain_outcome<'a>(
 /// # Errors
 ///
 /// Out of memory. Part of the explanation may have been appended.
-pub fn explain_known_bound<'a>(
+pub fn explain_known_bound<'a, F: FileName>(
     alloc: Global,
     text: &mut Vec<u8>,
-    names: &Task<'_, &'a str>,
+    task: &'a Task<'_, F>,
     common: &'a ComparisonContext,
 ) -> Result<(), AllocError>
     ensures { StartsWith text.new.items text.old.items }
@@ -71,7 +77,7 @@ pub fn explain_known_bound<'a>(
         return Ok(());
     };
     let files = Files {
-        names: names_of(names, ""),
+        names: names_of(task, ""),
         instance: &common.instance,
         solution: None,
         certificate: file_of(&common.certificate),
@@ -93,17 +99,17 @@ pub struct Solution<'a> {
 /// # Errors
 ///
 /// Out of memory. Part of the explanation may have been appended.
-pub fn explain_solution<'a>(
+pub fn explain_solution<'a, F: FileName>(
     alloc: Global,
     text: &mut Vec<u8>,
-    names: &Task<'_, &'a str>,
+    task: &'a Task<'_, F>,
     common: &'a ComparisonContext,
     solution: Solution<'a>,
 ) -> Result<(), AllocError>
     ensures { StartsWith text.new.items text.old.items }
 {
     let files = Files {
-        names: names_of(names, solution.name),
+        names: names_of(task, solution.name),
         instance: &common.instance,
         solution: Some(solution.file),
         certificate: file_of(&common.certificate),
@@ -117,10 +123,10 @@ pub fn explain_solution<'a>(
 /// # Errors
 ///
 /// Out of memory. Part of the explanation may have been appended.
-pub fn explain_fault<R: Read + Drop>(
+pub fn explain_fault<F: FileName, R: Read + Drop>(
     alloc: Global,
     text: &mut Vec<u8>,
-    names: &Task<'_, &str>,
+    task: &Task<'_, F>,
     again: Option<R>,
     error: Option<&io::Error>,
     fault: RunFault,
@@ -129,12 +135,12 @@ pub fn explain_fault<R: Read + Drop>(
 {
     match fault {
         RunFault::File { file, fault } => {
-            let (given, name) = named(names, file);
+            let (given, name) = named(task, file);
             explain_file(alloc, text, name, given, again, fault)
         }
         RunFault::WrongKind => {
-            let (_, name) = named(names, 1);
-            explain_wrong_kind(alloc, text, name, is_bound(names), again)
+            let (_, name) = named(task, 1);
+            explain_wrong_kind(alloc, text, name, is_bound(task), again)
         }
         RunFault::Write(fault) => explain_write(alloc, text, fault, error),
         RunFault::OutOfMemory => {
@@ -161,22 +167,22 @@ fn explain_write(
 }
 
 /// The role of the file with this number, and its name.
-fn named<'a>(names: &Task<'_, &'a str>, number: u32) -> (Option<Role>, &'a str) {
-    match names.file(number) {
-        Some((given, name)) => (given, *name),
+fn named<'a, F: FileName>(task: &'a Task<'_, F>, number: u32) -> (Option<Role>, &'a str) {
+    match task.file(number) {
+        Some((given, file)) => (given, file.name()),
         None => (None, ""),
     }
 }
 
 /// The names of the files by their roles. `solution` is the one in a comparison.
-fn names_of<'a>(names: &Task<'_, &'a str>, solution: &'a str) -> Names<'a> {
+fn names_of<'a, F: FileName>(task: &'a Task<'_, F>, solution: &'a str) -> Names<'a> {
     let mut all = Names {
         instance: "",
         solution,
         certificate: "",
     };
     for number in 1..=3 {
-        match named(names, number) {
+        match named(task, number) {
             (Some(Role::Instance), name) => all.instance = name,
             (Some(Role::Solution), name) => all.solution = name,
             (Some(Role::Potentials | Role::Branches), name) => all.certificate = name,

@@ -1,8 +1,8 @@
 //! What each verb does, given readers for its files and a writer for its output.
 //!
 //! A check reads an instance, a solution and a certificate, and writes a report. Its contract says
-//! what the line `yes` means. [`perform`] runs the verb of a task. This crate opens no files and
-//! knows no command line: tsp_tool does that.
+//! what the line `yes` means. [`perform`] runs the verb of a task. This crate knows no paths and no
+//! command line: its callers say how a file is opened.
 //!
 //! The clause `cause` of each run says why its writer failed, if it did: the last write returned an
 //! error, or took no byte of a text. No run flushes its writer, because a `W: Takes` can only
@@ -36,17 +36,16 @@ pub use check_run::{Judged, check_solution, report_verdict};
 pub use compare_run::{Compared, ComparisonContext, Follow, Found, Solutions, run_compare};
 pub use convert_run::{convert_file, show_file};
 pub use examples::{
-    examples_of_answers, examples_of_asked_readers, examples_of_certificates,
+    examples_of_answers, examples_of_certificates,
     examples_of_done_tasks, examples_of_failed_outputs, examples_of_fault_texts,
     examples_of_faulty_files, examples_of_faulty_files_of_bounds,
     examples_of_faulty_files_of_comparisons, examples_of_known_bounds,
     examples_of_largest_statuses, examples_of_lines_of_solutions, examples_of_numbers_of_statuses,
-    examples_of_opened_solutions, examples_of_outcomes, examples_of_readers,
-    examples_of_runs_over_one_file, examples_of_strict_comparisons, examples_of_written_reports,
-    examples_of_wrong_kinds,
+    examples_of_opened_solutions, examples_of_outcomes, examples_of_runs_over_one_file,
+    examples_of_strict_comparisons, examples_of_written_reports, examples_of_wrong_kinds,
 };
 pub use explanation::{
-    Solution, explain_fault, explain_known_bound, explain_outcome, explain_solution,
+    FileName, Solution, explain_fault, explain_known_bound, explain_outcome, explain_solution,
 };
 pub use laws::{
     lines_of_bounded_routes, lines_of_bounded_tours, lines_of_checks,
@@ -55,7 +54,7 @@ pub use laws::{
 };
 pub use opened::{Opened, read_text};
 pub use run_status::{RunError, RunFault, Status, status_of};
-pub use task_run::{Outcome, compare, is_yes_outcome, perform};
+pub use task_run::{Outcome, is_yes_outcome, perform};
 pub use tsp_file::{EndFault, RelayoutFault};
 pub use tsp_format::Layout;
 pub use tsp_io::{Output, Watched, WriteFault};

@@ -1,19 +1,18 @@
-//! `perform` runs a show, convert, check or bound task on open readers; `compare` runs a
-//! comparison. tsp_tool runs every task by these two calls. A new verb is added here.
+//! `perform` runs a show, convert, check or bound task: it opens its files and calls the run of its
+//! verb. tsp_tool runs tasks by it, and tsp_c explains by it. A new verb is added here.
 
-ghost use Rattle.tsp_judge.specs.Prelude.{FailsByWrite, length, sink_of};
+ghost use Rattle.tsp_judge.specs.Prelude.{FailsByWrite, sink_of};
+ghost use Rattle.std.specs.Fn.{FnReturnsAt};
 ghost use Rattle.std.specs.Prelude.{◌≡◌};
-ghost use Rattle.tsp_judge.specs.CompareRun.{IsFollowed};
-ghost use Rattle.tsp_judge.specs.TaskRun.{AreComparedOn, AreReadOn, IsCompared, IsDone, is_yes_outcome, outcome_of_writing, outcome_of_check, outcome_of_bound};
+ghost use Rattle.tsp_judge.specs.TaskRun.{IsDone, IsNamedOpened, is_yes_outcome};
 
 use crate::bound_run::{Bounded, run_bound};
 use crate::check_run::{Judged, check_solution};
-use crate::compare_run::{Compared, Follow, Solutions, run_compare};
 use crate::convert_run::{convert_file, show_file};
 use crate::run_status::RunError;
 use std::alloc::Global;
 use tsp_io::{Gives, Output, Takes, Watched};
-use tsp_report::{Comparison, FileTask};
+use tsp_report::{CertificateKind, FileTask};
 
 /// The result of a task: a verdict, a bound, or that a file was shown or converted.
 #[derive(Drop)]
@@ -37,25 +36,32 @@ pub fn is_yes_outcome(outcome: &Outcome) -> bool
     }
 }
 
-/// Runs the verb of a task: reads its files, and writes the result.
+/// Runs the verb of a task: opens its files by `opening`, reads them, and writes the result.
 ///
 /// The outcome contains the files that were judged.
 ///
 /// # Errors
 ///
 /// Those of the run: `show_file`, `convert_file`, `check_solution` or `run_bound`.
-pub fn perform<R: Gives, W: Takes>(
+pub fn perform<P, R: Gives + Drop, O: Fn(&P) -> Watched<R>, W: Takes>(
     alloc: Global,
-    task: &mut FileTask<Watched<R>>,
+    task: &FileTask<P>,
+    opening: O,
     out: &mut Output<W>,
 ) -> Result<Outcome, RunError>
-    ensures done { IsDone R.remaining task.old task.new (sink_of W.contents out.old out.new) result }
-    ensures asked { AreReadOn R.gives task.old task.new }
+    requires { O.IsAlwaysCallable opening }
+    ensures done { IsDone R.remaining R.gives (FnReturnsAt O.Fn opening) task.now (sink_of W.contents out.old out.new) result }
     ensures cause { FailsByWrite W.takes out.new }
 {
     match task {
-        FileTask::Show { file } => done(show_file(alloc, file, out)),
-        FileTask::Convert { file, layout } => done(convert_file(alloc, file, *layout, out)),
+        FileTask::Show { file } => {
+            let mut reader = opened(&opening, file);
+            show_file(alloc, &mut reader, out).map(|()| Outcome::Done)
+        }
+        FileTask::Convert { file, layout } => {
+            let mut reader = opened(&opening, file);
+            convert_file(alloc, &mut reader, *layout, out).map(|()| Outcome::Done)
+        }
         FileTask::Check {
             instance,
             solution,
@@ -63,72 +69,58 @@ pub fn perform<R: Gives, W: Takes>(
             claimed,
             strict,
         } => {
-            let claimed = *claimed;
+            let mut first = opened(&opening, instance);
+            let mut second = opened(&opening, solution);
+            let mut third = opened_certificate(&opening, certificate);
             let ended = check_solution(
                 alloc,
-                instance,
-                solution,
-                certificate,
-                claimed,
+                &mut first,
+                &mut second,
+                &mut third,
+                *claimed,
                 *strict,
                 out,
             );
-            judged(ended)
+            ended.map(Outcome::Judged)
         }
         FileTask::Bound {
             instance,
-            certificate: (by, file),
+            certificate,
             strict,
-        } => bounded(run_bound(alloc, instance, *by, file, *strict, out)),
+        } => {
+            let mut first = opened(&opening, instance);
+            let mut second = opened(&opening, &certificate.1);
+            let ended = run_bound(
+                alloc,
+                &mut first,
+                certificate.0,
+                &mut second,
+                *strict,
+                out,
+            );
+            ended.map(Outcome::Bounded)
+        }
     }
 }
 
-/// Compares solutions by the instance and the certificate from these readers, and writes a line for
-/// each. Each solution is opened just before it is read. The follower may write to `to`.
-///
-/// # Errors
-///
-/// Those of `run_compare`.
-pub fn compare<R: Gives + Drop, E, S: Solutions<R> + Follow<E>, W: Takes>(
-    alloc: Global,
-    comparison: &mut Comparison<'_, Watched<R>>,
-    solutions: &S,
-    out: &mut Output<W>,
-    to: &mut E,
-) -> Result<Compared, RunError>
-    ensures text { IsCompared R.remaining R.gives (S.opens solutions.now) (S.names solutions.now)
-        comparison.old comparison.new (sink_of W.contents out.old out.new) result }
-    ensures asked { AreComparedOn R.gives comparison.old comparison.new }
-    ensures reported { IsFollowed (S.tells solutions.now) (length (S.names solutions.now)) to.old to.new result }
-    ensures cause { FailsByWrite W.takes out.new }
+/// The file at a place, opened.
+fn opened<P, R, O: Fn(&P) -> Watched<R>>(opening: &O, place: &P) -> Watched<R>
+    requires { O.IsAlwaysCallable opening.now }
+    ensures { FnReturnsAt O.Fn opening.now place.now result }
 {
-    let Comparison {
-        instance,
-        certificate,
-        solutions: _,
-        strict,
-    } = comparison;
-    run_compare(alloc, instance, certificate, solutions, *strict, out, to)
+    opening(place)
 }
 
-/// A file was shown or converted.
-fn done(ended: Result<(), RunError>) -> Result<Outcome, RunError>
-    ensures { result ≡ outcome_of_writing ended }
+/// The file of a certificate, opened, if one is named.
+fn opened_certificate<P, R, O: Fn(&P) -> Watched<R>>(
+    opening: &O,
+    certificate: &Option<(CertificateKind, P)>,
+) -> Option<(CertificateKind, Watched<R>)>
+    requires { O.IsAlwaysCallable opening.now }
+    ensures { IsNamedOpened (FnReturnsAt O.Fn opening.now) certificate.now result }
 {
-    ended?;
-    Ok(Outcome::Done)
-}
-
-/// A solution was judged.
-fn judged(ended: Result<Judged, RunError>) -> Result<Outcome, RunError>
-    ensures { result ≡ outcome_of_check ended }
-{
-    Ok(Outcome::Judged(ended?))
-}
-
-/// A bound was found without a solution, or a reason against it.
-fn bounded(ended: Result<Bounded, RunError>) -> Result<Outcome, RunError>
-    ensures { result ≡ outcome_of_bound ended }
-{
-    Ok(Outcome::Bounded(ended?))
+    match certificate {
+        Some((by, place)) => Some((*by, opened(opening, place))),
+        None => None,
+    }
 }

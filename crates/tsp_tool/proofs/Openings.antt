@@ -1,44 +1,59 @@
--- For src/running.rt: what holds of each path of a task also holds of each file that is opened for it (`task_by`,
--- `comparison_by`), and the explanations of single solutions add up (`tells_more`).
+-- For src/running.rt: a task that is done on files opened in one way is done on files opened in a weaker way (`done_by`),
+-- and the explanations of single solutions add up (`tells_more`).
 use Rattle.tsp_tool.proofs.Prelude.{Option, None, Some, ℕ, zero, suc, Bool, true, false, List, [], ◌++◌, refl, sym, subst, ◌∙◌, Appends-nil, Appends-trans, Result, Ok, Err}
-use Rattle.tsp_report.specs.Tasks.{IsMapped, IsMappedCertificate, IsMappedComparison}
+use Rattle.std.specs.declared.io.Error.{Error}
+use Rattle.tsp_io.specs.Streams.{Sink}
 use Rattle.tsp_report.specs.declared.task.CertificateKind.{CertificateKind}
-use Rattle.tsp_report.specs.declared.task.Comparison.{Comparison}
 use Rattle.tsp_report.specs.declared.task.FileTask.{FileTask}
 use Rattle.tsp_report.specs.declared.task.FileTask.TheVariants.{Show, Convert, Check, Bound}
+use Rattle.tsp_judge.specs.CheckRun.{Given}
 use Rattle.tsp_judge.specs.CompareRun.{AreReported, AreAllReported, IsFollowed}
+use Rattle.tsp_judge.specs.TaskRun.{IsDone, ReadsNamedAt}
+use Rattle.tsp_judge.specs.declared.Watched.{Watched}
 use Rattle.tsp_judge.specs.declared.compare_run.Compared.{Compared}
 use Rattle.tsp_judge.specs.declared.run_status.RunFault.{RunFault}
+use Rattle.tsp_judge.specs.declared.task_run.Outcome.{Outcome}
 use Rattle.tsp_tool.specs.RunEnd.{MayTell}
+use Rattle.tsp_tool.specs.declared.job.InputPath.{InputPath}
 
-certificate_by : {F G : Type 0} (P Q : F → G → Type 0) → ((a : F) (x : G) → P a x → Q a x) → (old : Option (CertificateKind × F)) (new : Option (CertificateKind × G))
-    → IsMappedCertificate P old new → IsMappedCertificate Q old new
-certificate_by P Q implies None None same = same
-certificate_by P Q implies None (Some x) same = absurd same
-certificate_by P Q implies (Some a) None same = absurd same
-certificate_by P Q implies (Some a) (Some x) same = (same.0, implies a.1 x.1 same.1)
+module _ {F : Type 0} (remaining : F → Option (List ℕ)) (gives : F → List ℕ → Result ℕ Error → List ℕ → F → Type 0)
+    (P Q : InputPath → Watched F → Type 0) (implies : (place : InputPath) (reader : Watched F) → P place reader → Q place reader) where
+  -- the certificate's file, if one is named
+  named_by : (named : Option (CertificateKind × InputPath)) (Holds : Given → Type 0) → ReadsNamedAt remaining gives P named Holds
+      → ReadsNamedAt remaining gives Q named Holds
+  named_by None Holds done = done
+  named_by (Some named) Holds done = (done.0, done.1, implies named.1 done.0 done.2, done.3)
 
-pub task_by : {F G : Type 0} (P Q : F → G → Type 0) → ((a : F) (x : G) → P a x → Q a x) → (old : FileTask F) (new : FileTask G) → IsMapped P old new → IsMapped Q old new
-task_by P Q implies (Show a) (Show x) same = implies a x same
-task_by P Q implies (Show a) (Convert x to) same = absurd same
-task_by P Q implies (Show a) (Check x y z claimed strict) same = absurd same
-task_by P Q implies (Show a) (Bound x z strict) same = absurd same
-task_by P Q implies (Convert a to) (Show x) same = absurd same
-task_by P Q implies (Convert a to) (Convert x kept) same = (implies a x same.0, same.1)
-task_by P Q implies (Convert a to) (Check x y z claimed strict) same = absurd same
-task_by P Q implies (Convert a to) (Bound x z strict) same = absurd same
-task_by P Q implies (Check a b c claimed strict) (Show x) same = absurd same
-task_by P Q implies (Check a b c claimed strict) (Convert x to) same = absurd same
-task_by P Q implies (Check a b c claimed strict) (Check x y z kept also) same = (implies a x same.0, implies b y same.1, certificate_by P Q implies c z same.2, same.3, same.4)
-task_by P Q implies (Check a b c claimed strict) (Bound x z kept) same = absurd same
-task_by P Q implies (Bound a c strict) (Show x) same = absurd same
-task_by P Q implies (Bound a c strict) (Convert x to) same = absurd same
-task_by P Q implies (Bound a c strict) (Check x y z claimed kept) same = absurd same
-task_by P Q implies (Bound a c strict) (Bound x z kept) same = (implies a x same.0, same.1, implies c.1 z.1 same.2, same.3)
-
-pub comparison_by : {F G : Type 0} (P Q : F → G → Type 0) → ((a : F) (x : G) → P a x → Q a x) → (old : Comparison F) (new : Comparison G)
-    → IsMappedComparison P old new → IsMappedComparison Q old new
-comparison_by P Q implies old new same = (implies old.instance new.instance same.0, certificate_by P Q implies old.certificate new.certificate same.1, same.2, same.3)
+  pub done_by : (task : FileTask InputPath) (sink : Sink) (outcome : Result Outcome RunFault)
+      → IsDone remaining gives P task sink outcome → IsDone remaining gives Q task sink outcome
+  done_by (Show file) sink outcome done = (done.0, done.1, implies file done.0 done.2, done.3)
+  done_by (Convert file to) sink outcome done = (done.0, done.1, implies file done.0 done.2, done.3)
+  done_by (Check instance solution certificate claimed strict) sink outcome done =
+      let second = done.4.2 in (
+        done.0,
+        done.1,
+        implies instance done.0 done.2,
+        done.3,
+        (
+          done.4.0,
+          done.4.1,
+          (
+            second.0,
+            second.1,
+            implies solution second.0 second.2,
+            second.3,
+            (second.4.0, second.4.1, named_by certificate _ second.4.2),
+          ),
+        ),
+      )
+  done_by (Bound instance certificate strict) sink outcome done =
+      let second = done.4.2 in (
+        done.0,
+        done.1,
+        implies instance done.0 done.2,
+        done.3,
+        (done.4.0, done.4.1, (second.0, second.1, implies certificate.1 second.0 second.2, second.3)),
+      )
 
 -- ---- the lines of standard error on solutions, one by one
 

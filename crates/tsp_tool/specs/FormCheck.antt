@@ -7,13 +7,13 @@ use Rattle.tsp_io.specs.states.Watched.{read_trace_of}
 use Rattle.tsp_file.specs.CanonicalText.{text_of}
 use Rattle.tsp_file.specs.Fields.{Fields}
 use Rattle.tsp_read.specs.Reads.{IsReadOn, most_taken}
-use Rattle.tsp_report.specs.Tasks.{IsMappedCertificate}
 use Rattle.tsp_report.specs.declared.task.CertificateKind.{CertificateKind}
 use Rattle.tsp_report.specs.declared.task.FileTask.{FileTask}
 use Rattle.tsp_report.specs.declared.task.FileTask.TheVariants.{Check}
 use Rattle.tsp_report.specs.declared.task.Task.TheVariants as tasks
 use Rattle.tsp_judge.specs.CheckRun.{TakesNamed, IsNamedReadOn, IsRunOf}
-use Rattle.tsp_judge.specs.TaskRun.{outcome_of_check}
+use Rattle.tsp_judge.specs.TaskRun.{IsNamedOpened, outcome_by}
+use Rattle.tsp_judge.specs.declared.task_run.Outcome.TheVariants as outcomes
 use Rattle.tsp_judge.specs.declared.Watched.{Watched}
 use Rattle.tsp_judge.specs.declared.check_run.Judged.{Judged}
 use Rattle.tsp_judge.specs.declared.run_status.RunFault.{RunFault}
@@ -113,7 +113,7 @@ IsTurnOn text read_trace = (read_trace.known ≡ Some text) × (read_trace.had_f
 abbrev pub ChecksTextsOf : {F : Type 0} → (F → Option (List ℕ)) → (F → List ℕ → Result ℕ Error → List ℕ → F → Type 0)
     → (InputPath → Watched F → Type 0) → FormCheck → List ℕ → List ℕ → Sink → Result Judged RunFault → Type 0
 ChecksTextsOf {F = F} remaining gives begins check instance written sink ended =
-    (old new : Option (CertificateKind × Watched F)) × IsMappedCertificate begins check.certificate old
+    (old new : Option (CertificateKind × Watched F)) × IsNamedOpened begins check.certificate old
     × ((first second : ReadTrace) × IsTurnOn instance first × IsTurnOn written second
     × TakesNamed remaining old new (λ given. IsRunOf given check.claimed check.strict first second sink ended))
     × IsNamedReadOn gives old new
@@ -123,5 +123,5 @@ abbrev pub IsCheckedByForm : {F : Type 0} → (F → Option (List ℕ)) → (F �
     → (InputPath → Watched F → Type 0) → FormCheck → Sink → Result Outcome RunFault → Type 0
 IsCheckedByForm remaining gives begins check sink outcome = (instance written : List ℕ)
     × AreTextsOf remaining gives begins check instance written
-    × ((ended : Result Judged RunFault) × (outcome ≡ outcome_of_check ended)
+    × ((ended : Result Judged RunFault) × (outcome ≡ outcome_by outcomes.Judged ended)
     × ChecksTextsOf remaining gives begins check instance written sink ended)

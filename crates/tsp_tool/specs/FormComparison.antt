@@ -7,7 +7,7 @@ use Rattle.clap.specs.Words.{Text}
 use Rattle.tsp_io.specs.Streams.{ReadTrace, Sink, IsUnwritten}
 use Rattle.tsp_format.specs.Limits.{most_file_bytes}
 use Rattle.tsp_text.specs.declared.fault.ReadFault.TheVariants as read_faults
-use Rattle.tsp_report.specs.Tasks.{IsMappedCertificate}
+use Rattle.tsp_judge.specs.TaskRun.{IsNamedOpened}
 use Rattle.tsp_report.specs.declared.task.CertificateKind.{CertificateKind}
 use Rattle.tsp_report.specs.declared.task.Comparison.{Comparison}
 use Rattle.tsp_report.specs.declared.task.Task.TheVariants as tasks
@@ -97,7 +97,7 @@ abbrev pub ComparesTextsOf : {F : Type 0} → (F → Option (List ℕ)) → (F �
     → Type 0
 ComparesTextsOf {F = F} remaining gives begins form comparison paths instance sink answer =
     (known : Option Hints) × IsKnownBy (form_hints form) instance known
-    × ((old new : Option (CertificateKind × Watched F)) × IsMappedCertificate begins comparison.certificate old
+    × ((old new : Option (CertificateKind × Watched F)) × IsNamedOpened begins comparison.certificate old
     × ((first : ReadTrace) × IsTurnOn instance first × TakesNamed remaining old new (λ given.
     IsCompareRun comparison.strict held_remaining (λ _ _ _ _ _. ⊤) (IsOpenedByForm remaining gives begins known paths) paths
     given first sink answer))

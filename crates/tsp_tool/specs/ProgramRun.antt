@@ -10,14 +10,14 @@ use Rattle.std.specs.declared.io.ErrorKind.TheVariants as io_kinds
 use Rattle.tsp_io.specs.Streams.{Sink, IsUnwritten}
 use Rattle.tsp_io.specs.declared.piece.WriteFault.{WriteFault}
 use Rattle.tsp_io.specs.states.Watched.{watched, has_failed}
-use Rattle.tsp_report.specs.Tasks.{IsMappedComparison, IsMapped}
 use Rattle.tsp_report.specs.declared.task.Comparison.{Comparison}
 use Rattle.tsp_report.specs.declared.task.FileTask.{FileTask}
 use Rattle.tsp_report.specs.declared.task.Task.{Task}
 use Rattle.tsp_report.specs.declared.task.Task.TheVariants as tasks
 use Rattle.tsp_solution.specs.declared.form.Form.{Form}
 use Rattle.tsp_solution.specs.declared.solution_writer.SolutionRunFault.{SolutionRunFault}
-use Rattle.tsp_judge.specs.TaskRun.{AreComparedOn, IsCompared, AreReadOn, IsDone}
+use Rattle.tsp_judge.specs.CompareRun.{IsCompareRun}
+use Rattle.tsp_judge.specs.TaskRun.{IsDone, ReadsAt, ReadsNamedAt}
 use Rattle.tsp_judge.specs.declared.Watched.{Watched}
 use Rattle.tsp_judge.specs.declared.compare_run.Compared.{Compared}
 use Rattle.tsp_judge.specs.declared.run_status.RunFault.{RunFault}
@@ -55,30 +55,16 @@ abbrev pub IsOpenedAt : {F : Type 0} → (InputPath → F → Type 0) → List T
 IsOpenedAt opens paths index (Ok file) = (place : InputPath) × IsInputPathAt (slice_index_or paths index []) place × opens place file
 IsOpenedAt opens paths index (Err refused) = ⊥
 
--- the readers of the instance and the certificate, each of its opened file
-abbrev pub AreOpened : {F : Type 0} → (InputPath → F → Type 0) → Comparison InputPath → Comparison (Watched F) → Type 0
-AreOpened opens = IsMappedComparison (IsFresh opens)
-
 -- The instance is opened, then the certificate, and then each solution just before it is read. Each reader has failed
 -- if its last read failed.
 abbrev pub IsComparedAs : {F : Type 0} → (F → Option (List ℕ)) → (F → List ℕ → Result ℕ Error → List ℕ → F → Type 0)
     → (InputPath → F → Type 0) → Comparison InputPath → Sink → Result Compared RunFault → Type 0
-IsComparedAs {F = F} remaining gives opens comparison sink answer = (old new : Comparison (Watched F))
-    × AreOpened opens comparison old
-    × IsCompared remaining gives (IsOpenedAt opens (paths_of comparison)) (paths_of comparison) old new sink answer
-    × AreComparedOn gives old new
+IsComparedAs remaining gives opens comparison sink answer = ReadsAt remaining gives (IsFresh opens) comparison.instance (λ first.
+    ReadsNamedAt remaining gives (IsFresh opens) comparison.certificate (λ given.
+    IsCompareRun comparison.strict remaining gives (IsOpenedAt opens (paths_of comparison)) (paths_of comparison)
+    given first sink answer))
 
 -- ---- a run of the program `tsp`, from the words of its command line to its exit status
-
--- the same task with readers in place of paths, each of its opened file
-abbrev pub AreFresh : {F : Type 0} → (InputPath → F → Type 0) → FileTask InputPath → FileTask (Watched F) → Type 0
-AreFresh opens = IsMapped (IsFresh opens)
-
--- the task is done on its opened files; each reader has failed if its last read has
-abbrev pub IsDoneAs : {F : Type 0} → (F → Option (List ℕ)) → (F → List ℕ → Result ℕ Error → List ℕ → F → Type 0)
-    → (InputPath → F → Type 0) → FileTask InputPath → Sink → Result Outcome RunFault → Type 0
-IsDoneAs {F = F} remaining gives opens task sink answer = (old new : FileTask (Watched F)) × AreFresh opens task old
-    × IsDone remaining old new sink answer × AreReadOn gives old new
 
 -- the job asks for no task, names a form that doesn't exist, or asks for no solution to rewrite
 abbrev pub GivesNone : Job → TaskFault → Type 0
@@ -91,7 +77,7 @@ abbrev pub EndsTask : {F : Type 0} → (F → Option (List ℕ)) → (F → List
     → (InputPath → F → Type 0) → Job → Sink → Result Outcome RunFault → Type 0
 EndsTask remaining gives opens job sink answer =
     ((task : FileTask InputPath) × GivesTask job (Ok (tasks.Files task)) × (asks_form job task ≡ false)
-    × IsDoneAs remaining gives opens task sink answer)
+    × IsDone remaining gives (IsFresh opens) task sink answer)
     ⊎ ((check : FormCheck) × GivesFormCheck job check × IsCheckedByForm remaining gives (IsFresh opens) check sink answer)
 
 -- there is no text that a check of a solution in some form could judge, and nothing is written

@@ -11,8 +11,7 @@ ghost use Rattle.tsp_report.specs.declared.task.FileTask.TheVariants as file_tas
 ghost use Rattle.tsp_report.specs.declared.task.Task.TheVariants as tasks;
 ghost use Rattle.tsp_judge.specs.TaskRun.{is_yes_outcome};
 ghost use Rattle.tsp_judge.specs.RunStatus.{status_of, status_of_fault};
-ghost use Rattle.tsp_io.specs.states.Watched.{watched};
-ghost use Rattle.tsp_judge.specs.declared.CertificateKind.{CertificateKind};
+ghost use Rattle.tsp_io.specs.states.Watched.{has_failed, watched};
 ghost use Rattle.tsp_judge.specs.declared.EndFault.TheVariants as end_faults;
 ghost use Rattle.tsp_judge.specs.declared.LineFault.TheVariants as line_faults;
 ghost use Rattle.tsp_judge.specs.declared.ReadFault.TheVariants as read_faults;
@@ -36,7 +35,7 @@ ghost use Rattle.clap.specs.declared.error.kind.ErrorKind.TheVariants as kinds;
 ghost use Rattle.tsp_tool.specs.FormCheck.{GivesFormCheck, asks_form, by_check_number, form_hints, task_of_check};
 ghost use Rattle.tsp_tool.specs.FormComparison.{GivesFormComparison, HoldsUnread, IsKnownBy, is_refusal};
 ghost use Rattle.tsp_tool.specs.Grammar.{word_of, tsp};
-ghost use Rattle.tsp_tool.specs.ProgramRun.{IsOpenedAt, paths_of, AreFresh, begins_with_help};
+ghost use Rattle.tsp_tool.specs.ProgramRun.{IsFresh, IsOpenedAt, paths_of, begins_with_help};
 ghost use Rattle.tsp_tool.specs.Examples.{IsWholeLine, found_value, all_values};
 ghost use Rattle.tsp_tool.specs.RunEnd.{version_text, status_of_run_end, line_text, ended, IsWritten, MayTell};
 ghost use Rattle.tsp_tool.specs.JobTasks.{GivesTask, IsFileTask, IsTask, IsInputPathAt};
@@ -315,27 +314,15 @@ pub fn examples_of_help()
     ensures nothing { begins_with_help [] ≡ false }
 {}
 
-/// Each file of a task is the one that is opened in its place.
+/// A file is the one that is opened at its place, and nothing is read before. The solutions of a
+/// comparison are opened at their own paths.
 pub fn examples_of_opened_files()
-    ensures check { (a b : InputPath) (claimed same : Option ℤ) (strict also : Bool) (x y : Watched InputPath)
-        → AreFresh (λ place file. file ≡ place) (file_tasks.Check a b None claimed strict) (file_tasks.Check x y None same also)
-        → (watched x ≡ a) × (watched y ≡ b) × (same ≡ claimed) × (also ≡ strict) }
-    ensures certified { (by kept : CertificateKind) (a b c : InputPath) (claimed same : Option ℤ) (strict also : Bool) (x y z : Watched InputPath)
-        → AreFresh (λ place file. file ≡ place) (file_tasks.Check a b (Some (by, c)) claimed strict)
-        (file_tasks.Check x y (Some (kept, z)) same also)
-        → (kept ≡ by) × (watched x ≡ a) × (watched y ≡ b) × (watched z ≡ c) × (same ≡ claimed) × (also ≡ strict) }
-    ensures bound { (by kept : CertificateKind) (a c : InputPath) (strict also : Bool) (x z : Watched InputPath)
-        → AreFresh (λ place file. file ≡ place) (file_tasks.Bound a (by, c) strict) (file_tasks.Bound x (kept, z) also)
-        → (kept ≡ by) × (watched x ≡ a) × (watched z ≡ c) × (also ≡ strict) }
-    ensures another_task { (by kept : CertificateKind) (a b c : InputPath) (claimed : Option ℤ) (strict also : Bool) (x z : Watched InputPath)
-        → ¬ AreFresh (λ place file. file ≡ place) (file_tasks.Check a b (Some (by, c)) claimed strict)
-        (file_tasks.Bound x (kept, z) also) }
+    ensures fresh { (place : InputPath) (reader : Watched InputPath) → IsFresh (λ place file. file ≡ place) place reader
+        → (watched reader ≡ place) × (has_failed reader ≡ false) }
     ensures first_solution { (file : InputPath) → IsOpenedAt (λ place file. file ≡ place) (codes "a" ∷ codes "b" ∷ []) 0 (Ok file)
         → (place : InputPath) × IsInputPathAt (codes "a") place × (file ≡ place) }
     ensures second_solution { (file : InputPath) → IsOpenedAt (λ place file. file ≡ place) (codes "a" ∷ codes "b" ∷ []) 1 (Ok file)
         → (place : InputPath) × IsInputPathAt (codes "b") place × (file ≡ place) }
     ensures each_solution { (comparison : Comparison InputPath)
         → length (paths_of comparison) ≡ length comparison.solutions.now }
-    ensures certificate_dropped { (by : CertificateKind) (a b c : InputPath) (claimed same : Option ℤ) (strict also : Bool) (x y : Watched InputPath)
-        → ¬ AreFresh (λ place file. file ≡ place) (file_tasks.Check a b (Some (by, c)) claimed strict) (file_tasks.Check x y None same also) }
 {}

@@ -16,7 +16,7 @@ use std::io::{self, Read, Write};
 use std::marker::PhantomData;
 use tsp_explain::{explain_file, push_lines};
 use tsp_judge::{
-    ComparisonContext, Follow, Found, RunFault, Solution, Solutions, Watched, explain_fault,
+    ComparisonContext, FileName, Follow, Found, RunFault, Solution, Solutions, Watched, explain_fault,
     explain_known_bound, explain_outcome, explain_solution,
 };
 use tsp_number::parse_whole;
@@ -120,11 +120,6 @@ pub(crate) struct TaskRun<'a, F, O> {
 }
 
 impl<'a, F: Read + Drop, O: Open<F>> TaskRun<'a, F, O> {
-    /// What the user calls the files.
-    pub(crate) fn names(&self) -> Task<'a, &'a str> {
-        self.task.map(|place| name_of(*place))
-    }
-
     /// Opens the file with this number once more, if it can be read twice.
     fn again(&self, number: u32) -> Option<F> {
         let (_, place) = self.task.file(number)?;
@@ -141,16 +136,13 @@ pub(crate) fn explanation<F: Read + Drop, O: Open<F>>(
     error: Option<&io::Error>,
 ) -> Vec<u8> {
     let alloc = task_run.alloc;
-    let names = task_run.names();
+    let task = task_run.task;
     let mut text = Vec::new(alloc);
     let _ = match run_end {
-        RunEnd::Ended(Ok(outcome)) => explain_outcome(alloc, &mut text, &names, outcome),
-        RunEnd::Compared(Ok(compared)) => explain_known_bound(
-            alloc,
-            &mut text,
-            &names,
-            &compared.common,
-        ),
+        RunEnd::Ended(Ok(outcome)) => explain_outcome(alloc, &mut text, task, outcome),
+        RunEnd::Compared(Ok(compared)) => {
+            explain_known_bound(alloc, &mut text, task, &compared.common)
+        }
         RunEnd::Ended(Err(run_error)) | RunEnd::Compared(Err(run_error)) => {
             let fault = run_error.fault();
             let again = match fault {
@@ -158,7 +150,7 @@ pub(crate) fn explanation<F: Read + Drop, O: Open<F>>(
                 RunFault::WrongKind => task_run.again(1),
                 RunFault::Write(_) | RunFault::OutOfMemory | RunFault::Relayout(_) => None,
             };
-            explain_fault(alloc, &mut text, &names, again, error, fault)
+            explain_fault(alloc, &mut text, task, again, error, fault)
         }
         RunEnd::Solved(Err(fault)) => push_untried(task_run, &mut text, *fault),
         RunEnd::NoJob(_) | RunEnd::Printed(_) | RunEnd::NoTask(_) | RunEnd::Solved(Ok(())) => {
@@ -179,10 +171,9 @@ fn push_untried<F: Read + Drop, O: Open<F>>(
             file,
             fault: SolutionFault::File(fault),
         } => {
-            let names = task_run.names();
             let again = task_run.again(file);
             let fault = RunFault::File { file, fault };
-            explain_fault(task_run.alloc, text, &names, again, None, fault)
+            explain_fault(task_run.alloc, text, task_run.task, again, None, fault)
         }
         SolutionRunFault::File {
             file: _,
@@ -197,6 +188,12 @@ fn push_untried<F: Read + Drop, O: Open<F>>(
             fault: SolutionFault::OutOfMemory,
         }
         | SolutionRunFault::Write(_) => Ok(()),
+    }
+}
+
+impl FileName for InputPath<'_> {
+    fn name(&self) -> &str {
+        name_of(*self)
     }
 }
 
@@ -307,7 +304,7 @@ impl<F: Read + Drop, O: Open<F>> Followed<'_, F, O> {
                     file: solution,
                     verdict: *verdict,
                 };
-                explain_solution(alloc, text, &self.task_run.names(), common, solution)
+                explain_solution(alloc, text, self.task_run.task, common, solution)
             }
             Found::Fault(fault) => {
                 if let Some(form_fault) = self.form_fault(place) {

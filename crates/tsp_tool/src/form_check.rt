@@ -4,7 +4,7 @@
 ghost use Rattle.std.specs.Prelude.{◌≡◌, MatchOption, MatchResult, Some, false};
 ghost use Rattle.tsp_io.specs.Streams.{TakesAtMost};
 ghost use Rattle.tsp_io.specs.states.Output.{sink_of};
-ghost use Rattle.tsp_report.specs.Tasks.{IsMappedCertificate};
+ghost use Rattle.tsp_judge.specs.TaskRun.{IsNamedOpened};
 ghost use Rattle.tsp_solution.specs.SolutionText.{IsFaultOfText};
 ghost use Rattle.tsp_tool.specs.FormCheck.{AreTextsOf, ChecksTextsOf, GivesWhole, IsFormCheck, IsWrittenFor, LacksBytes, LacksTexts, asks_form, form_hints, by_check_number};
 ghost use Rattle.tsp_tool.specs.ProgramRun.{IsFresh};
@@ -193,7 +193,7 @@ pub(crate) fn opened_certificate<F: Gives + Drop, O: Open<F>>(
     certificate: Option<(CertificateKind, InputPath<'_>)>,
     files: &O,
 ) -> Option<(CertificateKind, Watched<F>)>
-    ensures { IsMappedCertificate (IsFresh (O.opens files.now)) certificate.entry result }
+    ensures { IsNamedOpened (IsFresh (O.opens files.now)) certificate.entry result }
 {
     match certificate {
         Some((by, place)) => Some((by, fresh(place, files))),

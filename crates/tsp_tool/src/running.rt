@@ -7,15 +7,17 @@ ghost use Rattle.std.specs.IoError.{error_kind};
 ghost use Rattle.std.specs.Prelude.{◌≡◌, ◌≢◌, ◌||◌, Err, IfOk, OnOk, Some, drop, map, ◌≤◌, ◌<◌, true, false, length};
 ghost use Rattle.std.specs.String.{string_bytes};
 ghost use Rattle.tsp_io.specs.states.Output.{FailsByWrite, sink_of};
-ghost use Rattle.tsp_judge.specs.TaskRun.{outcome_of_check};
-ghost use Rattle.tsp_tool.specs.ProgramRun.{EndsFormCheck, EndsFormComparison, IsComparedAs, AreOpened, IsFresh, EndsProgram, EndsRefused, EndsWith, HasNoWords, IsDoneAs, Runs, RunsComparison, RunsJob, RunsFileTask, begins_with_help, AreFresh};
+ghost use Rattle.tsp_judge.specs.TaskRun.{IsDone};
+ghost use Rattle.tsp_tool.specs.ProgramRun.{EndsFormCheck, EndsFormComparison, IsComparedAs, IsFresh, EndsProgram, EndsRefused, EndsWith, HasNoWords, Runs, RunsComparison, RunsJob, RunsFileTask, begins_with_help};
 ghost use Rattle.tsp_tool.specs.declared.job.Verb.TheVariants as verbs;
 ghost use Rattle.tsp_tool.specs.RunEnd.{Prints, PrintsSome, version_text, status_of_run_end, status_of_solved, Tells, TellsAfter, TellsAll, waiting_line};
 ghost use Rattle.tsp_tool.specs.declared.ends.RunEnd.TheVariants.{Solved};
 
 use crate::ends::{RunEnd, status_of_run_end, tell};
 use crate::explained::{Followed, TaskRun, end_count, explanation, fault_explanation, length_tip};
-use crate::form_check::{CheckedTexts, FormCheck, check_texts, form_check_of, text_at, texts_of};
+use crate::form_check::{
+    CheckedTexts, FormCheck, check_texts, form_check_of, opened_certificate, text_at, texts_of,
+};
 use crate::form_comparison::compare_by_form;
 use crate::grammar::VERSION;
 use crate::input::Open;
@@ -28,7 +30,7 @@ use std::fmt::{self, Display, Formatter};
 use std::io::{self, Read, Write};
 use std::marker::PhantomData;
 use tsp_io::{Gives, Output, Takes, write_text};
-use tsp_judge::{Judged, Outcome, RunError, Watched, WriteFault, compare, perform};
+use tsp_judge::{Outcome, Watched, WriteFault, perform, run_compare};
 use tsp_report::{Comparison, FileTask, Task};
 use tsp_solution::{Form, SolutionRunFault};
 
@@ -260,11 +262,12 @@ fn run_file_task<F: Gives + Drop, O: Open<F>, W: Takes, E: Write>(
     out: &mut Output<W>,
     errors: &mut E,
 ) -> (u8, io::Result<()>)
-    ensures { RunsFileTask (IsDoneAs F.remaining F.gives (O.opens task_run.now.files.now) task.now (sink_of W.contents out.old out.new))
+    ensures { RunsFileTask (IsDone F.remaining F.gives (IsFresh (O.opens task_run.now.files.now)) task.now (sink_of W.contents out.old out.new))
         task_run.now.explain (E.contents errors.old) (E.contents errors.new) result }
 {
-    let mut readers = opened(task, task_run.files);
-    let run_end = RunEnd::Ended(perform(task_run.alloc, &mut readers, out));
+    let files = task_run.files;
+    let ended = perform(task_run.alloc, task, |place| fresh(*place, files), out);
+    let run_end = RunEnd::Ended(ended);
     let reported = tell_end(task_run, &run_end, out.error(), errors);
     (status_of_run_end(&run_end), reported)
 }
@@ -288,16 +291,9 @@ fn run_form_check<F: Gives + Drop, O: Open<F>, W: Takes, E: Write>(
     let judged = check_texts(alloc, check, &instance, &written, task_run.files, out);
     drop(instance);
     drop(written);
-    let run_end = RunEnd::Ended(outcome_of(judged));
+    let run_end = RunEnd::Ended(judged.map(Outcome::Judged));
     let reported = tell_end(task_run, &run_end, out.error(), errors);
     (status_of_run_end(&run_end), reported)
-}
-
-/// The outcome of a check.
-fn outcome_of(judged: Result<Judged, RunError>) -> Result<Outcome, RunError>
-    ensures { result ≡ outcome_of_check judged }
-{
-    Ok(Outcome::Judged(judged?))
 }
 
 /// Compares solutions, and reports how that ended. Opens the instance and the certificate, if one
@@ -311,14 +307,24 @@ fn run_comparison<F: Gives + Drop, O: Open<F>, W: Takes, E: Write>(
     ensures { RunsComparison (IsComparedAs F.remaining F.gives (O.opens task_run.now.files.now) comparison.now
         (sink_of W.contents out.old out.new)) task_run.now.explain (E.contents errors.old) (E.contents errors.new) result }
 {
-    let mut readers = opened_to_compare(comparison, task_run.files);
+    let files = task_run.files;
+    let mut instance = fresh(comparison.instance, files);
+    let mut certificate = opened_certificate(comparison.certificate, files);
     let solutions = comparison.solutions;
     let followed = Followed {
         task_run,
         solutions,
         known: None,
     };
-    let found = compare(task_run.alloc, &mut readers, &followed, out, errors);
+    let found = run_compare(
+        task_run.alloc,
+        &mut instance,
+        &mut certificate,
+        &followed,
+        comparison.strict,
+        out,
+        errors,
+    );
     let run_end = RunEnd::Compared(found);
     end_count(task_run, errors);
     let reported = tell_end(task_run, &run_end, out.error(), errors);
@@ -412,28 +418,6 @@ fn texts<'a>(alloc: Global, words: &'a [String]) -> Result<Vec<&'a str>, AllocEr
         texts.push(word.as_str())?;
     }
     Ok(texts)
-}
-
-// ---- a task or a comparison with its files opened
-
-/// The task with its files opened, and nothing read yet.
-fn opened<F: Read + Drop, O: Open<F>>(
-    task: &FileTask<InputPath<'_>>,
-    files: &O,
-) -> FileTask<Watched<F>>
-    ensures { AreFresh (O.opens files.now) task.now result }
-{
-    task.map(|place| fresh(*place, files))
-}
-
-/// The comparison with the instance and the certificate opened, and nothing read yet.
-fn opened_to_compare<'a, F: Read + Drop, O: Open<F>>(
-    comparison: &Comparison<'a, InputPath<'_>>,
-    files: &O,
-) -> Comparison<'a, Watched<F>>
-    ensures { AreOpened (O.opens files.now) comparison.now result }
-{
-    comparison.map(|place| fresh(*place, files))
 }
 
 /// The file at a place, opened, and nothing read yet.
