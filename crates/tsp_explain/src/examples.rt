@@ -1,8 +1,9 @@
 //! Laws that state values of the definitions in `specs/`, worked out by hand: how bytes and names
-//! of files are shown. No code calls them. If someone makes the same mistake in a definition and in
+//! of files are shown, and which comments are on an optimal solution. No code calls them. If someone makes the same mistake in a definition and in
 //! the code, every contract still holds, but one of these laws fails.
 
-ghost use Rattle.std.specs.Prelude.{◌≡◌, [], ◌∷◌, codes};
+ghost use Rattle.std.specs.Prelude.{◌≡◌, [], ◌∷◌, codes, true, false};
+ghost use Rattle.tsp_explain.specs.CommentClaims.{is_on_optimum};
 ghost use Rattle.tsp_explain.specs.ShownBytes.{shown_byte, all_shown, name_shown};
 
 /// How bytes of each sort are shown.
@@ -35,4 +36,16 @@ pub fn examples_of_shown_names()
     ensures escape { name_shown (27 ∷ codes "[2J") ≡ codes "^[[2J" }
     ensures delete { name_shown (127 ∷ []) ≡ codes "^?" }
     ensures letter { name_shown (195 ∷ 164 ∷ []) ≡ 195 ∷ 164 ∷ [] }
+{}
+
+/// Comments of TSPLIB's files of optimal tours, and comments of others that end with a year.
+pub fn examples_of_comments()
+    ensures solution { is_on_optimum (codes "Optimal solution of bayg29 (1610)") ≡ true }
+    ensures tour { is_on_optimum (codes "Optimum tour for ch130 (6110)") ≡ true }
+    ensures small { is_on_optimum (codes "optimal tour (16)") ≡ true }
+    ensures small_optimum { is_on_optimum (codes "optimum (16)") ≡ true }
+    ensures author { is_on_optimum (codes "Smith (2024)") ≡ false }
+    ensures later_word { is_on_optimum (codes "Near Optimal (2024)") ≡ false }
+    ensures longer_word { is_on_optimum (codes "Optimality by Smith (2024)") ≡ false }
+    ensures nothing { is_on_optimum [] ≡ false }
 {}

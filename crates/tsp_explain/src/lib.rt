@@ -26,7 +26,7 @@ mod text;
 mod verdict_reasons;
 mod wanted;
 
-pub use examples::{examples_of_shown_bytes, examples_of_shown_names};
+pub use examples::{examples_of_comments, examples_of_shown_bytes, examples_of_shown_names};
 pub use file_fault::{explain_file, push_error};
 pub use sentences::{relayout_sentence, write_sentence};
 pub use text::{explain_lines, push_lines};

@@ -3,7 +3,8 @@
 //! the words freely.
 
 ghost use Rattle.std.specs.Io.{StartsWith};
-ghost use Rattle.std.specs.Prelude.{◌≡◌};
+ghost use Rattle.std.specs.Prelude.{◌≡◌, is_some, true};
+ghost use Rattle.tsp_explain.specs.CommentClaims.{is_on_optimum};
 
 use crate::look::{Sought, look_for};
 use crate::refusal::{explain_reason, push_details};
@@ -333,8 +334,8 @@ enum CommentClaim<'a> {
 }
 
 /// Appends one sentence if a comment of a solution claims another length than its own: the first
-/// comment that ends in `Length = N`, `(N)` or `Cost N` with another number. `name` is what the
-/// user calls the solution.
+/// comment that ends in `Length = N`, `Cost N` or, after `Optimal` or `Optimum`, in `(N)`, with
+/// another number. `name` is what the user calls the solution.
 ///
 /// # Errors
 ///
@@ -408,12 +409,7 @@ fn other_claim(comments: &[Vec<u8>], length: i64) -> Option<CommentClaim<'_>> {
 fn claim_in(comment: &[u8]) -> Option<CommentClaim<'_>> {
     let text = comment.trim_ascii_end();
     if let Some(inner) = text.strip_suffix(b")") {
-        let (before, number) = split_number(inner);
-        return if before.ends_with(b"(") {
-            length_claimed(number)
-        } else {
-            None
-        };
+        return claim_in_brackets(comment, inner);
     }
     let (before, number) = split_number(text);
     let before = before.trim_ascii_end();
@@ -430,6 +426,30 @@ fn claim_in(comment: &[u8]) -> Option<CommentClaim<'_>> {
     } else {
         None
     }
+}
+
+/// The length that a comment claims in brackets at its end. `inner` comes before the closing one.
+/// Only comments on an optimal solution claim a length so: `Smith (2024)` ends with a year.
+fn claim_in_brackets<'a>(comment: &[u8], inner: &'a [u8]) -> Option<CommentClaim<'a>>
+    ensures { is_some result ≡ true → is_on_optimum comment.now ≡ true }
+{
+    if !is_on_optimum(comment) {
+        return None;
+    }
+    match split_number(inner) {
+        (before, number) if before.ends_with(b"(") => length_claimed(number),
+        _ => None,
+    }
+}
+
+/// Whether a comment is on an optimal solution, by its first word.
+fn is_on_optimum(comment: &[u8]) -> bool
+    ensures { result ≡ is_on_optimum comment.now }
+{
+    comment.starts_with(b"Optimal ")
+        || comment.starts_with(b"Optimum ")
+        || comment.starts_with(b"optimal ")
+        || comment.starts_with(b"optimum ")
 }
 
 /// What comes before the number at the end of a text, and the number.
