@@ -5,7 +5,7 @@
 
 ghost use Rattle.std.specs.Fmt.{signed_decimal};
 ghost use Rattle.std.specs.List.{All};
-ghost use Rattle.std.specs.Prelude.{◌≡◌, ◌++◌, None, Some, Ok, Err, pos, negsuc, codes, ℕ, List, [], ◌∷◌, decimal, ◌+◌, Bool, true, false, ℤ, Option, map};
+ghost use Rattle.std.specs.Prelude.{◌≡◌, ◌++◌, None, Some, Ok, Err, pos, negsuc, codes, ℕ, List, [], ◌∷◌, decimal, Bool, ℤ, Option, map};
 ghost use Rattle.tsp_number.specs.declared.number_word.NumberFault.TheVariants as number_faults;
 ghost use Rattle.tsp_format.specs.Steps.{Branch, Leaf};
 ghost use Rattle.tsp_format.specs.declared.keyword.Field.TheVariants as fields;
@@ -13,13 +13,12 @@ ghost use Rattle.tsp_format.specs.declared.kinds.Kind.TheVariants as kinds;
 ghost use Rattle.tsp_format.specs.declared.kinds.WeightFormat.TheVariants as formats;
 ghost use Rattle.tsp_format.specs.declared.kinds.WeightKind.TheVariants as weight_kinds;
 ghost use Rattle.tsp_format.specs.declared.layout.Layout.{Layout};
-ghost use Rattle.tsp_format.specs.declared.layout.Layout.TheVariants as layouts;
 ghost use Rattle.tsp_file.specs.declared.rules.EndFault.TheVariants as ends;
 ghost use Rattle.tsp_text.specs.declared.fault.LineFault.TheVariants as line_faults;
 ghost use Rattle.tsp_text.specs.declared.fault.ReadFault.TheVariants as read_faults;
 ghost use Rattle.tsp_report.specs.Report.{head_of, solution_line, not_judged, type_line, nodes_line, gap_lines, bound_lines, reason_text, verdict_lines, bound_found_lines, report_of, bound_report_of};
 ghost use Rattle.tsp_report.specs.Examples.{matrix, shown_routes, shown_tours, shown_potentials, shown_tree, untyped, each_reason};
-ghost use Rattle.tsp_report.specs.Tasks.{files_of, files_of_task, numbered, IsMapped, IsMappedTask};
+ghost use Rattle.tsp_report.specs.Tasks.{files_of, files_of_task, numbered};
 ghost use Rattle.tsp_report.specs.Verdicts.{rank_of, row_of_reason, role_of, number_of_reason};
 ghost use Rattle.tsp_report.specs.Show.{name_line, weights_line, canonical_line, fixed_line, all_tour_lines, scale_line, load_unit_line, families_line, memory_line, rows_line, leaves_line, shown};
 ghost use Rattle.tsp_report.specs.declared.task.CertificateKind.{CertificateKind};
@@ -220,35 +219,6 @@ pub fn examples_of_files()
     ensures compared { (c : Comparison ℕ) → c.certificate ≡ Some (certificates.Potentials, 9)
         → numbered 2 (files_of_task (tasks.Compare c)) ≡ Some (Some roles.Potentials, 9) }
     ensures from_one { (task : FileTask ℕ) → numbered 0 (files_of task) ≡ None }
-{}
-
-/// Mapping the files of a task keeps their places and changes nothing else. Here, each file is
-/// mapped to the next number.
-pub fn examples_of_mapped_tasks()
-    ensures shown { IsMappedTask (λ a x. x ≡ a + 1) (tasks.Files (file_tasks.Show 1)) (tasks.Files (file_tasks.Show 2)) }
-    ensures converted { IsMapped (λ a x. x ≡ a + 1) (file_tasks.Convert 1 (Some layouts.UpperRow))
-        (file_tasks.Convert 2 (Some layouts.UpperRow)) }
-    ensures other_layout { ¬ IsMapped (λ a x. x ≡ a + 1) (file_tasks.Convert 1 (Some layouts.UpperRow)) (file_tasks.Convert 2 None) }
-    ensures checked { IsMapped (λ a x. x ≡ a + 1) (file_tasks.Check 1 2 (Some (certificates.Branches, 3)) (Some (pos 14)) true)
-        (file_tasks.Check 2 3 (Some (certificates.Branches, 4)) (Some (pos 14)) true) }
-    ensures exchanged { ¬ IsMapped (λ a x. x ≡ a + 1) (file_tasks.Check 1 2 None None true) (file_tasks.Check 3 2 None None true) }
-    ensures unclaimed { ¬ IsMapped (λ a x. x ≡ a + 1) (file_tasks.Check 1 2 None (Some (pos 14)) true) (file_tasks.Check 2 3 None None true) }
-    ensures dropped { ¬ IsMapped (λ a x. x ≡ a + 1) (file_tasks.Check 1 2 (Some (certificates.Branches, 3)) None true)
-        (file_tasks.Check 2 3 None None true) }
-    ensures other_kind { ¬ IsMapped (λ a x. x ≡ a + 1) (file_tasks.Bound 1 (certificates.Branches, 2) true)
-        (file_tasks.Bound 2 (certificates.Potentials, 3) true) }
-    ensures not_strict { ¬ IsMapped (λ a x. x ≡ a + 1) (file_tasks.Check 1 2 None None true) (file_tasks.Check 2 3 None None false) }
-    ensures not_strict_bound { ¬ IsMapped (λ a x. x ≡ a + 1) (file_tasks.Bound 1 (certificates.Branches, 2) true)
-        (file_tasks.Bound 2 (certificates.Branches, 3) false) }
-    ensures strictly_compared { (c d : Comparison ℕ) → c.strict ≡ true
-        → IsMappedTask (λ a x. x ≡ a + 1) (tasks.Compare c) (tasks.Compare d) → d.strict ≡ true }
-    ensures compared { (c d : Comparison ℕ) → c.instance ≡ 1
-        → IsMappedTask (λ a x. x ≡ a + 1) (tasks.Compare c) (tasks.Compare d) → d.instance ≡ 2 }
-    ensures compared_by { (c d : Comparison ℕ) → c.certificate ≡ Some (certificates.Branches, 3)
-        → IsMappedTask (λ a x. x ≡ a + 1) (tasks.Compare c) (tasks.Compare d)
-        → d.certificate ≡ Some (certificates.Branches, 4) }
-    ensures other_task { (c : Comparison ℕ) (task : FileTask ℕ)
-        → ¬ IsMappedTask (λ a x. x ≡ a + 1) (tasks.Files task) (tasks.Compare c) }
 {}
 
 /// The names and the order of the reasons.

@@ -6,7 +6,6 @@
 //!
 //! ```text
 //! let task = FileTask::Show { file: path };
-//! let mut opened = task.map(|path| open(path));
 //! let (given, file) = task.file(1)?;
 //! let rejected = Verdict::No(Reason::TourCount);
 //! write_report(instance.file(), verdict, &mut out)?;
@@ -23,8 +22,8 @@ mod verdict;
 pub use compared::{write_head, write_line};
 pub use examples::{
     examples_of_bound_reports, examples_of_files, examples_of_heads, examples_of_lines,
-    examples_of_mapped_tasks, examples_of_reasons, examples_of_reports, examples_of_shown_files,
-    examples_of_shown_lines, examples_of_whole_reports,
+    examples_of_reasons, examples_of_reports, examples_of_shown_files, examples_of_shown_lines,
+    examples_of_whole_reports,
 };
 pub use report::{write_bound, write_report};
 pub use shown::write_shown;

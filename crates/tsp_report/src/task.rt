@@ -1,16 +1,15 @@
-//! A task: a verb with its options and files. Each file is a place, then a reader or a name,
-//! because tsp_tool opens the files of a task before tsp_judge runs it. Verdicts and explanations
-//! name a file by the roles and certificates defined here.
+//! A task: a verb with its options and files, each known by its place. tsp_judge runs a task, and is
+//! told how to open a file. Verdicts and explanations name a file by the roles and certificates
+//! defined here.
 
-ghost use Rattle.std.specs.Fn.{FnReturnsAt};
 ghost use Rattle.std.specs.Prelude.{◌≡◌, option_map};
-ghost use Rattle.tsp_report.specs.Tasks.{files_of, files_compared, files_of_task, numbered, IsMapped, IsMappedCertificate, IsMappedComparison, IsMappedTask, role_by};
+ghost use Rattle.tsp_report.specs.Tasks.{files_of, files_compared, files_of_task, numbered, role_by};
 ghost use Rattle.tsp_report.specs.Verdicts.{role_of};
 
 use crate::verdict::{Reason, row_of_reason};
 use tsp_format::Layout;
 
-/// A task. `F` stands for a file: its place, a reader, its text, or the user's name for it.
+/// A task. `F` stands for a file: its place, or its text with the user's name for it.
 #[derive(Drop)]
 pub enum Task<'a, F> {
     /// A task on files that are all known when it begins.
@@ -78,17 +77,6 @@ impl<'a, F> Task<'a, F> {
             Task::Compare(comparison) => comparison.file(number),
         }
     }
-
-    /// The same task, with each file replaced by what `map` makes of it.
-    pub fn map<G, M: Fn(&F) -> G>(&self, map: M) -> Task<'a, G>
-        requires { M.IsAlwaysCallable map }
-        ensures { IsMappedTask (FnReturnsAt M.Fn map) self.now result }
-    {
-        match self {
-            Task::Files(task) => Task::Files(task.map(map)),
-            Task::Compare(comparison) => Task::Compare(comparison.map(map)),
-        }
-    }
 }
 
 impl<F> FileTask<F> {
@@ -122,44 +110,6 @@ impl<F> FileTask<F> {
             _ => None,
         }
     }
-
-    /// The same task, with each file replaced by what `map` makes of it.
-    pub fn map<G, M: Fn(&F) -> G>(&self, map: M) -> FileTask<G>
-        requires { M.IsAlwaysCallable map }
-        ensures { IsMapped (FnReturnsAt M.Fn map) self.now result }
-    {
-        match self {
-            FileTask::Show { file } => FileTask::Show {
-                file: applied(&map, file),
-            },
-            FileTask::Convert { file, layout } => FileTask::Convert {
-                file: applied(&map, file),
-                layout: *layout,
-            },
-            FileTask::Check {
-                instance,
-                solution,
-                certificate,
-                claimed,
-                strict,
-            } => FileTask::Check {
-                instance: applied(&map, instance),
-                solution: applied(&map, solution),
-                certificate: mapped(certificate, map),
-                claimed: *claimed,
-                strict: *strict,
-            },
-            FileTask::Bound {
-                instance,
-                certificate: (by, file),
-                strict,
-            } => FileTask::Bound {
-                instance: applied(&map, instance),
-                certificate: (*by, applied(&map, file)),
-                strict: *strict,
-            },
-        }
-    }
 }
 
 impl<'a, F> Comparison<'a, F> {
@@ -175,41 +125,6 @@ impl<'a, F> Comparison<'a, F> {
             _ => None,
         }
     }
-
-    /// The same comparison, with each file replaced by what `map` makes of it.
-    pub fn map<G, M: Fn(&F) -> G>(&self, map: M) -> Comparison<'a, G>
-        requires { M.IsAlwaysCallable map }
-        ensures { IsMappedComparison (FnReturnsAt M.Fn map) self.now result }
-    {
-        Comparison {
-            instance: applied(&map, &self.instance),
-            certificate: mapped(&self.certificate, map),
-            solutions: self.solutions,
-            strict: self.strict,
-        }
-    }
-}
-
-/// The same certificate, with its file replaced by what `map` makes of it.
-fn mapped<F, G, M: Fn(&F) -> G>(
-    certificate: &Option<(CertificateKind, F)>,
-    map: M,
-) -> Option<(CertificateKind, G)>
-    requires { M.IsAlwaysCallable map }
-    ensures { IsMappedCertificate (FnReturnsAt M.Fn map) certificate.now result }
-{
-    match certificate {
-        Some((by, file)) => Some((*by, applied(&map, file))),
-        None => None,
-    }
-}
-
-/// What `map` makes of a file.
-fn applied<F, G, M: Fn(&F) -> G>(map: &M, file: &F) -> G
-    requires { M.IsAlwaysCallable map.now }
-    ensures { FnReturnsAt M.Fn map.now file.now result }
-{
-    map(file)
 }
 
 // ---- the kinds of certificates of a bound
