@@ -42,9 +42,11 @@ def table_of_walks(all_walks: Iterable[Walk]) -> list[str]:
 
 
 def list_of_walks(all_walks: Iterable[Walk]) -> list[str]:
-    """How many files of how many crates each walk has."""
-    rows = [f"- `{walk.name}`: {walk.figures()[1]} and {walk.figures()[2]}" for walk in all_walks]
-    return ["Each walk passes through this many files and crates:", "", *rows]
+    """Which walks there are, and how many files and crates they pass through."""
+    walks = list(all_walks)
+    files, crates = (sorted(walk.figures()[place] for walk in walks) for place in (1, 2))
+    names = [f"`{walk.name}`" for walk in walks]
+    return [f"The walks {', '.join(names[:-1])} and {names[-1]} pass through {files[0]} to {files[-1]} files of {crates[0]} to {crates[-1]} crates."]
 
 
 def list_of_crates(crates: dict[str, Crate]) -> list[str]:
