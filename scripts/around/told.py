@@ -118,9 +118,17 @@ class Told:
             names = [clause.name or "a clause without a name" for it in every for clause in it.clauses if clause.kind == "ensures"]
             what = {"Answers": "the goals", "Invariants": "the loops"}.get(self.path.stem, "the proof")
             summary = next((it.summary for it in every if it.summary), "")
-            return [f"{what} of {self.function(function)}: {summary}", self.row("its contract ensures", names)]
+            of_type = self.type_says(function) if function.trait and summary != function.summary else ""
+            return [f"{what} of {self.function(function)}: {summary}{of_type}", self.row("its contract ensures", names)]
         head = code_at(self.path).head if self.path.suffix == ".rt" else definitions_at(self.path).head
         return [sentence(head)] if head else []
+
+    def type_says(self, function: Function) -> str:
+        """The first sentence of the type that implements a trait's method, which says what this one is for."""
+        text = code_at(function.path).text
+        found = re.search(rf"((?:^ *///.*\n)+)(?:^ *#.*\n)*^ *(?:pub(?:\([a-z]+\))? )?(?:struct|enum) {function.owner}\b", text, re.M)
+        words = re.sub(r"^ *///", "", found[1], flags=re.M).split() if found else []
+        return f". {function.owner}: {sentence(' '.join(words))}" if words else ""
 
     def function(self, function: Function) -> str:
         """A function with its file, and with its crate if that is another."""
@@ -239,7 +247,7 @@ class Told:
         for name, paths in self.by_crate(importers).items():
             named = [str(path) for path in paths if not is_proof(path)]
             named.sort(key=lambda path: ("src", "specs", "proofs").index(path.partition("/")[0]))
-            proofs = sorted({path.parent.name for path in paths if is_proof(path)})
+            proofs = sorted({"/".join(path.parent.parts[1:]) for path in paths if is_proof(path)})
             parts = [*([few(named, self.names)] if named else []), *([f"proofs of {few(proofs, self.names)}"] if proofs else [])]
             rows.append(f"{name}: {'; '.join(parts)}")
         return rows
@@ -348,6 +356,10 @@ class Told:
         free = [it.shown for it in functions if not it.clauses and not it.trait]
         facts = len(re.findall(r"^ *(?:pub )?ghost \w+:", self.path.read_text(), re.M))
         more = f"; facts that its types state: {facts}" if facts else ""
+        if not functions:
+            items = ITEM.findall(self.path.read_text())
+            return [f"it declares {few(items, self.names)}, and no function: whoever uses these, and definitions that name them, rely on "
+                    f"their names, types and values{more}"]
         if len(free) == len(functions):
             return [self.kind.rule, f"none of its {len(functions)} functions has a contract: the prover only sees that they can't fail{more}"]
         told = f"all of its {len(functions)} functions have a contract" if not free else \

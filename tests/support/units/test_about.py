@@ -75,7 +75,19 @@ class Planted(unittest.TestCase):
         self.assertIn("the goals of squared (shape): The square of a number", told)
         self.assertIn("callers of squared: Circle::area (shape)", told)
         self.assertIn("cd crates/low && rt check --only shape::squared, then rt check", told)
-        self.assertIn("low: proofs of squared", self.lines("low/proofs/Sums.antt"))
+        self.assertIn("low: proofs of shape/squared", self.lines("low/proofs/Sums.antt"))
+
+    def test_type_of_a_method(self) -> None:
+        area = next(it for it in self.users.crates["low"].functions if it.owner == "Circle" and it.trait == "Shape")
+        told = Told(self.users, self.root / "crates/low/src/shape.rt", has_all=True)
+        self.assertEqual(told.type_says(area), ". Circle: A circle of a size")
+
+    def test_file_without_functions(self) -> None:
+        path = self.root / "crates/low/src/limits.rt"
+        path.write_text("//! Limits.\n\n/// The most shapes.\npub const MOST: u64 = 3;\n")
+        told = Told(Users(crates(self.root)), path, has_all=True).rule()
+        self.assertEqual(told, ["it declares MOST, and no function: whoever uses these, and definitions that name them, rely on "
+                                "their names, types and values"])
 
     def test_edits_of_a_file(self) -> None:
         low = self.users.crates["low"]
